@@ -21,7 +21,7 @@ A_WAIT_GROUP, A_SEMAPHORE, A_NIL_CHANNEL, NO_CASES = (
     "a select without cases",
 )
 MUTEXES = (A_MUTEX, A_READ_LOCK, A_WRITE_LOCK)
-FOR_VALUE, FOR_ROOM = "value", "room"  # at a channel
+FOR_VALUE, FOR_ROOM = "value", "room"  # on a channel
 PUT, TOOK, CLOSED, ENDED = "put", "took", "closed", "ended"  # what goroutines do on a channel
 ADDED, DONE = "added", "done"  # what goroutines do on a WaitGroup
 

@@ -176,8 +176,7 @@ def gives(book: Book, notes: Notes, g: int, s: int, side: str = "") -> Look:
 
 
 def begins(name: str, has_failed: Callable[[Notes, int, int, int], bool]) -> Maker:
-    """Makes the function for a step that begins a call. If the socket was closed before, the call has failed at
-    once."""
+    """Makes the function for a step that begins a call. If the socket was closed before, the call fails at once."""
 
     def of(book: Book, notes: Notes, g: int, s: int) -> Look:
         goroutine, calls = notes.goroutine(g), book.open[g]

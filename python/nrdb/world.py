@@ -127,7 +127,8 @@ def room_for(recording: Recording, of: Of) -> int:
 
 
 def made_at(netrev: Netrev, of: Of, most: int) -> int:
-    """The number of goroutines, sockets or descriptors that exist at netrev's position; `most` if there are more."""
+    """The number of goroutines, sockets or descriptors that exist at netrev's position; `most` if more of them
+    exist."""
     count, size = 0, AT_FIRST
     while count < most:
         values = netrev.values([f"{COUNTED_BY[of]} {number}" for number in range(count, min(count + size, most))])

@@ -1,4 +1,4 @@
-"""The number of bytes that each Read asked for, which shows the Reads of one io.ReadFull."""
+"""The number of bytes that each Read asked for. These numbers show which Reads belong to one io.ReadFull."""
 
 from functools import lru_cache
 from typing import Optional

@@ -30,7 +30,8 @@ class Place(NamedTuple):
 
 
 class Form(NamedTuple):
-    """The function that takes and gives back, what it takes, and the lines at which it does so."""
+    """The function that takes and gives back, what it takes, the lines at which it takes, and the lines at which it
+    gives back."""
 
     function: str
     takes: str
@@ -89,7 +90,7 @@ def at_lines(often: Counter[Call]) -> str:
 
 
 def balances_of(recording: Recording, number: int, now: dict[Name, Stack]) -> list[Balance]:
-    """The balances at a channel, for each function that takes and gives back. `now` are the stacks of the goroutines
+    """The balances of a channel, for each function that takes and gives back. `now` are the stacks of the goroutines
     that wait."""
     lines = recording.lines
     uses = [use for use in lines.uses.get(number, ()) if use.what in (PUT, TOOK)]
@@ -138,7 +139,7 @@ def lines_of_form(recording: Recording, uses: list[Use], takes: str, function: s
 
 
 def takes_of(recording: Recording, uses: list[Use]) -> tuple[str, set[str]]:
-    """What goroutines take at a channel (PUT or TOOK), and the functions of the program that take it and later give it
+    """What goroutines take from a channel (PUT or TOOK), and the functions of the program that take it and later give it
     back. Functions that only call such a function are left out."""
     stacks, functions, outer = recording.lines.stacks, Counter[str](), set[str]()
     frames: dict[tuple[int, str], set[Frames]] = defaultdict(set)

@@ -1,5 +1,5 @@
-"""What held up the goroutine that a failed call waited for when the call failed, what held up the goroutine that this
-one waited for, and so on along the chain."""
+"""The chain of waits that led to a failed call, at the step at which the call failed: what held up the goroutine that
+the call waited for, what held up the goroutine that the first one waited for, and so on."""
 
 from ..one_call import Call
 from ..waits import Name
@@ -39,7 +39,7 @@ def is_elsewhere(index: Index, call: Call, waiter: Waiter, need: Need) -> bool:
 
 
 def is_still_so(index: Index, waiter: Waiter, position: int) -> bool:
-    """Whether nothing has happened since a step at the channels on which a goroutine waits, so that the same goroutines
+    """Whether nothing has happened since a step on the channels on which a goroutine waits, so that the same goroutines
     are still needed."""
     lines, objects = index.recording.lines, waiter.wait.objects if waiter.wait else ()
     return not any(

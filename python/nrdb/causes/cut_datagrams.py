@@ -59,7 +59,7 @@ def cut_datagrams(index: Index) -> tuple[CutDatagram, ...]:
 
 
 def cut_at(index: Index, socket: int) -> Iterator[CutDatagram]:
-    """The datagrams that were longer than the buffers of the Reads at a socket."""
+    """The datagrams that were longer than the buffers of the Reads on a socket."""
     asked = asked_of(index.recording)
     reads = [one for one in index.by_socket[socket] if one.name == "Read" and one.moved and one.last]
     sent = sent_to(index, socket) if reads and is_datagram(index, socket) else []
@@ -123,7 +123,7 @@ def writes_of(index: Index, read: Call) -> set[Stack]:
 
 
 def last_cut(index: Index, call: Call) -> list[str]:
-    """A sentence about the last datagram that was read at a socket before a call, if that datagram was cut."""
+    """A sentence about the last datagram that was read on a socket before a call, if that datagram was cut."""
     reads = [one for one in index.by_socket[call.socket] if one.name == "Read" and one.moved and one.first < call.first]
     pair = next((one for one in cut_datagrams(index) if reads and one.read is reads[-1]), None)
     return pair.says(index) if pair else []

@@ -1,5 +1,5 @@
-"""Requests by datagrams that perhaps got no answer. If no addresses show which socket got the request, the number of
-bytes does: one Read at another socket got as many."""
+"""Requests by datagrams that perhaps got no answer. If no addresses show which socket got the request, the request is
+matched with the only Read on another socket that got as many bytes."""
 
 from typing import Optional
 

@@ -85,7 +85,7 @@ def loop_words(recording: Recording, stack: Stack) -> str:
 
 
 def ways_out(recording: Recording, call: Call) -> str:
-    """The lines that leave the loop around a line, as text; empty if there are many."""
+    """The lines that leave the loop around a line, as text; empty if they are many."""
     leaves, over = leaves_of(recording, call), ranged_over(recording, call)
     ways = " and ".join(f"{call.file}:{number}" for number in leaves)
     lead = f"lead{'s' if len(leaves) == 1 else ''}"
@@ -120,7 +120,7 @@ def ranged_over(recording: Recording, call: Call) -> str:
 
 
 def leaves_of(recording: Recording, call: Call) -> list[int]:
-    """The lines that leave the innermost loop around a line of a function, if there are few."""
+    """The lines that leave the innermost loop around a line of a function, if they are few."""
     found = every_leave(recording, call)
     return found if len(found) <= MOST_LEAVES else []
 

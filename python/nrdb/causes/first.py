@@ -129,8 +129,8 @@ def has_to_do_with(graph: WaitGraph, hang: Hang, call: Call) -> bool:
 
 
 def left_by(graph: WaitGraph, call: Call) -> list[str]:
-    """Sentences about the goroutine of a failed call that ended after that call, which was its last: that it ended, and
-    which goroutine waits for it."""
+    """Sentences about the goroutine of a failed call, if that call was its last: that the goroutine has ended since,
+    and which goroutine waits for it."""
     name, index = Name(call.goroutine), index_of(graph.recording)
     left = next((waiter for waiter in graph.waiters.values() if graph.needs[waiter.name].gone == name), None)
     ended = ended_behind(index, call, graph.position)
@@ -238,7 +238,8 @@ def opening_words(recording: Recording) -> list[str]:
 
 
 def root_sentence(recording: Recording) -> str:
-    """The first sentence of the opening text; empty if nothing failed and no goroutine waits for one that hangs."""
+    """The first sentence of the opening text; empty if nothing failed and no goroutine waits for a goroutine that
+    hangs."""
     first = next(iter(opening_words(recording)), "")
     return first.removeprefix(CAUSE) if first.startswith(CAUSE) else ""
 

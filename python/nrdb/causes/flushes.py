@@ -19,7 +19,7 @@ BUFFERED = re.compile(r"bufio\.NewWriter|bufio\.NewReadWriter|\.Flush\(\)")
 
 def ways_round_a_flush(recording: Recording, stack: Stack) -> str:
     """The paths in the function in which a goroutine reads: ` (main.go:57 goes on without main.go:66, which flushes)`;
-    empty if there are none."""
+    empty if no such path exists."""
     own = stack.own()
     lines = source_of(recording, own[0].file) if own and own[0].of == OF_THE_PROGRAM else None
     within = range_of(lines, own[0]) if lines and own else None

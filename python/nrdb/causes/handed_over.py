@@ -38,8 +38,8 @@ def puts_of(recording: Recording) -> dict[int, list[Use]]:
 
 
 def asked_at(index: Index, wait: Waiting) -> set[int]:
-    """The sockets on which a goroutine wrote, and those on which a goroutine wrote to which it passed a request by a
-    channel."""
+    """The sockets to which a goroutine wrote, or to which other goroutines wrote after they took a request of this
+    goroutine from a channel."""
     lines, put = index.recording.lines, put_before(index.recording, wait)
     takers = {use.goid for use in lines.uses.get(put.object, ()) if use.what == TOOK} if put else set()
     own = [] if wait.name.is_goid else index.by_goroutine.get(wait.name.number, [])
@@ -52,7 +52,7 @@ def functions_of(stack: Stack) -> set[str]:
 
 
 def written_for(index: Index, wait: Waiting, socket: int) -> Optional[Call]:
-    """The first Write at a socket by a goroutine that had taken what the waiter put into a channel."""
+    """The first Write on a socket by a goroutine that had taken what the waiter put into a channel."""
     put = put_before(index.recording, wait)
     if put is None:
         return None

@@ -103,7 +103,7 @@ def written_by(index: Index, goid: int) -> Optional[int]:
 
 @lru_cache(maxsize=2)
 def cancelled_requests(index: Index) -> tuple[CancelledRequest, ...]:
-    """The requests that ended because their contexts did, and whose goroutines then closed the connections."""
+    """The requests that ended because their contexts ended, and whose goroutines then closed the connections."""
     lines, every, found = index.recording.lines, requests_of(index), list[CancelledRequest]()
     for uses in lines.uses.values():
         closes = [use for use in uses if use.what == CLOSED]
@@ -114,7 +114,8 @@ def cancelled_requests(index: Index) -> tuple[CancelledRequest, ...]:
 
 
 def is_by_context(stack: Stack) -> bool:
-    """Whether a round trip asks why its context ended. A round trip does so only after it waited for that end."""
+    """Whether a round trip asks why its context ended. A round trip asks this only after it has waited for the context
+    to end."""
     functions = [call.function for call in stack.calls[:3]]
     return CAUSE_OF_END in functions and ROUND_TRIP in functions
 

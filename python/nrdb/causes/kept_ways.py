@@ -90,7 +90,7 @@ def case_of(recording: Recording, line: Call, use: str) -> Call:
 
 
 def gives_on_most_ways(recording: Recording, balances: Iterable[Balance]) -> bool:
-    """Whether the function that takes gives back at several lines, and at more lines than it has paths that don't."""
+    """Whether the function that takes gives back at several lines, and has fewer paths that don't give back."""
     taken, given = ({line for one in balances for line in some(one)} for some in (TAKEN_AT, GIVEN_AT))
     ends = gives_back(recording, given)
     for line in taken if ends else ():

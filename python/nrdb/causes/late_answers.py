@@ -56,6 +56,6 @@ def at_work(index: Index, call: Call) -> list[str]:
 
 
 def was(wait: Waiting) -> str:
-    """What a goroutine did that has waited, in the past tense: `slept at a.go:3 in serve for 9 ms`."""
+    """A wait as text, in the past tense: `slept at a.go:3 in serve for 9 ms`."""
     words = waits_words(wait)
     return words.replace("sleeps", "slept", 1) if wait.is_asleep else words.replace("waits", "waited", 1)

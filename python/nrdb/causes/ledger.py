@@ -1,4 +1,4 @@
-"""What goroutines did at the channels and mutexes at which others wait, from the objects of NAME.where."""
+"""What goroutines did on the channels and mutexes for which others wait, from the objects of NAME.where."""
 
 from collections import defaultdict
 from operator import attrgetter
@@ -9,7 +9,7 @@ from ..recording import Recording
 from ..waits import Name, Waiting, Waits, name_of_goid
 from ..where import Call, Stack
 
-GIVES = {FOR_VALUE: PUT, FOR_ROOM: TOOK}  # uses that end a wait at a channel
+GIVES = {FOR_VALUE: PUT, FOR_ROOM: TOOK}  # uses that end a wait on a channel
 GIVES_WORDS = {PUT: "put the last value there", TOOK: "took the last value there"}
 GAVE_BEFORE = {PUT: "put a value there before", TOOK: "took one there before"}
 END = attrgetter("end")

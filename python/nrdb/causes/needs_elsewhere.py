@@ -43,9 +43,7 @@ class NeedsElsewhere:
         self._channels = NeedsOfChannels(self._recording, waits, self._ledger, waiters, dict(stacks), self._does)
         # the goroutines that pass values on to the goroutines that wait at a line
         self._hands: dict[Hashable, dict[int, list[Hand]]] = {}
-        self._later: dict[
-            Hashable, Optional[Need]
-        ] = {}  # the needs of selects that another goroutine ends later, keyed by line
+        self._later: dict[Hashable, Optional[Need]] = {}  # what ends the selects of each line
         self._conditions: dict[Hashable, list[str]] = {}  # the sentences about waits, keyed by their lines and objects
         self._mutexes = NeedsOfMutexes(self._recording, self._ledger, waiters, stacks, self._does)
         self._holders = MutexHolders(self._recording, waiters, position, self._does)
@@ -234,8 +232,8 @@ class NeedsElsewhere:
         return next((by for by in same if by in self._waiters), None)
 
     def _does(self, name: Name, stack: Optional[Stack] = None) -> str:
-        """What a goroutine does now. If it has ended: that it has, and its last place unless that is the known stack.
-        Empty if unknown."""
+        """Words for what a goroutine does now. If the goroutine has ended, they say so and name its last place, unless
+        that place is the known stack. Empty if unknown."""
         if wait := self._waits.at(name, self._position):
             return f"{waits_words(wait)} since step {wait.first}"
         lines = self._recording.lines

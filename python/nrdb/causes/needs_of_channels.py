@@ -50,9 +50,7 @@ class NeedsOfChannels:
     ) -> None:  # fmt: skip
         self._recording, self._waits, self._ledger = recording, waits, ledger
         self._waiters, self._stacks, self._does = waiters, stacks, does
-        self._memo: dict[
-            Hashable, Any
-        ] = {}  # results computed once for a channel, because many goroutines may wait there
+        self._memo: dict[Hashable, Any] = {}  # results for a channel, at which many goroutines may wait
 
     def _once(self, key: Hashable, find: Callable[[], Found]) -> Found:
         if key not in self._memo:
@@ -61,7 +59,7 @@ class NeedsOfChannels:
         return found
 
     def _balances(self, number: int) -> list[Balance]:
-        """The balances at a channel; none unless goroutines take from the channel and give back, as with a pool."""
+        """The balances of a channel; none unless goroutines take from the channel and give back, as with a pool."""
 
         def find() -> list[Balance]:
             found = balances_of(self._recording, number, self._stacks)
@@ -208,8 +206,7 @@ class NeedsOfChannels:
         return ended_giver(index_of(self._recording), wait) or Need([])
 
     def _of_the_past(self, wait: Waiting, given: list[Given], closing: Optional[Need]) -> Need:
-        """The need at a channel on which no waiting goroutine did the awaited operation: the last goroutine that did
-        it."""
+        """The need if no waiting goroutine did the awaited operation on a channel: the last goroutine that did it."""
         for one in given:
             loop = loop_words(self._recording, one.stack) if has_ended(self._recording, one.name) else ""
             did = f"{str(one.name).capitalize()} {GIVES_WORDS[one.what]}{place_in(one.stack)} (step {one.last}{loop})"
@@ -257,8 +254,7 @@ class NeedsOfChannels:
         return [*(closing.more if closing else []), *perhaps_dropped(self._recording, wait, self._waiters[by])]
 
     def _of_siblings(self, wait: Waiting) -> list[str]:
-        """Sentences about a `go` statement in the waiter's function, if some of its goroutines ended without doing what
-        others did."""
+        """Sentences about goroutines of a `go` statement that ended without doing what others of them did."""
         what = GIVES.get(wait.objects[0].use, "")
         return [ended_words(self._recording, kind, DID[what]) for kind in self._kinds_of(wait)]
 
@@ -267,8 +263,8 @@ class NeedsOfChannels:
         return tuple(name_of_goid(self._recording.lines, goid) for kind in self._kinds_of(wait) for goid in kind.ended)
 
     def _kinds_of(self, wait: Waiting) -> list[Kind]:
-        """The first `go` statement in a function of the waiter of whose goroutines some did the awaited operation and
-        others ended without it."""
+        """The first `go` statement in a function of the waiter, if some of its goroutines did the awaited operation
+        and others ended without it."""
         what = GIVES.get(wait.objects[0].use, "")
         if len(wait.objects) != 1 or not what:
             return []
@@ -281,15 +277,13 @@ class NeedsOfChannels:
         return kinds_of(self._recording, did)
 
     def left_without(self, wait: Waiting) -> list[str]:
-        """A sentence about the goroutine that waited on a channel for a value that no goroutine ever took, and went on
-        without the value."""
+        """A sentence about a goroutine that waited on a channel for a value, and went on without it."""
         if len(wait.objects) != 1 or not self.is_new(wait):
             return []
         return self._once(("gone", wait.objects), lambda: self._gone(wait))
 
     def _gone(self, wait: Waiting) -> list[str]:
-        """A sentence about the goroutine that waited for a value that no goroutine ever took, and went on without the
-        value."""
+        """A sentence about the goroutine that last waited for a value and went on without it."""
         at = wait.objects[0]
         if at.use != FOR_ROOM:
             return []

@@ -66,7 +66,7 @@ def is_over(index: Index, met: Call) -> bool:
 
 
 def reader_of(index: Index, socket: int) -> Optional[Call]:
-    """The Read at a socket's other end that waits at the end of the recording."""
+    """The Read at the other end of a socket, if it waits at the end of the recording."""
     other = index.other_end(socket)
     calls = () if other is None else index.by_socket.get(other, ())
     return next((one for one in calls if one.name == "Read" and not one.last and is_waiting(index, one)), None)

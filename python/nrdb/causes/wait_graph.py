@@ -45,10 +45,10 @@ class Branch(NamedTuple):
 
 class Hang(NamedTuple):
     """A root of the graph: a goroutine that others wait for, or goroutines that wait for one another. `needs` has the
-    need of each, `waiting` is the number of goroutines that wait for the root, and `perhaps` is the number of those
-    that do so only perhaps. `alike` are similar roots, and `beside` are other roots that wait for the same ended
-    goroutine. `is_loose` means that it isn't known which root waits for which. `until` is a call of the roots whose
-    deadline will end the wait."""
+    need of each, `waiting` is the number of goroutines that wait for the root, and `perhaps` is the number of
+    goroutines for which that is uncertain. `alike` are similar roots, and `beside` are other roots that wait for the
+    same ended goroutine. `is_loose` means that it isn't known which root waits for which. `until` is a call of the
+    roots whose deadline will end the wait."""
 
     roots: list[Waiter]
     needs: list[Need]

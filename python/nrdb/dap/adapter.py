@@ -45,8 +45,7 @@ class Outcome(NamedTuple):
 
 
 class Adapter:
-    """Serves one editor, whose requests come from `source`. No message can change `program`, which is the path of
-    netrev."""
+    """Serves one editor, whose requests come from `source`. No message can change `program`, the path of netrev."""
 
     def __init__(self, wire: Wire, source: Source, program: str):
         self._wire, self._source, self._program = wire, source, program
@@ -74,8 +73,7 @@ class Adapter:
         }  # fmt: skip
 
     def serve(self, begun: Sequence[Request] = ()) -> None:
-        """Answers requests until the editor disconnects. The requests of `begun` come first; their `initialize` has
-        been answered."""
+        """Answers requests until the editor disconnects, first those of `begun`, whose `initialize` was answered."""
         with closing(self._source), self._opened:
             for request in begun:
                 self._initialize(request) if request.command == "initialize" else self._guarded(request)
@@ -142,8 +140,7 @@ class Adapter:
             self._stopped(Stop("goto", texts.SOMEONE_MOVED.format(position=moved)))
 
     def _refused(self, work: Work, why: str) -> None:
-        """Reports that a request failed. If a move was answered early, also reports that the session stays at its
-        position."""
+        """Reports that a request failed, and, if a move was answered early, that the session doesn't move."""
         if work.refuses(why):
             self._stopped(Stop("pause", why))
 
