@@ -139,8 +139,8 @@ def lines_of_form(recording: Recording, uses: list[Use], takes: str, function: s
 
 
 def takes_of(recording: Recording, uses: list[Use]) -> tuple[str, set[str]]:
-    """What goroutines take from a channel (PUT or TOOK), and the functions of the program that take it and later give it
-    back. Functions that only call such a function are left out."""
+    """What goroutines take from a channel (PUT or TOOK), and the functions of the program that take it and later give
+    it back. Functions that only call such a function are left out."""
     stacks, functions, outer = recording.lines.stacks, Counter[str](), set[str]()
     frames: dict[tuple[int, str], set[Frames]] = defaultdict(set)
     for use in uses:
