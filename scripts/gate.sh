@@ -45,7 +45,7 @@ sh scripts/tests.sh || more=$((more + $?))
 # prints the time of each crate from out/minutes.tsv
 python3 scripts/minutes.py out/minutes.tsv | tail -n 2
 
-# names what was left out, which doesn't count as passed
+# names what was left out here, which doesn't count as passed
 skipped=$(wc -l < out/left-out.txt)
 [ "$skipped" = 0 ] || { echo "left out here:" && sed 's/^/    /' out/left-out.txt; }
 

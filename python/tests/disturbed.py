@@ -146,7 +146,8 @@ class Disturbances(unittest.TestCase, Generic[Of]):
                 told = self.told_by(played, command)
                 played.weather.left = None
                 self.settle()
-                played.session.stands()  # (perhaps only this shows that netrev has ended)
+                played.session.netrev._kept.clear()  # (a kept reply doesn't show that netrev has ended)
+                played.session.stands()
                 yield point, played, told, True
             except (GivenUp, Ended):
                 played.weather.left = None

@@ -118,7 +118,7 @@ class Tests(unittest.TestCase):
 class Ending(unittest.TestCase):
     def test_the_gate_tells_how_many_were_skipped_behind_what_passed(self) -> None:
         text = (ROOT / "scripts/gate.sh").read_text()
-        ending = text[text.index("# what was left out here") :]
+        ending = text[text.index("# names what was left out here") :]
         for left_out, wanted in (
             ("", ["7 passed, 1 failed"]),
             ("a: no b\nc: no d\n", ["left out here:", "    a: no b", "    c: no d", "7 passed, 1 failed, 2 skipped"]),
