@@ -1,4 +1,4 @@
--- How much of a text is out and how much is held, when the text goes out in pieces.
+-- How much of a text is written and how much is held while the text is sent in pieces.
 use Rattle.std.proofs.Common.{◌≡◌, ℕ, ◌<◌, ◌≤◌, List, [], ◌++◌, arith, length, take, drop, refl, sym, ap, subst, ◌∙◌, append-nil, append_assoc, take-append-drop, length-append, length-drop, true, Ok, Err, Result}
 use Rattle.std.proofs.lemmas.List.{length-take-le}
 use Rattle.std.proofs.Math.Seq.{take-length}
@@ -9,7 +9,7 @@ use Rattle.nr_text.specs.Streams.{Outgoing, Sends, saturating_count}
 use Rattle.nr_text.proofs.StreamLemmas.{sends_none, sends_then}
 use Rattle.nr_text.specs.declared.buffered.WriteFailed.{WriteFailed}
 
--- a piece is held after the held bytes
+-- a new piece is held after the bytes already held
 pub holds : (start : Outgoing) (sent piece : List ℕ) (b : Buffering) → HasSent start sent b → HasSent start (sent ++ piece) (record b { held = b.held ++ piece })
 holds start sent piece b has = record {
   out = has.out;
@@ -19,13 +19,13 @@ holds start sent piece b has = record {
   calm = has.calm;
 }
 
--- more bytes are put out after those that are out, and counted
+-- more bytes are written after the earlier ones, and counted
 behind : (start c c' : Outgoing) (out bytes : List ℕ) (n o o' : ℕ) → n ≤ length bytes → Sends start c out → o ≡ saturating_count (length out) → IsOut bytes n c c' o o'
     → Sends start c' (out ++ take n bytes) × (o' ≡ saturating_count (length (out ++ take n bytes)))
 behind start c c' out bytes n o o' within before count more =
     (sends_then start c c' out (take n bytes) before more.written, omega (arith, count, more.count, length-append out (take n bytes), length-take-le n bytes within))
 
--- all held bytes are put out
+-- all held bytes are written
 puts_all : (start c' : Outgoing) (sent : List ℕ) (b : Buffering) (o' : ℕ) → HasSent start sent b → PutsOut b.held b.taken c' b.out o'
     → HasSent start (sent ++ []) (record { taken = c'; held = []; out = o' })
 puts_all start c' sent b o' has all =
@@ -39,7 +39,7 @@ puts_all start c' sent b o' has all =
       calm = all.1 ∙ has.calm;
     }
 
--- some held bytes are put out, and then a write fails
+-- some held bytes are written, and then a write fails
 puts_some : (start c' : Outgoing) (sent : List ℕ) (b : Buffering) (n o' : ℕ) → HasSent start sent b → n < length b.held → IsOut b.held n b.taken c' b.out o' → c'.failed ≡ true
     → IsCut start (sent ++ []) (record { taken = c'; held = []; out = o' })
 puts_some start c' sent b n o' has within some failed =
@@ -55,7 +55,7 @@ puts_some start c' sent b n o' has within some failed =
       dropped = refl;
     }
 
--- a write that failed also failed for the bytes that would follow
+-- a text that a failed write cut short is still cut short if more bytes are added to it
 cut_before : (start : Outgoing) (sent more : List ℕ) (b : Buffering) → IsCut start sent b → IsCut start (sent ++ more) b
 cut_before start sent more b cut = record {
   out = cut.out;
@@ -68,27 +68,27 @@ cut_before start sent more b cut = record {
   dropped = cut.dropped;
 }
 
--- two pieces, one after the other, are one longer piece
+-- sending two pieces in a row sends their concatenation
 pub writes_then : (u v w : Buffering) (one two : List ℕ) (result : Result Unit WriteFailed) → Writes u v one (Ok tt) → Writes v w two result → Writes u w (one ++ two) result
 writes_then u v w one two result first then = record {
   behind = λ start sent has. subst (λ s. SentOrCut start s w result) (append_assoc sent one two) (then.behind start (sent ++ one) (first.behind start sent has));
 }
 
--- a write that failed in a piece failed in a longer one
+-- if a write fails in a piece, it fails in every longer piece that begins with it
 pub writes_cut : (u v : Buffering) (one two : List ℕ) (e : WriteFailed) (result : Result Unit WriteFailed) → IsErr result → Writes u v one (Err e) → Writes u v (one ++ two) result
 writes_cut u v one two e (Ok _) fails cut = absurd (grind (arith, fails))
 writes_cut u v one two e (Err _) fails cut = record {
   behind = λ start sent has. subst (λ s. IsCut start s v) (append_assoc sent one two) (cut_before start (sent ++ one) two v (cut.behind start sent has));
 }
 
--- the held bytes are put out, or a write fails
+-- the held bytes are written, or a write fails
 pub puts : (start c' : Outgoing) (sent : List ℕ) (b : Buffering) (o' : ℕ) (result : Result Unit WriteFailed) → HasSent start sent b
     → OnOk result (PutsOut b.held b.taken c' b.out o') → OnErr result (PutsOutSome b.held b.taken c' b.out o')
     → SentOrCut start (sent ++ []) (record { taken = c'; held = []; out = o' }) result
 puts start c' sent b o' (Ok _) has ok err = puts_all start c' sent b o' has ok
 puts start c' sent b o' (Err _) has ok err = puts_some start c' sent b err.0 o' has err.1 err.2 err.3
 
--- if nothing is held, a piece is put out, or a write fails
+-- if nothing is held, a piece is written directly, or a write fails
 pub puts_directly : (start c' : Outgoing) (sent piece held : List ℕ) (b : Buffering) (o' : ℕ) (result : Result Unit WriteFailed) → b.held ≡ [] → held ≡ [] → HasSent start sent b
     → OnOk result (PutsOut piece b.taken c' b.out o') → OnErr result (PutsOutSome piece b.taken c' b.out o')
     → SentOrCut start (sent ++ piece) (record { taken = c'; held = held; out = o' }) result
@@ -98,7 +98,7 @@ puts_directly start c' sent piece held b o' result none still has ok err =
     subst (λ h. SentOrCut start (sent ++ piece) (record { taken = c'; held = h; out = o' }) result) (sym still)
     (subst (λ s. SentOrCut start s (record { taken = c'; held = []; out = o' }) result) (append-nil (sent ++ piece)) done)
 
--- a text begins when nothing is held
+-- if nothing is held or counted, an empty text has been sent
 begins : (b : Buffering) → b.held ≡ [] → b.out ≡ 0 → HasSent b.taken [] b
 begins b none no_count = record {
   out = [];
@@ -108,12 +108,12 @@ begins b none no_count = record {
   calm = refl;
 }
 
--- a write failed, whatever the error says
+-- a text that was cut short satisfies `SentOrCut` with any error
 pub cut_is_counted : (start : Outgoing) (sent : List ℕ) (b : Buffering) (result : Result Unit WriteFailed) → IsErr result → IsCut start sent b → SentOrCut start sent b result
 cut_is_counted start sent b (Ok _) fails cut = absurd (grind (arith, fails))
 cut_is_counted start sent b (Err _) fails cut = cut
 
--- a text that was begun at this writer, and of which a piece was sent
+-- the state after the first piece of a text, sent from a writer that held nothing
 pub from_begun : (b b' begun : Buffering) (piece : List ℕ) (result : Result Unit WriteFailed) → begun ≡ record b { out = 0 } → b.held ≡ [] → Writes begun b' piece result
     → SentOrCut b.taken piece b' result
 from_begun b b' begun piece result is none writes =

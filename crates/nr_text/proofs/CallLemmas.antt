@@ -1,4 +1,4 @@
--- What one more call changes.
+-- What one more call changes in the state of a reader.
 use Rattle.std.proofs.Common.{◌≡◌, ℕ, ◌<◌, ◌≤◌, Bool, false, true, ◌||◌, List, [], ◌∷◌, ◌++◌, length, take, Option, None, Some, refl, sym, ap, subst, ◌∙◌, append-nil, ◌⊎◌, inl, inr, ⊎_elim, rules}
 use Rattle.std.proofs.lemmas.Grind.{flat_map-append}
 use Rattle.std.proofs.lemmas.List.Folds.{list_any-append}
@@ -13,7 +13,7 @@ use Rattle.nr_text.specs.Auxiliary.Streams.{Reads}
 use Rattle.nr_text.specs.declared.calls.CallOutcome.{CallOutcome}
 use Rattle.nr_text.specs.declared.calls.CallOutcome.TheVariants.{Moved, Interrupted, Failed}
 
--- the last call alone says whether the end was found
+-- only the last call determines whether the end was found
 last_finds : (calls : List Call) (call : Call) → finds_end (calls ++ call ∷ []) ≡ moves_none call
 last_finds [] call = refl
 last_finds (one ∷ []) call = refl

@@ -12,7 +12,7 @@ appends_none (Some xs) = sym (append-nil xs)
 pub sends_none : (at : Outgoing) → Sends at at []
 sends_none at = record { sent = sym (append-nil at.sent); appended = appends_none at.contents }
 
--- some bytes were sent, and then some more
+-- two sends in a row send the bytes of both
 pub sends_then : (a b c : Outgoing) (one two : List ℕ) → Sends a b one → Sends b c two → Sends a c (one ++ two)
 sends_then a b c one two first then = record {
   sent = then.sent ∙ ap (λ s. s ++ two) first.sent ∙ append_assoc a.sent one two;
@@ -27,7 +27,7 @@ consumes_none (Some xs) = refl
 pub receives_none : (at : Incoming) → Receives at at []
 receives_none at = record { received = sym (append-nil at.received); consumed = consumes_none at.remaining }
 
--- some bytes were received, and then some more
+-- two receives in a row receive the bytes of both
 pub receives_then : (a b c : Incoming) (one two : List ℕ) → Receives a b one → Receives b c two → Receives a c (one ++ two)
 receives_then a b c one two first then = record {
   received = then.received ∙ ap (λ s. s ++ two) first.received ∙ append_assoc a.received one two;

@@ -1,17 +1,17 @@
--- A writer that joins the pieces of a text before they go out.
+-- A writer that joins the pieces of a text before it writes them.
 use Rattle.std.specs.Prelude.{◌≡◌, ℕ, ◌+◌, ◌<◌, true, List, [], ◌++◌, length, take, Result, Ok, Err}
 use Rattle.nr_text.specs.Streams.{Outgoing, Sends, saturating_count}
 use Rattle.nr_text.specs.declared.buffered.WriteFailed.{WriteFailed}
 
--- The abstract state of a buffered writer: the bytes that its writer took, the held bytes, and how
--- many bytes of the text are out.
+-- The abstract state of a buffered writer: the bytes that its inner writer wrote, the held bytes,
+-- and how many bytes of the text are written.
 pub record Buffering : Type 0 where
   pub taken : Outgoing
   pub held : List ℕ
   pub out : ℕ
 
--- True if `sent` are the bytes sent of a text that began when the writer was at `start`: the first
--- of them are out, the others are held. No write failed.
+-- True if `sent` is what has been sent of a text that began when the writer was in state `start`:
+-- its first bytes are written, and the rest are held. No write failed.
 pub record HasSent (start : Outgoing) (sent : List ℕ) (b : Buffering) : Type 0 where
   pub out : List ℕ
   pub split : sent ≡ out ++ b.held
@@ -19,7 +19,7 @@ pub record HasSent (start : Outgoing) (sent : List ℕ) (b : Buffering) : Type 0
   pub count : b.out ≡ saturating_count (length out)
   pub calm : b.taken.failed ≡ start.failed
 
--- True if a write failed when exactly the first of these bytes were out, and not all. Nothing is
+-- True if a write failed after some of these bytes, but not all of them, were written. Nothing is
 -- held.
 pub record IsCut (start : Outgoing) (sent : List ℕ) (b : Buffering) : Type 0 where
   pub out : List ℕ
@@ -36,23 +36,23 @@ abbrev pub SentOrCut : Outgoing → List ℕ → Buffering → Result (Unit {0})
 SentOrCut start sent b (Ok _) = HasSent start sent b
 SentOrCut start sent b (Err _) = IsCut start sent b
 
--- True if the piece was sent after what had been sent of the text before, or a write failed.
+-- True if the piece was sent after the earlier pieces of the text, or a write failed.
 pub record Writes (old new : Buffering) (piece : List ℕ) (result : Result (Unit {0}) WriteFailed) :
     Type 0 where
   pub behind : (start : Outgoing) (sent : List ℕ) → HasSent start sent old
       → SentOrCut start (sent ++ piece) new result
 
--- True if a writer put out the first n of the bytes and counted them.
+-- True if the first n of the bytes were written and counted.
 pub record IsOut (bytes : List ℕ) (n : ℕ) (old new : Outgoing) (before after : ℕ) : Type 0 where
   pub written : Sends old new (take n bytes)
   pub count : after ≡ saturating_count (before + n)
 
--- True if all of the bytes were put out, and no write failed.
+-- True if all of the bytes were written and counted, and no write failed.
 abbrev pub PutsOut : List ℕ → Outgoing → Outgoing → ℕ → ℕ → Type 0
 PutsOut bytes old new before after =
     IsOut bytes (length bytes) old new before after × (new.failed ≡ old.failed)
 
--- True if a write failed when exactly the first n of the bytes were out, and not the next.
+-- True if a write failed after exactly n of the bytes, fewer than all, were written and counted.
 abbrev pub PutsOutSome : List ℕ → Outgoing → Outgoing → ℕ → ℕ → Type 0
 PutsOutSome bytes old new before after =
     (n : ℕ) × (n < length bytes) × IsOut bytes n old new before after × (new.failed ≡ true)

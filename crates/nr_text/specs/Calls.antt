@@ -22,11 +22,11 @@ moved (buffer, Moved n) = take n buffer
 moved (buffer, Interrupted) = []
 moved (buffer, Failed) = []
 
--- the bytes that the calls moved, in their order
+-- the bytes that the calls moved, in order
 abbrev pub bytes_of : List Call → List ℕ
 bytes_of calls = flat_map moved calls
 
--- True if the call moved no bytes, though the buffer had room, or bytes to write. A read has then
+-- True if the call moved no bytes, though its buffer wasn't empty. For a read, this means that it
 -- found the end.
 abbrev pub moves_none : Call → Bool
 moves_none (buffer, Moved n) = (n == 0) && nat_lt 0 (length buffer)
@@ -47,7 +47,7 @@ fails (buffer, _) = false
 abbrev pub a_read_failed : List Call → Bool
 a_read_failed calls = list_any fails calls
 
--- true if one of these writes failed, or took none of the bytes that it was given
+-- true if one of these writes failed, or wrote none of its bytes
 abbrev pub a_write_failed : List Call → Bool
 a_write_failed calls = list_any (λ call. fails call || moves_none call) calls
 

@@ -4,7 +4,7 @@ pub mod Moments
 pub mod Text
 -- what callers need besides
 pub mod Buffered
--- inner
+-- inner: used only within this crate
 pub mod Calls
--- what goes on with the files that the laws rest on
+-- helpers for those definitions
 pub mod Auxiliary

@@ -14,22 +14,24 @@ pub record Incoming : Type 0 where
   pub moments : List Moment
 
 -- The abstract state of a sink: the bytes that its writer holds, if they are known; the bytes that
--- writes took, in order; and whether a write failed, or took none of its bytes.
+-- were written, in order; and whether a write failed or wrote none of its bytes.
 pub record Outgoing : Type 0 where
   pub contents : Option (List ℕ)
   pub sent : List ℕ
   pub failed : Bool
 
--- True if these bytes were received. If the reader's bytes are known, they were the next ones.
+-- True if these bytes were received. If the reader's remaining bytes are known, the received bytes
+-- were the first of them.
 pub record Receives (from left : Incoming) (bytes : List ℕ) : Type 0 where
   pub received : left.received ≡ from.received ++ bytes
   pub consumed : Consumes from.remaining left.remaining bytes
 
--- True if the last read found the end. If the reader's bytes are known, none is left.
+-- True if the last read found the end. If the reader's remaining bytes are known, none are left.
 abbrev pub IsOver : Incoming → Type 0
 IsOver left = (left.ended ≡ true) × IsAtEnd left.remaining
 
--- True if these bytes were sent. If the writer's bytes are known, they follow the earlier ones.
+-- True if these bytes were sent. If the writer's contents are known, these bytes were appended to
+-- them.
 pub record Sends (old new : Outgoing) (bytes : List ℕ) : Type 0 where
   pub sent : new.sent ≡ old.sent ++ bytes
   pub appended : Appends old.contents new.contents bytes
@@ -46,8 +48,8 @@ saturating_count n = min n (2 ^ 64 - 1)
 abbrev pub WritesAll : Outgoing → Outgoing → List ℕ → Type 0
 WritesAll old new text = Sends old new text × (new.failed ≡ old.failed)
 
--- True if a write failed when exactly the first n bytes of the text were out, and not the next, and
--- the count reports n.
+-- True if a write failed after exactly n bytes of the text, fewer than all, were written, and the
+-- count is n or, if n is greater, its maximum.
 pub record WritesPrefix (old new : Outgoing) (text : List ℕ) (count : ℕ) : Type 0 where
   pub n : ℕ
   pub within : n < length text

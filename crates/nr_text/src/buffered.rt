@@ -1,4 +1,4 @@
-//! A writer that joins the pieces of a text before they go out.
+//! A writer that joins the pieces of a text before it writes them.
 
 ghost use Rattle.std.specs.Prelude.{◌≡◌, ◌+◌, ◌≤◌, ◌++◌, [], length, false, OnErr, OnOk};
 ghost use Rattle.nr_text.specs.Buffered.{PutsOut, PutsOutSome, SentOrCut, Writes};
@@ -16,18 +16,18 @@ use std::marker::Model;
 /// The size of the buffer in bytes.
 pub(crate) const ROOM: usize = 512;
 
-/// A write failed, or took none of the bytes that it was given.
+/// A write failed, or wrote none of its bytes.
 #[derive(Clone, Copy, Debug, PartialEq, Eq)]
 pub struct WriteFailed;
 
-/// A writer that joins the pieces of a text: it holds them until its buffer is full or the text ends, and takes no
-/// memory. If a write fails, the held bytes are dropped. Contracts see the bytes that the inner writer took, the held
-/// bytes, and how many bytes of the text are out.
+/// A writer that joins the pieces of a text: it holds them until its buffer is full or the text
+/// ends, and takes no memory. If a write fails, the held bytes are dropped. Contracts see the bytes
+/// that the inner writer wrote, the held bytes, and how many bytes of the text are written.
 #[derive(Drop)]
 pub struct Buffered<W: Write> {
     writer: LoggedWriter<W>,
     held: ArrayVec<u8, ROOM>,
-    // The number of bytes of the text that are out. It stops counting at `u64::MAX`.
+    // The number of bytes of the text that are written, at most `u64::MAX`.
     out: u64,
 }
 
@@ -40,7 +40,7 @@ impl<W: Write> Model for Buffered<W> {
 }
 
 impl<W: Write> Buffered<W> {
-    // Makes a writer that holds nothing, with nothing of a text out.
+    // Makes a writer that holds nothing, before any text.
     pub(crate) fn new(writer: W) -> Buffered<W>
         ensures { result ≡ record {
           taken = unwritten (W.contents writer);
@@ -74,14 +74,14 @@ impl<W: Write> Buffered<W> {
         self.writer.calls()
     }
 
-    // Returns how many bytes of the text are out.
+    // Returns how many bytes of the text are written, at most `u64::MAX`.
     pub(crate) fn out(&self) -> u64
         ensures { result ≡ self.now.out }
     {
         self.out
     }
 
-    // Writes a whole text: afterwards all of it is out, or a write has failed.
+    // Writes a whole text: either all of it is written, or a write fails.
     pub(crate) fn print<T: Text>(&mut self, text: &T) -> Result<(), WriteFailed>
         requires { self.old.held ≡ [] }
         ensures out { SentOrCut self.old.taken (T.text text.now) self.new result }
@@ -92,14 +92,15 @@ impl<W: Write> Buffered<W> {
         self.put_out_held()
     }
 
-    // Begins the next text, of which nothing is out.
+    // Begins the next text: none of it is written yet.
     fn begin(&mut self)
         ensures { self.new ≡ record self.old { out = 0 } }
     {
         self.out = 0;
     }
 
-    /// Sends a piece of a text: holds it, or writes it after the held bytes.
+    /// Sends a piece of a text: holds it, or writes it after the held bytes. Fails if a write
+    /// fails.
     pub fn send(&mut self, piece: &[u8]) -> Result<(), WriteFailed>
         ensures { Writes self.old self.new piece.now result }
     {
@@ -134,7 +135,7 @@ impl<W: Write> Buffered<W> {
     }
 }
 
-// Writes the bytes, in as many writes as needed, and counts those that are out.
+// Writes the bytes, in as many writes as needed, and counts the bytes written.
 fn put_out<W: Write>(
     bytes: &[u8],
     writer: &mut LoggedWriter<W>,

@@ -1,5 +1,5 @@
-//! The calls of a reader or a writer so far, and when the reads were made. Only proofs read this: nothing of it is kept
-//! at run time.
+//! The calls of a reader or a writer so far, and when the reads were made. Only proofs read this
+//! log: it doesn't exist at run time.
 
 ghost use Rattle.std.specs.Prelude.{◌≡◌, ℕ, List, [], ◌∷◌, ◌++◌};
 ghost use Rattle.std.specs.Borrow.{ftrue};
@@ -42,7 +42,7 @@ pub(crate) struct Call<'a> {
     pub(crate) outcome: CallOutcome,
 }
 
-/// The calls so far, in their order.
+/// The calls so far, in order.
 #[derive(Drop)]
 pub(crate) struct Calls {
     ghost made: { List (List ℕ × Outcome) } by { calls_code },
@@ -69,8 +69,8 @@ impl Calls {
     }
 }
 
-/// The moments of the reads, in their order: what had been received and sent by then, and whether the read before found
-/// the end.
+/// The moments of the reads, in order: what had been received and sent by then, and whether the
+/// previous read found the end.
 #[derive(Drop)]
 pub(crate) struct Moments {
     ghost passed: { List Moment } by { moments_code },

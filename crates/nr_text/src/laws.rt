@@ -1,4 +1,4 @@
-//! Laws of streams: public functions with an empty body, whose contract is the law.
+//! Laws of streams: each is a public function with an empty body, and its contract is the law.
 
 ghost use Rattle.std.specs.Prelude.{◌≡◌};
 ghost use Rattle.nr_text.specs.declared.buffered.TheConstants.{ROOM};

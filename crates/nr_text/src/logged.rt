@@ -9,9 +9,9 @@ use crate::calls::{Call, CallOutcome, Calls, Moments};
 use std::io::{Read, Write};
 use std::marker::Model;
 
-/// A reader that remembers its reads. Contracts see the bytes that it has left, if they are known; the bytes that its
-/// reads returned; whether the last one found the end; whether one failed; and what had been received and sent when
-/// each was made.
+/// A reader that remembers its reads. Contracts see the bytes that it has left, if they are known;
+/// the bytes that its reads returned; whether the last read found the end; whether a read failed;
+/// and what had been received and sent at the time of each read.
 #[derive(Drop)]
 pub(crate) struct LoggedReader<R: Read> {
     reader: R,
@@ -35,7 +35,7 @@ impl<R: Read> Model for LoggedReader<R> {
 }
 
 impl<R: Read> LoggedReader<R> {
-    // Wraps a reader, before any read.
+    // Wraps a reader that hasn't been read yet.
     pub(crate) fn new(reader: R) -> LoggedReader<R>
         ensures { result ≡ unread (R.remaining reader) }
     {
@@ -89,8 +89,9 @@ impl<R: Read> LoggedReader<R> {
     }
 }
 
-/// A writer that remembers its writes. Contracts see the bytes that it holds, if they are known; the bytes that its
-/// writes took; whether one failed, or took none of the bytes that it was given; and the number of writes.
+/// A writer that remembers its writes. Contracts see the bytes that it holds, if they are known;
+/// the bytes that were written; whether a write failed or wrote none of its bytes; and the number
+/// of writes.
 #[derive(Drop)]
 pub(crate) struct LoggedWriter<W: Write> {
     writer: W,
@@ -115,7 +116,7 @@ impl<W: Write> Model for LoggedWriter<W> {
 }
 
 impl<W: Write> LoggedWriter<W> {
-    // Wraps a writer, before any write.
+    // Wraps a writer, with an empty log.
     pub(crate) fn new(writer: W) -> LoggedWriter<W>
         ensures { result ≡ record { taken = unwritten (W.contents writer); writes = 0 } }
     {

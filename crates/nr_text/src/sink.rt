@@ -10,10 +10,10 @@ use crate::text::Text;
 use std::io::Write;
 use std::marker::Model;
 
-/// A writer of whole texts that remembers what it wrote and whether a write failed, or took none of the bytes that it
-/// was given. It joins the pieces of a text, so a text of up to 512 bytes goes out in one write. Contracts see the
-/// bytes that the writer holds, if they are known, the bytes that writes took, and whether one failed. The log of
-/// writes and their outcomes exists in proofs only.
+/// A writer of whole texts that remembers what it wrote and whether a write failed or wrote none of
+/// its bytes. It joins the pieces of a text, so a text of up to 512 bytes goes out in one write.
+/// Contracts see the bytes that the writer holds, if they are known; the bytes that were written;
+/// and whether a write failed. The log of writes and their outcomes exists in proofs only.
 #[derive(Drop)]
 pub struct Sink<W: Write> {
     writer: Buffered<W>,
@@ -31,13 +31,13 @@ impl<W: Write> Model for Sink<W> {
     ghost invariant = { λ s. (s.writer.held ≡ []) × (s.failed ≡ s.writer.taken.failed) };
 }
 
-/// The part of a text that is out: a write failed, or took nothing, when exactly this many bytes, the first of the
-/// text, were out. The count stops at `u64::MAX`.
+/// How many bytes of a text, from its start, were written before a write failed or wrote nothing;
+/// at most `u64::MAX`.
 #[derive(Clone, Copy, Debug, PartialEq, Eq)]
 pub struct Part(pub u64);
 
 impl<W: Write> Sink<W> {
-    /// Wraps a writer, before any write.
+    /// Wraps a writer. No write has been made or has failed yet.
     pub fn new(writer: W) -> Sink<W>
         ensures { result ≡ unwritten (W.contents writer) }
     {
@@ -47,7 +47,7 @@ impl<W: Write> Sink<W> {
         }
     }
 
-    /// Returns the writer. Every text that was written whole is out.
+    /// Returns the inner writer. No bytes are still held: a printed text has been written in full.
     pub fn into_inner(self) -> W
         ensures { W.contents result ≡ self.contents }
     {
@@ -62,15 +62,16 @@ impl<W: Write> Sink<W> {
         self.writer.calls()
     }
 
-    /// Returns whether a write failed, or took none of the bytes that it was given.
+    /// Returns whether a write failed, or wrote none of its bytes.
     pub fn has_failed(&self) -> bool
         ensures { result ≡ self.now.failed }
     {
         self.failed
     }
 
-    /// Writes a whole text. If a write fails or takes nothing, fails with `Part`, which says how many bytes of the text
-    /// are out, and writes no more. It retries an interrupted write. It takes no memory.
+    /// Writes a whole text. If a write fails or writes nothing, writes no more and fails with
+    /// `Part`, which says how many bytes of the text were written. Retries an interrupted write.
+    /// Takes no memory.
     pub fn print<T: Text>(&mut self, text: &T) -> Result<(), Part>
         ensures { Prints self.old self.new (T.text text.now) result }
     {

@@ -10,9 +10,10 @@ use crate::sink::Sink;
 use std::io::{Read, Write};
 use std::marker::Model;
 
-/// A reader that remembers what its reads returned and whether one failed. Contracts see the bytes that the reader has
-/// left, if they are known; the bytes that reads returned; whether the last one found the end; whether one failed; and
-/// what had been received and sent when each was made. The log of reads and their outcomes exists in proofs only.
+/// A reader that remembers what its reads returned and whether one failed. Contracts see the bytes
+/// that the reader has left, if they are known; the bytes that reads returned; whether the last
+/// read found the end; whether a read failed; and what had been received and sent at the time of
+/// each read. The log of reads and their outcomes exists in proofs only.
 #[derive(Drop)]
 pub struct Source<R: Read> {
     reader: LoggedReader<R>,
@@ -35,7 +36,7 @@ impl<R: Read> Model for Source<R> {
 pub struct ReadFailed;
 
 impl<R: Read> Source<R> {
-    /// Wraps a reader, before any read.
+    /// Wraps a reader. No read has been made or has failed yet.
     pub fn new(reader: R) -> Source<R>
         ensures { result ≡ unread (R.remaining reader) }
     {
@@ -60,9 +61,9 @@ impl<R: Read> Source<R> {
         self.failed
     }
 
-    /// Reads some bytes, or none at the end of the input. Contracts relate each read to the replies that `replies` has
-    /// written by then. It makes at least one read, and retries an interrupted read, up to 2^64 - 1 times; then the
-    /// read counts as failed.
+    /// Reads some bytes, or none at the end of the input. The contract relates each read to what
+    /// `replies` had written by then. Makes at least one read, and retries an interrupted read, up
+    /// to 2^64 - 1 reads in all; then the read counts as failed.
     pub fn read<W: Write>(&mut self, replies: &Sink<W>, buf: &mut [u8]) -> Result<usize, ReadFailed>
         ensures reads { ReadsSome self.old self.new buf.new result }
         ensures moments { ReadsNow self.old self.new replies.now }

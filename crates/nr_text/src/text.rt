@@ -49,7 +49,7 @@ impl Text for Spaced {
     }
 }
 
-/// Bytes are a text as they are.
+/// Bytes are their own text.
 impl Text for &[u8] {
     ghost text = { λ bytes. bytes.now };
 
@@ -58,7 +58,7 @@ impl Text for &[u8] {
     }
 }
 
-/// Texts in a row.
+/// Several texts, one after the other.
 #[derive(Clone, Copy)]
 pub struct Parts<'a, P: Text>(pub &'a [P]);
 

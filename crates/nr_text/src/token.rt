@@ -17,7 +17,7 @@ pub enum Token<'a> {
     Text(&'static [u8]),
     /// A number in decimal digits.
     Number(u64),
-    /// A time in decimal digits, after a minus sign if it is negative.
+    /// A time in decimal digits, with a minus sign if it is negative.
     Time(i64),
     /// Bytes, each as two hexadecimal digits.
     Hex(&'a [u8]),

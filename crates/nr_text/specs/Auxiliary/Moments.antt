@@ -1,9 +1,9 @@
--- Definitions that contracts and proofs cite beside `Moments`. No law of THEOREM.md rests on them.
+-- Helper definitions for `Moments`. The laws in THEOREM.md don't use them.
 use Rattle.std.specs.Prelude.{◌≡◌, ℕ, Bool, List, refl}
 use Rattle.std.specs.Coded.{Coded, code_by, coded×, coded_ℕ, coded_bool, coded_list}
 use Rattle.nr_text.specs.Moments.{Moment}
 
--- ---- how the prover stores these
+-- ---- how the prover stores moments
 
 abbrev Parts : Type 0
 Parts = List ℕ × (List ℕ × Bool)

@@ -1,4 +1,4 @@
--- Definitions that contracts and proofs cite beside `Text`. No law of THEOREM.md rests on them.
+-- Helper definitions for `Text`. The laws in THEOREM.md don't use them.
 use Rattle.std.specs.Prelude.{ℕ, List, [], ◌∷◌, ◌++◌, flat_map, decimal}
 use Rattle.std.specs.Fmt.{signed_decimal}
 use Rattle.nr_text.specs.declared.token.Token.{Token}

@@ -1,4 +1,4 @@
--- the first bytes are out, and none is counted yet
+-- the first `sent` bytes are written, and none of them is counted yet
 use Rattle.std.proofs.Common.{◌≡◌, ◌≤◌, ◌-◌, length, take}
 use Rattle.nr_text.specs.Streams.{Sends}
 use Rattle.nr_text.proofs.buffered.put_out.Given as goal

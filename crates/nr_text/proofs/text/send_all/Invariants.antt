@@ -1,4 +1,4 @@
--- the parts so far are sent
+-- the parts before the current one have been sent
 use Rattle.std.proofs.Common.{take, flat_map, Ok}
 use Rattle.nr_text.specs.Buffered.{Writes}
 use Rattle.nr_text.proofs.text.send_all.Given as goal

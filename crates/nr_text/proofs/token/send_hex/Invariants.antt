@@ -1,4 +1,4 @@
--- the bytes so far are sent
+-- the bytes before the current one have been sent
 use Rattle.std.proofs.Common.{take, flat_map, Ok}
 use Rattle.nr_text.specs.Buffered.{Writes}
 use Rattle.nr_text.specs.Text.{hex_pair}

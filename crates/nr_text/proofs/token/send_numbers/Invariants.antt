@@ -1,4 +1,4 @@
--- the numbers so far are sent
+-- the numbers before the current one have been sent
 use Rattle.std.proofs.Common.{take, flat_map, Ok}
 use Rattle.nr_text.specs.Buffered.{Writes}
 use Rattle.nr_text.specs.Text.{spaced_number}

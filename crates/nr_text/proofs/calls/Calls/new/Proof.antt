@@ -1,4 +1,4 @@
--- `new` makes a struct without fields, and picks the empty list of calls.
+-- `new` makes a struct without fields; its ghost value is the empty list of calls.
 use Rattle.std.proofs.Common.{[], ◌∷◌, refl}
 use Rattle.std.proofs.raw_atomic.Walks.{proved}
 use Rattle.nr_text.proofs.CallWalks.{nothing_made, of_no_fields}

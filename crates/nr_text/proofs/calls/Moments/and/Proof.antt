@@ -1,4 +1,4 @@
--- `and` makes a struct without fields, and picks the moments that its clause names.
+-- `and` makes a struct without fields; its ghost value is the list of moments in the contract.
 use Rattle.std.proofs.Common.{[], ◌∷◌, ◌++◌, refl}
 use Rattle.std.proofs.raw_atomic.Walks.{proved}
 use Rattle.nr_text.proofs.CallWalks.{nothing_made, of_no_fields}

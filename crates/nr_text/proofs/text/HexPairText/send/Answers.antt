@@ -5,7 +5,7 @@ use Rattle.nr_text.specs.Buffered.{Writes}
 use Rattle.nr_text.specs.Text.{hex_pair}
 use Rattle.nr_text.proofs.text.HexPairText.send.Goals as goal
 
--- the library's text of one byte is its pair of digits
+-- the library formats one byte as its pair of digits
 pair_is : (b : ℕ) → encode_lower (b ∷ []) ≡ hex_pair b
 unfolding encode_with
 pair_is b = refl
