@@ -7,9 +7,9 @@ pub mod Delta
 pub mod Worked
 pub mod ReversibleLaws
 pub mod Links
--- inner: what only definitions and proofs of this crate use
+-- inner: used only within this crate
 pub mod SemaphoreChange
 pub mod Relinking
 pub mod Waits
--- what goes on with the files that the laws rest on
+-- helpers for those definitions
 pub mod Auxiliary

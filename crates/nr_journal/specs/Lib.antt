@@ -4,7 +4,7 @@ pub mod Rule
 pub mod Pass
 pub mod Seat
 pub mod Laws
--- inner: what only definitions and proofs of this crate use
+-- inner: used only within this crate
 pub mod Step
--- what goes on with the files that the laws rest on
+-- helpers for those definitions
 pub mod Auxiliary

@@ -2,5 +2,5 @@
 pub mod Hit
 pub mod Marks
 pub mod Numbered
--- what goes on with the files that the laws rest on
+-- helpers for those definitions
 pub mod Auxiliary

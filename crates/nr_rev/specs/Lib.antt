@@ -22,5 +22,5 @@ pub mod Aspect
 pub mod Transaction
 pub mod Worked
 pub mod Weight
--- what goes on with the files that the laws rest on
+-- helpers for those definitions
 pub mod Auxiliary

@@ -9,12 +9,12 @@ pub mod Change
 -- what callers need besides
 pub mod Back
 pub mod ReversibleLaws
--- inner: what only definitions and proofs of this crate use
+-- inner: used only within this crate
 pub mod Places
 pub mod Clearing
 pub mod Performing
 pub mod PathLaws
 pub mod ChangeLaws
 pub mod BackLaws
--- what goes on with the files that the laws rest on
+-- helpers for those definitions
 pub mod Auxiliary

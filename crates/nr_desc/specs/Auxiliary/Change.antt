@@ -1,5 +1,4 @@
--- Definitions besides `Change`: contracts and proofs cite them, but no law of THEOREM.md rests on
--- them.
+-- Helper definitions for `Change`. The laws in THEOREM.md don't use them.
 use Rattle.std.specs.Prelude.{ℕ, List, [], Option, Some, None, option_to_list}
 use Rattle.nr_rev.specs.declared.descriptor.Descriptor.{Descriptor}
 use Rattle.nr_rev.specs.declared.descriptor.WaitWord.{WaitWord}

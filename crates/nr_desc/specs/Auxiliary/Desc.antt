@@ -1,5 +1,4 @@
--- Definitions besides `Desc`: contracts and proofs cite them, but no law of THEOREM.md rests on
--- them.
+-- Helper definitions for `Desc`. The laws in THEOREM.md don't use them.
 use Rattle.std.specs.Prelude.{ℕ}
 use Rattle.nr_rev.specs.declared.descriptor.Descriptor.{Descriptor}
 use Rattle.nr_desc.specs.Marks.{marks_number}

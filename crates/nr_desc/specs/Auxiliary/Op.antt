@@ -1,4 +1,4 @@
--- Definitions besides `Op`: contracts and proofs cite them, but no law of THEOREM.md rests on them.
+-- Helper definitions for `Op`. The laws in THEOREM.md don't use them.
 use Rattle.std.specs.Prelude.{◌≡◌, ℕ, Option, Some, None, Result, Ok, Err, IfOk}
 use Rattle.nr_rev.specs.declared.descriptor.Descriptor.{Descriptor}
 use Rattle.nr_rev.specs.declared.refusal.Refusal.{Refusal}

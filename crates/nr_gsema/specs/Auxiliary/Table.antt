@@ -1,5 +1,4 @@
--- Definitions besides `Table`: contracts and proofs cite them, but no law of THEOREM.md rests on
--- them.
+-- Helper definitions for `Table`. The laws in THEOREM.md don't use them.
 use Rattle.std.specs.Prelude.{ℕ, List, [], ◌∷◌, ◌-◌, length, slice_get, slice_set, Option, Some, None, option_map, if◌then◌else◌, ◌==◌}
 use Rattle.nr_rev.specs.declared.sides.Side.{Side}
 use Rattle.nr_rev.specs.declared.sides.Sides.{Sides}

@@ -1,4 +1,4 @@
--- Definitions that contracts and proofs cite beside `Rule`. No law of THEOREM.md rests on them.
+-- Helper definitions for `Rule`. The laws in THEOREM.md don't use them.
 use Rattle.std.specs.Prelude.{◌≡◌, ℕ, ◌+◌, ◌%◌, ◌<◌, ◌≤◌, if◌then◌else◌, List, [], ◌∷◌, ◌++◌, length, replicate}
 use Rattle.std.specs.List.{All}
 use Rattle.std.specs.Int.{bit_at}

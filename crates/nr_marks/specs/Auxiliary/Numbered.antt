@@ -1,4 +1,4 @@
--- Definitions that contracts and proofs cite beside `Numbered`. No law of THEOREM.md rests on them.
+-- Helper definitions for `Numbered`. The laws in THEOREM.md don't use them.
 use Rattle.std.specs.Prelude.{ℕ, ◌<◌, ◌≤◌, List, [], ◌∷◌, map, Option, Some, None, if◌then◌else◌}
 use Rattle.nr_marks.specs.declared.numbered.Numbered.{Numbered}
 use Rattle.nr_marks.specs.Numbered.{NumberedItems, is_full, newest}

@@ -1,5 +1,4 @@
--- Definitions that contracts and proofs cite beside `Descriptor`. No law of THEOREM.md rests on
--- them.
+-- Helper definitions for `Descriptor`. The laws in THEOREM.md don't use them.
 use Rattle.std.specs.Prelude.{Result, Ok}
 use Rattle.nr_rev.specs.declared.sides.Side.TheVariants.{Read, Write}
 use Rattle.nr_rev.specs.declared.refusal.Refusal.{Refusal}

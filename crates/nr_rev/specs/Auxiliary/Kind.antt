@@ -1,4 +1,4 @@
--- Definitions that contracts and proofs cite beside `Kind`. No law of THEOREM.md rests on them.
+-- Helper definitions for `Kind`. The laws in THEOREM.md don't use them.
 use Rattle.std.specs.Prelude.{ℕ, ◌==◌, List, filter, length}
 use Rattle.nr_rev.specs.declared.kind.Kind.{Kind}
 use Rattle.nr_rev.specs.Kind.{kind_name, kinds}

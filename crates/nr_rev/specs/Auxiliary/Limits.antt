@@ -1,4 +1,4 @@
--- Definitions that contracts and proofs cite beside `Limits`. No law of THEOREM.md rests on them.
+-- Helper definitions for `Limits`. The laws in THEOREM.md don't use them.
 use Rattle.std.specs.Prelude.{Bool, ◌&&◌}
 use Rattle.nr_rev.specs.declared.limits.TheConstants.{MOST_GOROUTINES, MOST_SOCKETS, MOST_DESCRIPTORS, MOST_BUFFER}
 use Rattle.nr_rev.specs.declared.limits.Limits.{Limits}

@@ -1,4 +1,4 @@
--- Definitions that contracts and proofs cite beside `Refusing`. No law of THEOREM.md rests on them.
+-- Helper definitions for `Refusing`. The laws in THEOREM.md don't use them.
 use Rattle.std.specs.Prelude.{◌≡◌, Result, Ok, Err}
 
 -- true if the result, with its value mapped by the view, is the one that the definition gives

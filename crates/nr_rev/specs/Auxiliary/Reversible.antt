@@ -1,5 +1,4 @@
--- Definitions that contracts and proofs cite beside `Reversible`. No law of THEOREM.md rests on
--- them.
+-- Helper definitions for `Reversible`. The laws in THEOREM.md don't use them.
 use Rattle.std.specs.Prelude.{◌≡◌, ℕ, ◌+◌, ◌/◌, ◌≤◌, Bool, true}
 
 -- true if a delta weighs at most its operation's allowance, plus one word for each eight bytes, or

@@ -1,4 +1,4 @@
--- Definitions that contracts and proofs cite beside `Run`. No law of THEOREM.md rests on them.
+-- Helper definitions for `Run`. The laws in THEOREM.md don't use them.
 use Rattle.std.specs.Prelude.{◌≡◌, ℕ, slice_get, Some, Err, IsOk}
 use Rattle.nr_rev.specs.declared.refusal.Refusal.{Refusal}
 use Rattle.nr_rev.specs.declared.step.Step.{Step}

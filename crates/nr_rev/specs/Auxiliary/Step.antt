@@ -1,4 +1,4 @@
--- Definitions that contracts and proofs cite beside `Step`. No law of THEOREM.md rests on them.
+-- Helper definitions for `Step`. The laws in THEOREM.md don't use them.
 use Rattle.std.specs.Prelude.{◌≡◌, Ok}
 use Rattle.nr_rev.specs.declared.answer.Answer.{Answer}
 use Rattle.nr_rev.specs.declared.step.Step.{Step}

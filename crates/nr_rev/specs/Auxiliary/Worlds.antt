@@ -1,4 +1,4 @@
--- Definitions that contracts and proofs cite beside `Worlds`. No law of THEOREM.md rests on them.
+-- Helper definitions for `Worlds`. The laws in THEOREM.md don't use them.
 use Rattle.std.specs.Prelude.{◌<◌, List, length, Option, Some, None}
 
 -- true if there is a list and it isn't empty

@@ -1,5 +1,4 @@
--- Definitions besides `Sock`: contracts and proofs cite them, but no law of THEOREM.md rests on
--- them.
+-- Helper definitions for `Sock`. The laws in THEOREM.md don't use them.
 use Rattle.std.specs.Prelude.{ℕ, Bool, true, false, List, [], Option, Some, None}
 use Rattle.nr_rev.specs.declared.sides.Side.{Side}
 use Rattle.nr_rev.specs.Sides.{of_side, with_side}

@@ -1,5 +1,4 @@
--- Definitions besides `Index`: contracts and proofs cite them, but no law of THEOREM.md rests on
--- them.
+-- Helper definitions for `Index`. The laws in THEOREM.md don't use them.
 use Rattle.std.specs.Prelude.{◌≡◌, ℕ, zero, suc, ◌+◌, ◌-◌, ◌<◌, ◌≤◌, List, length, slice_index_or, sum_by}
 use Rattle.nr_rev.specs.declared.timer.Entry.{Entry}
 use Rattle.nr_timers.specs.Order.{at, AllBelow}

@@ -1,5 +1,4 @@
--- Definitions besides `PathToRoot`: contracts and proofs cite them, but no law of THEOREM.md rests
--- on them.
+-- Helper definitions for `PathToRoot`. The laws in THEOREM.md don't use them.
 use Rattle.std.specs.Prelude.{◌≡◌, ◌⊎◌, ℕ, zero, suc, ◌<◌, false, List, length}
 use Rattle.std.specs.List.{swap}
 use Rattle.nr_rev.specs.declared.timer.Entry.{Entry}

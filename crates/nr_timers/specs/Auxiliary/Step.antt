@@ -1,5 +1,4 @@
--- Definitions besides `Step`: contracts and proofs cite them, but no law of THEOREM.md rests on
--- them.
+-- Helper definitions for `Step`. The laws in THEOREM.md don't use them.
 use Rattle.std.specs.Prelude.{◌^◌, ◌-◌, ◌*◌, nat_lt, int_le, length, if◌then◌else◌, Option, Some, None}
 use Rattle.nr_rev.specs.declared.refusal.Refusal.{Refusal}
 use Rattle.nr_rev.specs.declared.refusal.Refusal.TheVariants.{NoSuchDescriptor, NoTimerDue, FiringsFull, NoSuchFiring, LastNumber}

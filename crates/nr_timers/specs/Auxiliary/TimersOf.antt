@@ -1,5 +1,4 @@
--- Definitions besides `TimersOf`: contracts and proofs cite them, but no law of THEOREM.md rests on
--- them.
+-- Helper definitions for `TimersOf`. The laws in THEOREM.md don't use them.
 use Rattle.std.specs.Prelude.{◌≡◌, ℕ, List, slice_index_or, Option, None}
 use Rattle.nr_rev.specs.declared.sides.Sides.{Sides}
 use Rattle.nr_rev.specs.declared.timer.Entry.{Entry}
