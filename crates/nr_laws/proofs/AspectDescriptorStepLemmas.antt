@@ -1,4 +1,4 @@
--- Steps on descriptors, waits, deadlines and timers change only the aspects that their kinds may change.
+-- Steps on descriptors, waits, deadlines and timers change only the aspects that their kinds allow.
 use Rattle.std.proofs.Common.{◌≡◌, ℕ, Bool, true, false, ◌&&◌, ◌||◌, not, List, [], ◌∷◌, ◌++◌, length, Option, Some, None, Result, Ok, refl, sym, ap, subst, ◌∙◌}
 use Rattle.std.specs.Prelude.{slice_get, if◌then◌else◌, ◌==◌, nat_lt, int_lt, int_le, ◌*◌, ℤ}
 use Rattle.std.specs.Ordering.{int_eq}
@@ -26,12 +26,12 @@ use Rattle.nr_rev.specs.World.{World, is_free_number, is_waited, least_entry, wi
 use Rattle.nr_laws.proofs.LookupLemmas.{Ends-row_of}
 use Rattle.nr_laws.proofs.AspectLemmas.{ComesTo, Leaves, Changes, DescriptorLeaves, ComesTo-ok, ComesTo-refused, ComesTo-ends, ComesTo-any, ComesTo-bind, ComesTo-then, ComesTo-either, not_both, Changes-after, Leaves-same, Leaves-then, Leaves-if, goroutines_set, waiters_set, firings_set, clock_set, free_set, next_arming_set, row_set, row_pushed}
 
--- ---- the parts of a descriptor's row that stay
+-- ---- the parts of a descriptor's row that a step doesn't change
 
 pub ComesTo-open_row_of : (d : ℕ) (w : World) → ComesTo (λ (row : DescriptorRow). slice_get w.descriptors d ≡ Some row) (open_row_of d w)
 ComesTo-open_row_of d w = ComesTo-then (ComesTo-any (refused_if (is_free_number d w.free) _)) λ _. ComesTo-ends (Ends-row_of d w)
 
--- a descriptor's state changes, and its timers stay
+-- a descriptor's state changes, but not its timers
 descriptor_set : (aspects : List Aspect) (w : World) (d : ℕ) (row : DescriptorRow) (descriptor : Descriptor) → slice_get w.descriptors d ≡ Some row → DescriptorLeaves aspects row.descriptor descriptor
     → Leaves aspects w (with_descriptor d row descriptor w)
 descriptor_set aspects w d row descriptor at kept = row_set aspects w d row _ at kept (λ _. refl)
@@ -146,7 +146,8 @@ waitcheck_changes w g =
 
 -- ---- changes of a descriptor with its timers
 
--- the parts of the descriptor that a change leaves; it orders the timers only if they may change
+-- a change modifies only these aspects of the descriptor, and has timer orders only if Timers is
+-- one
 pub record ChangeLeaves (aspects : List Aspect) (old : Descriptor) (change : Change) : Type 0 where
   pub descriptor : DescriptorLeaves aspects old change.descriptor
   pub orders : is_among aspects Timers ≡ false → change.orders ≡ []
@@ -184,7 +185,7 @@ unblocked_leaves : (aspects : List Aspect) (ioready : Bool) (side : Side) (d : D
 unblocked_leaves aspects ioready side d may =
     record { descriptor = record { words = λ e. not_both _ may e; deadlines = λ _. refl; sequences = λ _. refl; tag = λ _. refl; info = λ _. refl }; orders = λ _. refl }
 
--- the timers after orders: unless the timers may change, there are no orders
+-- carrying out the orders doesn't change the timers unless Timers is among the aspects
 orders_leave : (aspects : List Aspect) (orders : List TimerOrder) (before : Sides (Option Timer) × ℕ) → (is_among aspects Timers ≡ false → orders ≡ [])
     → ComesTo (λ (left : Sides (Option Timer) × ℕ). is_among aspects Timers ≡ false → left.0 ≡ before.0) (after_orders orders before)
 orders_leave aspects orders before none =
@@ -307,7 +308,7 @@ pop_changes w =
 expire_leaves : (side : Side) (d : Descriptor) → ChangeLeaves (changed_aspects Kind.Fire) d (expire side d)
 expire_leaves side d = record { descriptor = record { words = λ e. cc; deadlines = λ e. cc; sequences = λ _. refl; tag = λ _. refl; info = λ e. cc }; orders = λ _. refl }
 
--- the parts that a firing leaves, if it isn't stale
+-- a firing that isn't stale modifies only these aspects of the descriptor
 abbrev FiringLeaves : Descriptor → Option Change → Type 0
 FiringLeaves d change = (x : Change) → change ≡ Some x → ChangeLeaves (changed_aspects Kind.Fire) d x
 

@@ -1,4 +1,4 @@
--- A change of a world leaves the cells of all aspects but some.
+-- A change of a world modifies only cells of certain aspects.
 use Rattle.std.proofs.Common.{◌≡◌, ℕ, ◌+◌, Bool, true, false, List, [], ◌∷◌, ◌++◌, map, length, Some, Result, Ok, Err, refl, sym, ap, subst, ◌∙◌, true≢false, zero, suc}
 use Rattle.std.specs.Prelude.{slice_get, slice_set, if◌then◌else◌, ℤ}
 use Rattle.nr_rev.specs.declared.answer.Answer.{Answer}
@@ -63,7 +63,7 @@ pub ComesTo-either : {A : Type 0} {P : A → Type 0} (c : Bool) {x y : Result A 
 ComesTo-either true a b = a
 ComesTo-either false a b = b
 
--- an aspect can't be among these and not among them
+-- an aspect can't both be in a list and not be in it
 pub not_both : {A : Type 0} (among : Bool) → among ≡ true → among ≡ false → A
 not_both among is isnt = absurd (true≢false (sym is ∙ isnt))
 
@@ -73,7 +73,7 @@ Leaves-same = record { each = λ c _. refl }
 pub Leaves-then : {aspects : List Aspect} {w between next : World} → Leaves aspects w between → Leaves aspects between next → Leaves aspects w next
 Leaves-then first second = record { each = λ c e. second.each c e ∙ first.each c e }
 
--- a step after a change of the world
+-- a change of the world, followed by a step
 pub Changes-after : {aspects : List Aspect} {w between : World} {o : Result (Answer × World) Refusal} → Leaves aspects w between → Changes aspects between o → Changes aspects w o
 Changes-after first step = record { value = λ left is. Leaves-then first (step.value left is) }
 
@@ -94,7 +94,7 @@ goroutines_set aspects w goroutines may = record { each = each }
     each (Cell.Goroutine g) e = not_both _ may e
     each c e = refl
 
--- a status that is overwritten by itself
+-- overwriting a status with the same status
 pub status_kept : (aspects : List Aspect) (w : World) (g : ℕ) (status : Status) → slice_get w.goroutines g ≡ Some status → Leaves aspects w (with_status g status w)
 status_kept aspects w g status at = record { each = each }
   where
@@ -140,7 +140,7 @@ next_arming_set aspects w number = record { each = each }
 
 -- ---- sockets
 
--- the parts of a socket that a change leaves
+-- true if only parts of the socket that belong to these aspects change
 pub record SocketLeaves (aspects : List Aspect) (old new : Socket) : Type 0 where
   pub lock : is_among aspects Locks ≡ false → new.lock ≡ old.lock
   pub semaphores : is_among aspects Semaphores ≡ false → new.semaphores ≡ old.semaphores
@@ -163,7 +163,7 @@ socket_set aspects w s old new at kept = record { each = each }
     each (Cell.Shut k) e = of_value (λ x. Number (bit x.shut)) k (ap (λ shut. Number (bit shut)) (kept.shut e))
     each c e = refl
 
--- the aspects of all cells of sockets
+-- true if these aspects include those of all cells of sockets
 pub record AreSockets (aspects : List Aspect) : Type 0 where
   pub locks : is_among aspects Locks ≡ true
   pub semaphores : is_among aspects Semaphores ≡ true
@@ -185,7 +185,7 @@ sockets_set aspects w sockets may = record { each = each }
 
 -- ---- descriptors
 
--- the parts of a descriptor that a change leaves
+-- true if only parts of the descriptor that belong to these aspects change
 pub record DescriptorLeaves (aspects : List Aspect) (old new : Descriptor) : Type 0 where
   pub words : is_among aspects WaitWords ≡ false → new.words ≡ old.words
   pub deadlines : is_among aspects Deadlines ≡ false → new.deadlines ≡ old.deadlines
@@ -226,7 +226,7 @@ no_entries_more : (k : ℕ) (rows : List DescriptorRow) → entries_from k (map 
 no_entries_more k [] = refl
 no_entries_more k (row ∷ rows) = ap (λ es. entries_at k row.timers ++ es) (no_entries_more (k + 1) rows)
 
--- the aspects of all cells of descriptors
+-- true if these aspects include those of all cells of descriptors
 pub record AreDescriptors (aspects : List Aspect) : Type 0 where
   pub words : is_among aspects WaitWords ≡ true
   pub deadlines : is_among aspects Deadlines ≡ true

@@ -1,4 +1,5 @@
--- Steps of goroutines, on locks and semaphores and of sockets change only the aspects that their kinds may change.
+-- Steps on goroutines, locks, semaphores and sockets change only the aspects that their kinds
+-- allow.
 use Rattle.std.proofs.Common.{◌≡◌, ℕ, true, List, length, Option, Some, None, Result, Ok, refl}
 use Rattle.std.specs.Prelude.{slice_get, if◌then◌else◌, ◌==◌, nat_lt, nat_le}
 use Rattle.nr_rev.specs.declared.kind.Kind.{Kind}

@@ -1,4 +1,4 @@
--- The parts of a test that holds, and of one that doesn't.
+-- What the value of a conjunction, disjunction or negation says about its operands.
 use Rattle.std.proofs.Common.{◌≡◌, Bool, true, false, not, ◌&&◌, ◌||◌, refl}
 
 pub both_true : (a b : Bool) → (a && b) ≡ true → (a ≡ true) × (b ≡ true)
@@ -17,7 +17,7 @@ pub not_false : (a : Bool) → not a ≡ false → a ≡ true
 not_false true e = refl
 not_false false e = cc
 
--- a truth value that is never true is false
+-- a Boolean that isn't true is false
 pub never_true : (a : Bool) → (a ≡ true → ⊥) → a ≡ false
 never_true true never = absurd (never refl)
 never_true false never = refl

@@ -1,4 +1,5 @@
--- A change of a descriptor keeps a world well formed: its timers are set first, then its words are unblocked.
+-- A change of a descriptor, which sets its timers and then unblocks its words, keeps a world well
+-- formed.
 use Rattle.std.proofs.Common.{◌≡◌, ℕ, zero, suc, Bool, true, false, List, [], ◌∷◌, ◌++◌, Option, Some, refl, sym, ap, subst, ◌∙◌, set, None, true≢false}
 use Rattle.std.specs.Prelude.{slice_get}
 use Rattle.nr_rev.specs.declared.sides.Side.{Side}
@@ -42,7 +43,7 @@ woken_append : (gs hs : List ℕ) (w : World) → after_wakes (gs ++ hs) w ≡ a
 woken_append [] hs w = refl
 woken_append (g ∷ gs) hs w = woken_append gs hs (after_wakes (g ∷ []) w)
 
--- the world after a change of descriptor d, which has these timers
+-- the world after a change of descriptor d that leaves it with these timers
 abbrev changed_world : ℕ → Sides (Option Timer) → Change → World → World
 changed_world d timers change w = after_wakes change.woken (with_row d (record { descriptor = change.descriptor; timers = timers }) w)
 
@@ -109,7 +110,7 @@ changed_keeps {T = T} w d row base reads writes ioready h at is_open quiets word
     then_if_keeps (record w { next_arming = left.1 }) d row left.0 (then_if base reads (unblocked ioready Read)) writes Write ioready at is_open
     (then_if_keeps (record w { next_arming = left.1 }) d row left.0 base reads Read ioready at is_open first)
 
--- a timer exists only on a side that runs
+-- a side that isn't running has no timer
 pub none_at_rest : (row : DescriptorRow) (side : Side) → RowFits row → of_side side row.descriptor.running ≡ false → of_side side row.timers ≡ None
 none_at_rest row side h rest = go (of_side side row.timers) refl
   where

@@ -1,4 +1,4 @@
--- A descriptor is taken, from the front of the free ones or else a new one: the world stays well formed.
+-- Taking a descriptor, the first free one or a new one, keeps the world well formed.
 use Rattle.std.proofs.Common.{◌≡◌, ℕ, ◌<◌, true, ◌||◌, Option, Some, refl, subst, ◌+◌, false, [], ◌++◌, None, inr, sym, ap, ◌∙◌, arith, true≢false, lit<, ◌≤◌, List, ◌∷◌, ◌⊎◌, inl, length, length-append, All}
 use Rattle.std.specs.Prelude.{slice_get, ◌==◌, nat_lt, count_by, sum_by, option_map}
 use Rattle.nr_rev.specs.declared.sides.Side.{Side}

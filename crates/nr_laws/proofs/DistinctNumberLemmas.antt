@@ -1,4 +1,4 @@
--- A list of distinct numbers below n has at most n of them.
+-- A list of distinct numbers below n has at most n elements.
 use Rattle.std.proofs.Common.{◌≡◌, ℕ, ◌+◌, ◌<◌, ◌≤◌, Bool, true, false, ◌||◌, cond, nat_eq, List, [], ◌∷◌, length, All, refl, sym, ap, ◌∙◌, subst, arith}
 use Rattle.std.proofs.lemmas.Bool.{eqb-true, eq-eqb}
 use Rattle.std.proofs.lemmas.List.Sums.{sum_by-cons}
@@ -67,7 +67,7 @@ below_each (x ∷ xs) n k h some =
 pub below_each_time : (xs : List ℕ) (n k : ℕ) → All (λ x. x < n) xs → 0 < times k xs → k < n
 below_each_time xs n k h some = below_each xs n k (recursion_from_All (λ x. x < n) xs h) some
 
--- a number that a test doesn't find in a list is nowhere in it
+-- if the search for a number in a list fails, the list contains it zero times
 pub nowhere_in : (k : ℕ) (xs : List ℕ) → list_any (nat_eq k) xs ≡ false → times k xs ≡ 0
 nowhere_in k [] h = refl
 nowhere_in k (x ∷ xs) h =
@@ -76,11 +76,11 @@ nowhere_in k (x ∷ xs) h =
       | false ↦ λ e z. times-cons k x xs ∙ ap (λ t. cond t 1 0 + times k xs) (swapped k x false e) ∙ (let rest = nowhere_in k xs z in omega (arith, rest))
     ]) refl h
 
--- at most n distinct numbers are below n
+-- a list of distinct numbers below n has at most n elements
 pub few_below : (xs : List ℕ) (n : ℕ) → ((k : ℕ) → times k xs ≤ 1) → ((k : ℕ) → 0 < times k xs → k < n) → length xs ≤ n
 few_below xs n once below = length-le_from_distinct_below xs n (distinct xs once) (λ q h. below q (found_in q xs h))
 
--- if another number is below n, there is room for it beside the distinct ones
+-- if the list lacks a number below n, it has fewer than n elements
 pub room_for : (xs : List ℕ) (n x : ℕ) → ((k : ℕ) → times k xs ≤ 1) → ((k : ℕ) → 0 < times k xs → k < n) → times x xs ≡ 0 → x < n → length xs < n
 room_for xs n x once below new within =
     let whole : length (x ∷ xs) ≤ n =

@@ -7,7 +7,7 @@ use Rattle.nr_rev.specs.declared.timer.Entry.{Entry}
 use Rattle.nr_rev.specs.World.{empty_world}
 use Rattle.nr_rev.specs.WellFormed.{WellFormed, HasView, TimerPlace, ArmedAt, FiringAt, timer_at}
 
--- a view that shows nothing of an idle goroutine shows nothing of the only one
+-- a view that is None for an idle goroutine is None for the only goroutine of the empty world
 shows_none : {A : Type 0} (view : Status → Option A) (g : ℕ) (a : A) → view Idle ≡ None → HasView view (Idle ∷ []) g a → ⊥
 shows_none view zero a none shows = cc
 shows_none view (suc g) a none shows = cc

@@ -1,4 +1,4 @@
--- The free numbers, as a test and as a count, and the room in their list.
+-- Whether a number is free, how often the free list contains it, and how long that list can be.
 use Rattle.std.proofs.Common.{◌≡◌, ℕ, Bool, true, ◌||◌, refl, false, [], inr, sym, ap, ◌∙◌, arith, true≢false, ◌≢◌, List, ◌∷◌, ◌⊎◌, inl, ap₂, ◌<◌, length, Option, Some, None, Result, Ok, Err}
 use Rattle.std.proofs.lemmas.Option.{slice_get_within}
 use Rattle.std.specs.Prelude.{◌==◌, OnOk, count_by, slice_get}
@@ -17,7 +17,7 @@ use Rattle.nr_rev.proofs.NumberLemmas.{count_front, number_same, same_number}
 swap_equal : (a b : ℕ) → (a == b) ≡ (b == a)
 swap_equal a b = grind arith
 
--- a number that isn't free is in the list zero times
+-- the free list contains a number that isn't free zero times
 pub uncounted : (d : ℕ) (free : List ℕ) → is_free_number d free ≡ false → count_by (λ f. f == d) free ≡ 0
 uncounted d [] e = refl
 uncounted d (f ∷ free) e =
@@ -53,7 +53,7 @@ free_more k d free e = go (k == d) e
     go true e = refl
     go false e = e
 
--- the free list has room for an open descriptor
+-- while a descriptor is open, the free list has room for one more number
 free_room : (w : World) (d : ℕ) (row : DescriptorRow) → WellFormed w → is_free_number d w.free ≡ false → slice_get w.descriptors d ≡ Some row → length w.free < w.limits.descriptors
 free_room w d row h not_free at =
     let room : length w.free < length w.descriptors =

@@ -46,7 +46,7 @@ Ends-open_row_of d w =
     Ends-then (Ends-refused_if (is_free_number d w.free) _ refl) λ is_open.
     Ends-map (Ends-row_of d w) λ row at. (at, is_open)
 
--- a step of an idle goroutine on an open descriptor
+-- a step that an idle goroutine makes on an open descriptor
 pub Ends-idle_open : {A : Type 0} {P : A → Type 0} (g d : ℕ) (w : World) {rest : DescriptorRow → Result A Refusal}
     → ((row : DescriptorRow) → slice_get w.goroutines g ≡ Some Idle → slice_get w.descriptors d ≡ Some row → is_free_number d w.free ≡ false → Ends P (rest row))
     → Ends P (idle g w >> open_row_of d w >>= rest)
@@ -71,7 +71,7 @@ nobody_inside (status ∷ gs) d side zero e p =
     true≢false (sym (ap (is_wait_at d side) p ∙ is_place_here d side) ∙ (neither_of _ _ e).0)
 nobody_inside (status ∷ gs) d side (suc g) e p = nobody_inside gs d side g (neither_of _ _ e).1 p
 
--- the state that a step requires of a goroutine
+-- the status that a step requires of a goroutine
 pub Ends-acquiring_of : (status : Status) → Ends (λ (place : ℕ × Side). status ≡ Acquiring place.0 place.1) (acquiring_of status)
 Ends-acquiring_of (Acquiring s side) = Ends-ok refl
 Ends-acquiring_of _ = Ends-refused refl

@@ -1,4 +1,4 @@
--- A descriptor's row changes, alone or with statuses of goroutines: the world stays well formed.
+-- Changing a descriptor's row, alone or with statuses of goroutines, keeps a world well formed.
 use Rattle.std.proofs.Common.{◌≡◌, ℕ, ◌+◌, false, List, Some, inl, inr, refl, sym, ap, ◌∙◌, set, length, length-set, arith, true≢false, get_or}
 use Rattle.std.proofs.lemmas.Option.{slice_get_within, get_or_from_slice_get}
 use Rattle.std.proofs.lemmas.List.Sums.{sum_by-set}
@@ -29,7 +29,7 @@ GoroutinesFit-rows gs sockets rows new free same h =
       owed = h.owed;
     }
 
--- the row of an open descriptor doesn't concern the free ones
+-- changing the row of an open descriptor doesn't affect the free descriptors
 pub FreeFits-open : (rows : List DescriptorRow) (free : List ℕ) (d : ℕ) (old new : DescriptorRow) → slice_get rows d ≡ Some old → is_free_number d free ≡ false → FreeFits rows free
     → FreeFits (set rows d new) free
 FreeFits-open rows free d old new at is_open h =
@@ -71,7 +71,7 @@ WaitWordsFit-rows gs rows waiters d old new at same h =
         ≡ option_map (λ (r : DescriptorRow). of_side side r.descriptor.words) (slice_get rows k)
     word k side = slice_get-set_unseen (option_map (λ (r : DescriptorRow). of_side side r.descriptor.words)) rows d old new k at (ap (λ (w : Sides WaitWord). Some (of_side side w)) same)
 
--- an open descriptor's row changes, and goroutines with it
+-- an open descriptor's row and the statuses of goroutines change together
 pub row_keeps : (w : World) (gs : List Status) (waiters d m : ℕ) (old new : DescriptorRow) → WellFormed w → slice_get w.descriptors d ≡ Some old → is_free_number d w.free ≡ false
     → length gs ≡ length w.goroutines → GoroutinesFit gs w.sockets w.descriptors w.free → QueuesFit gs w.sockets → WaitWordsFit gs (set w.descriptors d new) waiters
     → TimersChanged w.firings d old new w.next_arming m → WellFormed (record w { goroutines = gs; descriptors = set w.descriptors d new; waiters = waiters; next_arming = m })
@@ -90,13 +90,13 @@ row_keeps w gs waiters d m old new h at is_open as_many goroutines queues words 
       clock = h.clock;
     }
 
--- a row's timers change, and its words stay
+-- a row's timers change, but not its words
 pub timers_changed_keeps : (w : World) (d m : ℕ) (old new : DescriptorRow) → WellFormed w → slice_get w.descriptors d ≡ Some old → is_free_number d w.free ≡ false
     → new.descriptor.words ≡ old.descriptor.words → TimersChanged w.firings d old new w.next_arming m → WellFormed (record (with_row d new w) { next_arming = m })
 timers_changed_keeps w d m old new h at is_open same change =
     row_keeps w w.goroutines w.waiters d m old new h at is_open refl h.goroutines h.queues (WaitWordsFit-rows w.goroutines w.descriptors w.waiters d old new at same h.words) change
 
--- a goroutine moves, and the words of a row change with it
+-- a goroutine's status and the words of a row change together
 pub words_and_status_keep : (w : World) (g waiters d : ℕ) (old new : Status) (row : DescriptorRow) (words : Sides WaitWord) → WellFormed w → slice_get w.goroutines g ≡ Some old
     → slice_get w.descriptors d ≡ Some row → is_free_number d w.free ≡ false → MayMove w.goroutines w.sockets w.descriptors w.free g new
     → ((s : ℕ) (side : Side) → is_queued s side (Some new) ≡ is_queued s side (Some old)) → WaitWordsFit (set w.goroutines g new) (set w.descriptors d (with_words row words)) waiters

@@ -33,7 +33,7 @@ may_name w g s new within none named owes_none =
       owes = λ reads writes e. absurd (none-some _ (sym owes_none ∙ e));
     }
 
--- the fields of a socket after a semaphore of a side changed
+-- the socket with a new semaphore on a side
 abbrev with_new_semaphore : Side → Socket → Semaphore → Socket
 with_new_semaphore side socket semaphore = record socket { semaphores = with_side side semaphore socket.semaphores }
 
@@ -69,7 +69,7 @@ queue_popped Read Write f k count q socket e = omega arith
 queue_popped Write Read f k count q socket e = omega arith
 queue_popped Write Write f k count q socket e = let a = ap (count_by (λ h. h == k)) e in let b = count_front f k q in omega arith
 
--- the bit of a view at k, after g moved
+-- how the bit of a view at k changes when g's status changes
 pub bits_moved : (view : Option Status → Bool) (gs : List Status) (g k : ℕ) (from to : Status) → slice_get gs g ≡ Some from
     → bit (view (slice_get (set gs g to) k)) + bit (view (Some from) && (g == k)) ≡ bit (view (slice_get gs k)) + bit (view (Some to) && (g == k))
 bits_moved view gs g k from to at =
@@ -120,7 +120,7 @@ goes_on w g s side socket h at there =
     (λ k e. rw length-set (subst (λ (n : ℕ). n < length w.sockets) (same_Some _ _ e) (slice_get_within _ _ _ there)))
     (λ reads writes e. cc)
 
--- the semaphore after an acquire, free or not
+-- the semaphore after an acquire, whether it was free or not
 abbrev taken : Bool → ℕ → Semaphore → Semaphore
 taken free g semaphore = if free then record semaphore { count = semaphore.count - 1 } else record semaphore { queue = semaphore.queue ++ g ∷ [] }
 
@@ -130,7 +130,7 @@ acquires : (w : World) (g s : ℕ) (side : Side) (socket : Socket) (free : Bool)
 acquires w g s side socket true h at there = Ends-ok (goes_on w g s side socket h at there)
 acquires w g s side socket false h at there = Ends-ok (queues w g s side socket h at there)
 
--- the front of a queue that holds exactly the queued goroutines is queued
+-- if a queue contains exactly the queued goroutines, the first of them is queued
 pub front_queued : (gs : List Status) (s f : ℕ) (side : Side) (q : List ℕ) → ((g : ℕ) → count_by (λ h. h == g) (f ∷ q) ≡ bit (is_queued s side (slice_get gs g)))
     → slice_get gs f ≡ Some (Queued s side)
 front_queued gs s f side q queued = go (slice_get gs f) refl
@@ -160,7 +160,7 @@ front_queued gs s f side q queued = go (slice_get gs f) refl
     go None at = let a : bit (is_queued s side (slice_get gs f)) ≡ 0 = ap (λ o. bit (is_queued s side o)) at in let b = shows in absurd (omega arith)
     go (Some status) at = at ∙ ap Some (is_it status (sym (ap (λ o. bit (is_queued s side o)) at) ∙ shows))
 
--- the world after a release of a semaphore, and the status of the goroutine that owed it
+-- true if next is well formed, has as many sockets as w, and no goroutine's owed releases changed
 pub record Released (w next : World) : Type 0 where
   pub fits : WellFormed next
   pub sockets : length next.sockets ≡ length w.sockets

@@ -1,4 +1,5 @@
--- setdeadline keeps a world well formed: each side's timer is adjusted, and sides whose deadline is past are unblocked.
+-- setdeadline, which adjusts each side's timer and unblocks a side if its deadline is past, keeps a
+-- world well formed.
 use Rattle.std.proofs.Common.{lit<, pos, negsuc, ◌≡◌, ◌≢◌, ℕ, ◌+◌, ◌^◌, ◌<◌, ◌≤◌, ℤ, int_eq, Bool, true, false, not, ◌&&◌, List, [], ◌∷◌, ◌++◌, Option, Some, None, Result, Ok, Err, ◌⊎◌, inl, inr, refl, sym, ap, ap₂, subst, ◌∙◌, arith, true≢false}
 use Rattle.std.proofs.lemmas.Option.{same_Some}
 use Rattle.std.specs.Prelude.{slice_get, if◌then◌else◌, ◌≤ℤ◌, ◌-◌, nat_lt}
@@ -67,7 +68,7 @@ pub record OrdersDone (side : Side) (old new : Descriptor) (before after : Sides
 abbrev OrdersEnd : Side → Descriptor → Descriptor → Sides (Option Timer) → ℕ → List TimerOrder → Type 0
 OrdersEnd side old new before n orders = Ends (λ (left : Sides (Option Timer) × ℕ). OrdersDone side old new before left.0 n left.1) (after_orders orders (before, n))
 
--- the orders of a side, carried out
+-- carrying out the orders of a side
 Ends-update : (side : Side) (old new : Descriptor) (before : Sides (Option Timer)) (n : ℕ) (update : TimerUpdate side old new) → OrdersEnd side old new before n (orders_of side old new update)
 Ends-update side old new before n (TimerUpdate.Kept sequence running same) =
     Ends-ok (record { update = TimerUpdate.Kept sequence running same; timer = refl; other = λ s apart. refl; number = λ t is. cc; rises = omega arith; range = λ b. b })
@@ -97,26 +98,26 @@ Ends-update side old new before n (TimerUpdate.Stopped raised halted) =
 Ends-updated_by : (side : Side) (old new : Descriptor) (before : Sides (Option Timer)) (n : ℕ) (orders : List TimerOrder) → UpdatedBy side old new orders → OrdersEnd side old new before n orders
 Ends-updated_by side old new before n orders (update, is) = subst (OrdersEnd side old new before n) (sym is) (Ends-update side old new before n update)
 
--- a remaining timer was there before, or would also remain if there had been none
+-- a timer that remains existed before, or would remain even if none had existed
 old_or_new : (side : Side) (old new : Descriptor) (before : Option Timer) (n : ℕ) (update : TimerUpdate side old new) (t : Timer) → timer_left side old new before n update ≡ Some t
     → (before ≡ Some t) ⊎ (timer_left side old new None n update ≡ Some t)
 old_or_new side old new before n (TimerUpdate.Kept sequence running same) t is = inl is
 old_or_new side old new before n (TimerUpdate.Armed begun running wants) t is = inr is
 old_or_new side old new before n (TimerUpdate.Stopped raised halted) t is = inr is
 
--- another continuation of the same beginning
+-- two computations that begin alike and continue differently
 Ends-after : {A B C : Type 0} {P : B → Type 0} {Q : C → Type 0} (m : Result A Refusal) {f : A → Result B Refusal} {g : A → Result C Refusal} → Ends P (m >>= f)
     → ((a : A) → Ends P (f a) → Ends Q (g a)) → Ends Q (m >>= g)
 Ends-after (Ok a) first next = next a first
 Ends-after (Err reason) first next = Ends-refused (first.given reason refl)
 
--- orders after others
+-- carrying out two lists of orders in turn
 Ends-append : {P Q : Sides (Option Timer) × ℕ → Type 0} (xs ys : List TimerOrder) (before : Sides (Option Timer) × ℕ) → Ends P (after_orders xs before)
     → ((mid : Sides (Option Timer) × ℕ) → P mid → Ends Q (after_orders ys mid)) → Ends Q (after_orders (xs ++ ys) before)
 Ends-append [] ys before first next = next before (first.value before refl)
 Ends-append (x ∷ xs) ys before first next = Ends-after (after_order x before) first λ a first. Ends-append xs ys a first next
 
--- both sides' timers were adjusted: the row's timers changed
+-- both sides' timers are adjusted, so the row's timers change
 module _ (w : World) (d : ℕ) (row : DescriptorRow) (new : Descriptor) (first last : Sides (Option Timer)) (k m : ℕ) (h : WellFormed w) (at : slice_get w.descriptors d ≡ Some row)
     (read : OrdersDone Read row.descriptor new row.timers first w.next_arming k) (write : OrdersDone Write row.descriptor new first last k m) where
   reads_apart : Read ≢ Write
@@ -145,7 +146,7 @@ module _ (w : World) (d : ℕ) (row : DescriptorRow) (new : Descriptor) (first l
   range_of Read t is = let n = read.number t is in let a = n.0 in let b = n.1 in let u = write.rises in (omega arith, omega arith)
   range_of Write t is = let n = write.number t is in let a = n.0 in let b = n.1 in let u = read.rises in (omega arith, omega arith)
 
-  -- a side whose timer was armed anew
+  -- the timer of this side is replaced
   begins : (side : Side) → SequenceFresh side row.descriptor new → ((t : Timer) → of_side side last ≡ Some t → (w.next_arming ≤ t.number) × (t.number < m))
       → SideTimerReplaced side row after w.next_arming m
   begins side begun number =
@@ -164,7 +165,7 @@ module _ (w : World) (d : ℕ) (row : DescriptorRow) (new : Descriptor) (first l
       go (TimerUpdate.Armed begun running wants) left range = inr (begins side begun (λ t is. range t (sym left ∙ is)))
       go (TimerUpdate.Stopped raised halted) left range = inr (begins side (inr raised) (λ t is. range t (sym left ∙ is)))
 
-  -- a timer with a new number was ordered
+  -- a timer with a new number results from this side's orders
   ordered : (side : Side) (t : Timer) → of_side side last ≡ Some t → w.next_arming ≤ t.number → timer_left side row.descriptor new None (number_of side) (update_of side) ≡ Some t
   ordered side t is new_number =
       elim (old_or_new side row.descriptor new (of_side side row.timers) (number_of side) (update_of side) t (sym (left_of side) ∙ is)) [
@@ -172,7 +173,7 @@ module _ (w : World) (d : ℕ) (row : DescriptorRow) (new : Descriptor) (first l
         | inr ordered_now ↦ ordered_now
       ]
 
-  -- a new number of the read side is below one of the write side
+  -- if both sides have new timers, the read side's has the lower number
   numbers_apart : (a b : Timer) → last.read ≡ Some a → last.write ≡ Some b → w.next_arming ≤ a.number → w.next_arming ≤ b.number → a.number < b.number
   numbers_apart a b is_a is_b new_a new_b =
       let x = read.number a (ordered Read a is_a new_a) in
@@ -211,7 +212,7 @@ module _ (w : World) (d : ℕ) (row : DescriptorRow) (new : Descriptor) (first l
         in_range = write.range (read.range h.timers.in_range);
       }
 
--- the earlier of a time and the greatest time
+-- capping a time at the greatest time gives a time
 min_is_time : (n : ℕ) → IsTime (int_min (pos n) (pos (2 ^ 63 - 1)))
 min_is_time n = go (nat_lt (2 ^ 63 - 1) n) refl
   where
@@ -223,7 +224,7 @@ either_time : (b : Bool) (s t : ℤ) → IsTime s → IsTime t → IsTime (if b 
 either_time true s t first second = first
 either_time false s t first second = second
 
--- a deadline, set or not, is a time
+-- the deadline that a call sets or clears is a time
 deadline_is_time : (clock t : ℤ) → pos 0 ≤ℤ clock → IsTime t → IsTime (deadline_from clock t)
 deadline_is_time (pos c) (pos k) begun is_time = either_time (is_positive (pos k)) _ (pos k) (min_is_time (c + k)) is_time
 deadline_is_time (pos c) (negsuc k) begun is_time = is_time

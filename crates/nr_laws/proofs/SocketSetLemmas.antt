@@ -1,4 +1,4 @@
--- A socket changes, alone or with a goroutine's status: the world stays well formed.
+-- Changing a socket, alone or with a goroutine's status, keeps a world well formed.
 use Rattle.std.proofs.Common.{◌≡◌, ℕ, List, Some, ap, ◌∙◌, length, length-set, refl, inl, inr, sym, ◌≢◌, set}
 use Rattle.std.proofs.lemmas.Option.{same_Some}
 use Rattle.std.specs.Prelude.{slice_get, ◌==◌, count_by}
@@ -14,7 +14,7 @@ use Rattle.nr_rev.proofs.ListUpdateLemmas.{slice_get-set_cases, slice_get-set_un
 use Rattle.std.specs.Option.{option_and_then}
 use Rattle.nr_laws.proofs.StatusViewLemmas.{WaitWordsFit-same}
 
--- a socket changes together with goroutines, and its queues match their statuses
+-- a socket and statuses of goroutines change together, and the socket's queues match the statuses
 socket_keeps : (w : World) (gs : List Status) (s : ℕ) (old new : Socket) → WellFormed w → slice_get w.sockets s ≡ Some old → length gs ≡ length w.goroutines
     → GoroutinesFit gs w.sockets w.descriptors w.free → WaitWordsFit gs w.descriptors w.waiters
     → ((k t : ℕ) (side : Side) → t ≢ s → is_queued t side (slice_get gs k) ≡ is_queued t side (slice_get w.goroutines k))
@@ -51,7 +51,7 @@ socket_keeps w gs s old new h at as_many goroutines words elsewhere counts fits 
       clock = h.clock;
     }
 
--- a socket changes, except for its queues
+-- a socket changes, but not its queues
 pub socket_set_keeps : (w : World) (s : ℕ) (old new : Socket) → WellFormed w → slice_get w.sockets s ≡ Some old
     → ((side : Side) → (of_side side new.semaphores).queue ≡ (of_side side old.semaphores).queue) → SocketFits w.limits.buffer new → WellFormed (with_socket s new w)
 socket_set_keeps w s old new h at same fits =

@@ -1,4 +1,4 @@
--- A goroutine's status changes: the world stays well formed.
+-- Changing a goroutine's status keeps a world well formed.
 use Rattle.std.proofs.Common.{◌≡◌, ◌≢◌, ℕ, ◌+◌, ◌<◌, List, Option, Some, ◌⊎◌, inl, inr, sym, ap, ◌∙◌, set, length, Bool, true, false, None, refl, subst, length-set, arith}
 use Rattle.std.specs.Prelude.{slice_get, if◌then◌else◌, ◌==◌}
 use Rattle.std.specs.Option.{option_and_then}
@@ -17,7 +17,7 @@ use Rattle.nr_rev.specs.Step.{owing}
 use Rattle.nr_rev.specs.declared.sides.Side.TheVariants.{Read, Write}
 use Rattle.nr_rev.specs.Sides.{of_side}
 
--- the view of a goroutine after g moved: for g, that of its new status; for the others, the old one
+-- after g's status changes, the view of g is that of the new status, and other views are the same
 pub view_cases : {A : Type 0} (view : Status → Option A) (gs : List Status) (g : ℕ) (old new : Status) (k : ℕ) (a : A) → slice_get gs g ≡ Some old → HasView view (set gs g new) k a
     → ((k ≡ g) × (view new ≡ Some a)) ⊎ ((k ≢ g) × HasView view gs k a)
 view_cases view gs g old new k a at shows =
@@ -26,7 +26,7 @@ view_cases view gs g old new k a at shows =
       | inr other ↦ inr (other.0, sym (ap (option_and_then view) other.1) ∙ shows)
     ]
 
--- a view that held still holds, unless it is that of g
+-- a view stays the same unless it is the view of g
 pub view_kept : {A : Type 0} (view : Status → Option A) (gs : List Status) (g : ℕ) (old new : Status) (k : ℕ) (a : A) → slice_get gs g ≡ Some old → view old ≢ Some a → HasView view gs k a
     → HasView view (set gs g new) k a
 view_kept view gs g old new k a at other shows =
@@ -35,7 +35,7 @@ view_kept view gs g old new k a at other shows =
       | inr there ↦ ap (option_and_then view) there.1 ∙ shows
     ]
 
--- the conditions on g's new status under which the facts stay
+-- the conditions on g's new status under which the invariant still holds
 pub record MayMove (gs : List Status) (sockets : List Socket) (rows : List DescriptorRow) (free : List ℕ) (g : ℕ) (new : Status) : Type 0 where
   pub is_open : (d : ℕ) (side : Side) → wait_of new ≡ Some (d, side) → IsOpen rows free d
   pub alone : (d : ℕ) (side : Side) (k : ℕ) → wait_of new ≡ Some (d, side) → k ≢ g → IsInside gs k d side → ⊥
@@ -76,7 +76,7 @@ GoroutinesFit-moved gs sockets rows free g old new at may h =
           ];
     }
 
--- a goroutine outside of all waits may move anywhere outside of them
+-- any goroutine may move to a status outside of all waits that names no socket and owes nothing
 pub may_leave : (w : World) (g : ℕ) (new : Status) → wait_of new ≡ None → socket_named new ≡ None → owed_of new ≡ None → MayMove w.goroutines w.sockets w.descriptors w.free g new
 may_leave w g new none unnamed owes_none =
     record {
@@ -86,7 +86,7 @@ may_leave w g new none unnamed owes_none =
       owes = λ reads writes e. absurd (none-some _ (sym owes_none ∙ e));
     }
 
--- a goroutine inside a wait may go on inside it
+-- a goroutine inside a wait may continue inside it
 pub may_stay : (w : World) (g : ℕ) (old new : Status) (place : ℕ × Side) → WellFormed w → slice_get w.goroutines g ≡ Some old → wait_of old ≡ Some place → wait_of new ≡ Some place
     → socket_named new ≡ None → owed_of new ≡ None → MayMove w.goroutines w.sockets w.descriptors w.free g new
 may_stay w g old new place h at from to unnamed owes_none =
@@ -153,7 +153,7 @@ owing_outside s owed = go (owed.read + owed.write == 0)
     go true = refl
     go false = refl
 
--- a goroutine outside of all waits now owes the releases of the operation
+-- a goroutine outside of all waits changes its status, and then owes an operation's releases
 pub comes_to_owe : (w : World) (g s : ℕ) (old : Status) (owed : Sides ℕ) → WellFormed w → slice_get w.goroutines g ≡ Some old → is_outside old ≡ true → s < length w.sockets
     → ((side : Side) → IsField (of_side side owed)) → WellFormed (with_status g (owing s owed) w)
 comes_to_owe w g s old owed h at was_outside within small =

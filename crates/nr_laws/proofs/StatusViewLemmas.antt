@@ -27,7 +27,7 @@ pub QueuesFit-same : (old new : List Status) (sockets : List Socket) → ((s : �
 QueuesFit-same old new sockets same h =
     record { queued = λ g s side socket at. h.queued g s side socket at ∙ sym (ap bit (same s side g)) }
 
--- goroutines change in no way that words or queues show
+-- statuses change, but look the same to words and queues
 pub unseen_set_keeps : (w : World) (gs : List Status) → WellFormed w → GoroutinesFit gs w.sockets w.descriptors w.free → SameView (option_and_then parked_of) w.goroutines gs
     → SameView (option_and_then awaiting_of) w.goroutines gs → ((s : ℕ) (side : Side) → SameView (is_queued s side) w.goroutines gs) → length gs ≤ w.limits.goroutines
     → WellFormed (record w { goroutines = gs })

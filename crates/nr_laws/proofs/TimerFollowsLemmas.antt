@@ -1,4 +1,4 @@
--- timer_follows: its effect on a side's timer when a deadline is set, and the parts of the descriptor that stay.
+-- What timer_follows does to a side's timer when a deadline is set, and what it doesn't change.
 use Rattle.std.proofs.Common.{◌≡◌, ◌≢◌, ℕ, ℤ, cond, Result, Ok, Err, ◌+◌, ◌^◌, ◌<◌, Bool, true, false, not, ◌&&◌, List, [], ◌⊎◌, inl, inr, refl, sym, ap, subst, ◌∙◌, true≢false, int_eq}
 use Rattle.std.proofs.lemmas.Bool.Decides.{Decides-int_eq}
 use Rattle.std.specs.Prelude.{if◌then◌else◌}
@@ -54,7 +54,7 @@ reset_followed side old d may = go (wants_timer side d) refl (of_side-with_side_
     go true e runs = (Armed (begun side old d may) (runs ∙ e) ((alike side).0 ∙ e), rw ((alike side).1, e) refl)
     go false e runs = (Stopped (halted side old d may e) (runs ∙ e), rw e refl)
 
--- the parts of the descriptor that stay when a side's timer is adjusted to its deadline
+-- the parts of the descriptor that don't change when a side's timer is adjusted to its deadline
 pub record Frame (side : Side) (d : Descriptor) (change : Change) : Type 0 where
   pub words : change.descriptor.words ≡ d.words
   pub closing : change.descriptor.closing ≡ d.closing
@@ -88,7 +88,7 @@ frame_reset : (side : Side) (d : Descriptor) (sequences : Sides ℕ) → ((s : S
     → (of_side side d.sequences < 2 ^ 64 → of_side side sequences < 2 ^ 64) → Frame side d (timer_reset side (record d { sequences = sequences }))
 frame_reset side d sequences kept bound = frame side d _ sequences _ (λ s apart. of_side-with_side_other s side _ d.running apart) kept bound
 
--- a side's timer afterwards, and the parts that stay
+-- a side's timer afterwards, and the parts of the descriptor that don't change
 pub Ends-timer_follows : (side : Side) (old d : Descriptor) → of_side side d.sequences ≡ of_side side old.sequences → of_side side d.running ≡ of_side side old.running
     → Ends (λ change. UpdatedBy side old change.descriptor change.orders × Frame side d change) (timer_follows side old d)
 Ends-timer_follows side old d same_sequence same_running =

@@ -137,7 +137,7 @@ pub record MayFire (row : DescriptorRow) (f : TimerFunction) : Type 0 where
   pub running : of_side (side_of_function f) row.descriptor.running ≡ true
   pub positive : (side : Side) → covers_side f side ≡ true → is_positive (of_side side row.descriptor.deadlines) ≡ true
 
--- under combo, the other side's write timer doesn't run
+-- under combo, the write side's timer doesn't run
 quiet_write : (row : DescriptorRow) → MayFire row TimerFunction.Both → row.descriptor.running.write ≡ false
 quiet_write row may = may.fits.combo (combo_of_both Read row.descriptor (sym may.function))
 
@@ -147,7 +147,7 @@ combo_off row may = never_true (is_combo row.descriptor) (λ is. true≢false (s
 read_alone : (row : DescriptorRow) → is_combo row.descriptor ≡ false → timer_function Read row.descriptor ≡ TimerFunction.Read
 read_alone row e = ap (λ b. if b then TimerFunction.Both else TimerFunction.Read) e
 
--- a running side whose timer isn't the one that goes off stays as it was
+-- a firing doesn't change the other side's deadline or timer function if that side is running
 record Untouched (row : DescriptorRow) (f : TimerFunction) (side : Side) : Type 0 where
   pub deadline : of_side side (past f row.descriptor.deadlines) ≡ of_side side row.descriptor.deadlines
   pub function : timer_function side (passed row f).descriptor ≡ timer_function side row.descriptor

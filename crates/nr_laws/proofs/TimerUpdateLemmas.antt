@@ -27,13 +27,13 @@ pub data TimerUpdate (side : Side) (old new : Descriptor) : Type 0 where
   Armed : SequenceFresh side old new → of_side side new.running ≡ true → wants_timer side new ≡ true → TimerUpdate side old new
   Stopped : of_side side new.sequences ≡ of_side side old.sequences + 1 → of_side side new.running ≡ false → TimerUpdate side old new
 
--- the orders for it
+-- the orders that update the timer
 abbrev pub orders_of : (side : Side) (old new : Descriptor) → TimerUpdate side old new → List TimerOrder
 orders_of side old new (Kept sequence running same) = []
 orders_of side old new (Armed begun running wants) = Arm side (of_side side new.deadlines) (timer_function side new) (of_side side new.sequences) ∷ []
 orders_of side old new (Stopped raised halted) = Stop side ∷ []
 
--- the timer afterwards, if n is the next arming number
+-- the timer after the update, if n is the next arming number
 abbrev pub timer_left : (side : Side) (old new : Descriptor) → Option Timer → ℕ → TimerUpdate side old new → Option Timer
 timer_left side old new before n (Kept sequence running same) = before
 timer_left side old new before n (Armed begun running wants) = Some (record { due = of_side side new.deadlines; number = n; function = timer_function side new; sequence = of_side side new.sequences })
@@ -113,7 +113,7 @@ own_side TimerFunction.Read side e = ap (covers_side TimerFunction.Read) e
 own_side TimerFunction.Write side e = ap (covers_side TimerFunction.Write) e
 own_side TimerFunction.Both side e = refl
 
--- a fact about a side's deadline holds for each side that its timer's function covers
+-- if t is a side's deadline, it is also that of each other side that the timer's function covers
 pub due_of_each : (t : ℤ) (f : TimerFunction) (s side : Side) (d : Descriptor) → t ≡ of_side side d.deadlines → side ≡ side_of_function f → covers_side f s ≡ true
     → (f ≡ TimerFunction.Both → is_combo d ≡ true) → t ≡ of_side s d.deadlines
 due_of_each t f s side d is same covers combo =

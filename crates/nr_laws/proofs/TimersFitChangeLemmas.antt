@@ -1,4 +1,4 @@
--- TimersFit still holds after sequences, deadlines and timers of a descriptor change together.
+-- TimersFit still holds after a descriptor's sequences, deadlines and timers change together.
 use Rattle.std.proofs.Common.{◌≡◌, ◌≢◌, ℕ, ◌^◌, ◌<◌, ◌≤◌, List, Option, Some, None, ◌⊎◌, inl, inr, refl, sym, ap, subst, ◌∙◌, set, arith}
 use Rattle.std.proofs.lemmas.Option.{same_Some}
 use Rattle.std.specs.Prelude.{slice_get, option_map}
@@ -11,12 +11,12 @@ use Rattle.nr_rev.specs.declared.descriptor.DescriptorRow.{DescriptorRow}
 use Rattle.nr_rev.specs.WellFormed.{TimersFit, RowFits, FiringFits, TimerPlace, ArmedAt, FiringAt, armed_at, timer_at, IsCurrent}
 use Rattle.nr_rev.proofs.ListUpdateLemmas.{slice_get-set_cases, slice_get-set_all, slice_get-set_found}
 
--- a side whose timer and sequence stay
+-- true if a side's timer and sequence don't change
 pub record SideTimerKept (side : Side) (old new : DescriptorRow) : Type 0 where
   pub timer : of_side side new.timers ≡ of_side side old.timers
   pub sequence : of_side side new.descriptor.sequences ≡ of_side side old.descriptor.sequences
 
--- a side that has no current firing any more, and whose timer, if any, has a new number
+-- true if a side no longer has a current firing, and its timer, if any, has a new number
 pub record SideTimerReplaced (side : Side) (old new : DescriptorRow) (n m : ℕ) : Type 0 where
   pub stale : (e : Entry) → e.side ≡ side → FiringFits old.descriptor e → e.timer.sequence ≢ of_side side new.descriptor.sequences
   pub number : (timer : Timer) → of_side side new.timers ≡ Some timer → (n ≤ timer.number) × (timer.number < m)
@@ -29,7 +29,7 @@ pub record TimersChanged (firings : List Entry) (d : ℕ) (old new : DescriptorR
   pub rises : n ≤ m
   pub in_range : m < 2 ^ 64
 
--- an entry names the place where it is armed
+-- an armed entry names the descriptor and side at which it is armed
 pub armed_names : (rows : List DescriptorRow) (firings : List Entry) (k : ℕ) (s : Side) (e : Entry) → timer_at rows firings (ArmedAt k s) ≡ Some e
     → (row : DescriptorRow) × (slice_get rows k ≡ Some row) × (of_side s row.timers ≡ Some e.timer) × (e.descriptor ≡ k) × (e.side ≡ s)
 armed_names rows firings k s e is = go (slice_get rows k) refl is
@@ -141,7 +141,7 @@ module _ (rows : List DescriptorRow) (firings : List Entry) (n m d : ℕ) (old n
   places_agree : (k k' : ℕ) (s s' : Side) → k ≡ k' → s ≡ s' → ArmedAt k s ≡ ArmedAt k' s'
   places_agree k k' s s' e f = cc
 
-  -- no armed entry and firing are both current
+  -- a side doesn't have both a current armed entry and a current firing
   none_both : (k : ℕ) (s : Side) (j : ℕ) (e f : Entry) → timer_at after firings (ArmedAt k s) ≡ Some e → slice_get firings j ≡ Some f → e.descriptor ≡ f.descriptor → e.side ≡ f.side
       → IsCurrent after e → IsCurrent after f → ArmedAt k s ≡ FiringAt j
   none_both k s j e f p q same_d same_side e_now f_now =

@@ -1,4 +1,4 @@
--- TimersFit still holds after entries and firings move to other places: one is removed, or goes off.
+-- TimersFit still holds after a firing is removed, or after a timer goes off and becomes a firing.
 use Rattle.std.proofs.Common.{◌≡◌, ◌≢◌, ℕ, zero, suc, Bool, true, false, List, [], ◌∷◌, ◌++◌, Option, Some, None, ◌⊎◌, inl, inr, refl, sym, ap, subst, ◌∙◌, set, length, arith}
 use Rattle.std.proofs.lemmas.Option.{none-some}
 use Rattle.std.specs.Prelude.{slice_get, if◌then◌else◌, option_map, remove}
@@ -20,7 +20,7 @@ use Rattle.nr_laws.proofs.TimerUpdateLemmas.{covered, combo_positive, combo_of_b
 use Rattle.nr_rev.proofs.SideLemmas.{other_side, of_side-with_side_same, of_side-with_side_other}
 use Rattle.nr_rev.specs.WellFormed.{TimerPlace, ArmedAt, FiringAt, timer_at, armed_at, IsCurrent}
 
--- each entry was at a place before, and no two at the same place
+-- each entry had a place before, and no two entries had the same one
 pub TimersFit-moved : (rows rows' : List DescriptorRow) (firings firings' : List Entry) (n : ℕ) (Was : TimerPlace → TimerPlace → Type 0)
     → ((p : TimerPlace) (e : Entry) → timer_at rows' firings' p ≡ Some e → (q : TimerPlace) × Was p q × (timer_at rows firings q ≡ Some e))
     → ((p p' q q' : TimerPlace) → Was p q → Was p' q' → q ≡ q' → p ≡ p') → ((p : TimerPlace) (e : Entry) → timer_at rows' firings' p ≡ Some e → IsCurrent rows' e → IsCurrent rows e)
@@ -44,7 +44,7 @@ TimersFit-moved rows rows' firings firings' n Was was once current rows_fit firi
       in_range = h.in_range;
     }
 
--- the place in a list of the item at j, after the i-th is removed
+-- the original index of the item at j in a list from which the item at i was removed
 abbrev pub skip : ℕ → ℕ → ℕ
 skip zero j = suc j
 skip (suc i) zero = zero
@@ -91,7 +91,7 @@ TimersFit-removed rows firings n i e at h =
     was (ArmedAt d side) f is = (ArmedAt d side, refl, is)
     was (FiringAt j) f is = (FiringAt (skip i j), refl, sym (slice_get-remove firings i j e at) ∙ is)
 
--- the entry armed at a side of d goes to the back of the firings
+-- the entry armed at a side of d becomes the last firing
 abbrev WasPopped : ℕ → ℕ → Side → TimerPlace → TimerPlace → Type 0
 WasPopped n d side (ArmedAt k s) q = (q ≡ ArmedAt k s) × ((k ≡ d) × (s ≡ side) → ⊥)
 WasPopped n d side (FiringAt j) q = (q ≡ FiringAt j) ⊎ ((j ≡ n) × (q ≡ ArmedAt d side))

@@ -28,7 +28,7 @@ named_queue s side (Queued k other) unnamed = go (s == k) refl
     go false e = refl
 named_queue s side _ unnamed = refl
 
--- no goroutine is queued at a socket that isn't opened
+-- no goroutine is queued at a socket that no status names
 unqueued : (gs : List Status) (s : ℕ) (side : Side) (g : ℕ) → ((g : ℕ) → HasView socket_named gs g s → ⊥) → is_queued s side (slice_get gs g) ≡ false
 unqueued gs s side g unnamed = go (slice_get gs g) refl
   where
@@ -81,7 +81,7 @@ opened w rc wc h room r c =
       clock = h.clock;
     }
 
--- a buffer within its capacity
+-- changing a buffer's bytes, within its capacity
 buffer_fits : (limit : ℕ) (side : Side) (bytes : List ℕ) (socket : Socket) → length bytes ≤ (of_side side socket.buffers).capacity → SocketFits limit socket
     → SocketFits limit (with_buffer side bytes socket)
 buffer_fits limit side bytes socket fits h =
@@ -115,7 +115,7 @@ arrive_sound w s bytes h =
     let room : length bytes ≤ room_of socket.buffers.read = most_of _ _ fits in
     Ends-ok (rebuffered w s socket Read (socket.buffers.read.bytes ++ bytes) h at (λ before. rw length-append (omega arith)))
 
--- a flag of a socket is set
+-- the flags of a socket change
 remarked : (w : World) (s : ℕ) (socket : Socket) (peer_closed shut : Bool) → WellFormed w → slice_get w.sockets s ≡ Some socket
     → WellFormed (with_socket s (record socket { peer_closed = peer_closed; shut = shut }) w)
 remarked w s socket peer_closed shut h at =
@@ -141,7 +141,7 @@ sysread_sound w g s n h =
     Ends-then (Ends-sized n w) λ _.
     Ends-ok (rebuffered w s socket Read (drop n socket.buffers.read.bytes) h at (λ before. rw length-drop (omega arith)))
 
--- the output takes no more than it has room for
+-- the output accepts no more bytes than it has room for
 pub output_room_most : (shut : Bool) (output : Buffer) → output_room shut output ≤ room_of output
 output_room_most true output = omega arith
 output_room_most false output = omega arith

@@ -1,4 +1,4 @@
--- A word is unblocked, and the goroutine that it held is woken: the world stays well formed.
+-- Unblocking a word and waking the goroutine that it held keeps a world well formed.
 use Rattle.std.proofs.Common.{◌≡◌, ◌≢◌, ℕ, ◌-◌, ◌⊎◌, Bool, true, false, List, [], ◌∷◌, Some, inl, inr, refl, sym, ap, subst, ◌∙◌, set, arith}
 use Rattle.std.proofs.lemmas.Option.{get_or_from_slice_get}
 use Rattle.std.specs.Prelude.{slice_get, sum_by, if◌then◌else◌, option_map}
@@ -19,7 +19,7 @@ use Rattle.nr_laws.proofs.WaitWordChangeLemmas.{with_words, with_word_at, word_a
 use Rattle.nr_laws.proofs.RowSetLemmas.{row_keeps}
 use Rattle.nr_laws.proofs.WaitWordSetLemmas.{unheld, same_place, word_and_status_keep, held_sum, parked_at}
 
--- a word that doesn't concern a goroutine
+-- true if a word is nil or ready
 abbrev IsClear : WaitWord → Type 0
 IsClear word = (is_held word ≡ false) × (word ≢ WaitWord.Wait)
 
@@ -27,7 +27,7 @@ if_clear : (ioready : Bool) → IsClear (if ioready then Ready else Nil)
 if_clear true = (refl, λ e. cc)
 if_clear false = (refl, λ e. cc)
 
--- a word that held no goroutine is cleared
+-- clearing a word that held no goroutine
 cleared_words : (gs : List Status) (rows : List DescriptorRow) (waiters d : ℕ) (row : DescriptorRow) (side : Side) (old new : WaitWord) → slice_get rows d ≡ Some row
     → of_side side row.descriptor.words ≡ old → is_held old ≡ false → IsClear new → WaitWordsFit gs rows waiters → WaitWordsFit gs (with_word_at rows d row side new) waiters
 cleared_words gs rows waiters d row side old new at is none clear h =
@@ -95,7 +95,7 @@ unblocked_keeps w d row side ioready h at is_open = go (of_side side row.descrip
     go WaitWord.Wait is = unblocked_quietly w d row side WaitWord.Wait _ h at is_open is refl (if_clear ioready)
     go (Held g) is = unblocked_waking w d g row side _ h at is_open is (if_clear ioready)
 
--- a word that holds no goroutine and isn't at wait is cleared
+-- clearing a word that holds no goroutine and isn't at wait
 pub cleared : (w : World) (d : ℕ) (side : Side) (row : DescriptorRow) → WellFormed w → slice_get w.descriptors d ≡ Some row → is_free_number d w.free ≡ false
     → (of_side side row.descriptor.words ≡ Nil) ⊎ (of_side side row.descriptor.words ≡ Ready) → WellFormed (with_row d (with_words row (with_side side Nil row.descriptor.words)) w)
 cleared w d side row h row_at is_open either =

@@ -1,4 +1,4 @@
--- pollreset and waitbegin to waitcheck, the steps of a wait, keep a world well formed.
+-- pollreset and the steps of a wait, from waitbegin to waitcheck, keep a world well formed.
 use Rattle.std.proofs.Common.{◌≡◌, ℕ, ◌&&◌, if◌then◌else◌, Bool, true, false, Result, Some, refl, sym, subst, ◌∙◌, ap, arith, ◌+◌}
 use Rattle.std.proofs.lemmas.Option.{some_pair_parts, slice_get_within}
 use Rattle.std.specs.Prelude.{slice_get, if◌then◌else◌, ◌==◌}
@@ -129,7 +129,7 @@ arms w g d side row Ready h at row_at is =
 arms w g d side row WaitWord.Wait h at row_at is = Ends-refused refl
 arms w g d side row (Held k) h at row_at is = Ends-refused refl
 
--- a step that requires a goroutine to be at a place of a wait
+-- a step that requires a goroutine to be at a certain point of a wait
 at_place : (status : ℕ → Side → Status) (place_of : Status → Result (ℕ × Side) Refusal) (rest : ℕ → Side → DescriptorRow → Outcome) (w : World) (g : ℕ)
     → ((s : Status) → Ends (λ place. s ≡ status place.0 place.1) (place_of s))
     → ((d : ℕ) (side : Side) (row : DescriptorRow) → slice_get w.goroutines g ≡ Some (status d side) → slice_get w.descriptors d ≡ Some row → Keeps (rest d side row))

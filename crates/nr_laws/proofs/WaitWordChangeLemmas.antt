@@ -1,4 +1,4 @@
--- A descriptor's words, event error or fdseq change: the words afterwards, and that its timers don't change.
+-- The words and timers of a descriptor after a change of its words, event error or fdseq.
 use Rattle.std.proofs.Common.{◌≡◌, ◌≢◌, ℕ, ◌^◌, ◌<◌, Bool, List, Some, ◌⊎◌, inl, inr, refl, sym, ap, ◌∙◌, set}
 use Rattle.std.proofs.lemmas.Option.{same_Some}
 use Rattle.std.specs.Prelude.{slice_get, option_map}
@@ -58,7 +58,7 @@ pub words_keep_timers : (rows : List DescriptorRow) (firings : List Entry) (n d 
 words_keep_timers rows firings n d row words at h =
     marks_keep_timers rows firings n d row words row.descriptor.event_error row.descriptor.fdseq at (h.entries_fit d row at).fdseq h
 
--- a word of the changed row is a new one, each other word an old one
+-- the changed row has the new words, and every other row its old words
 word_cases : (rows : List DescriptorRow) (d : ℕ) (row : DescriptorRow) (words : Sides WaitWord) (k : ℕ) (side : Side) (word : WaitWord) → slice_get rows d ≡ Some row
     → HasWaitWord (set rows d (with_words row words)) k side word → ((k ≡ d) × (of_side side words ≡ word)) ⊎ ((k ≢ d) × HasWaitWord rows k side word)
 word_cases rows d row words k side word at has =
@@ -79,7 +79,7 @@ word_here rows d row side new at =
     ap (option_map (λ (r : DescriptorRow). of_side side r.descriptor.words)) (slice_get-set_here rows d row _ at)
     ∙ ap Some (of_side-with_side_same side new row.descriptor.words)
 
--- a word is the new one at its place, or an old one elsewhere
+-- the word that changed is the new one, and every other word is as before
 pub word_at_cases : (rows : List DescriptorRow) (d : ℕ) (row : DescriptorRow) (side : Side) (new : WaitWord) (k : ℕ) (s : Side) (word : WaitWord) → slice_get rows d ≡ Some row
     → HasWaitWord (with_word_at rows d row side new) k s word → ((k ≡ d) × (s ≡ side) × (new ≡ word)) ⊎ (((k ≡ d) × (s ≡ side) → ⊥) × HasWaitWord rows k s word)
 word_at_cases rows d row side new k s word at has =
@@ -97,7 +97,7 @@ word_at_cases rows d row side new k s word at has =
       | inr there ↦ inr ((λ both. there.0 both.0), there.1)
     ]
 
--- an old word stays, unless it was at the place that changed
+-- every word except the one that changed is as before
 pub word_kept : (rows : List DescriptorRow) (d : ℕ) (row : DescriptorRow) (side : Side) (new : WaitWord) (k : ℕ) (s : Side) (word : WaitWord) → slice_get rows d ≡ Some row
     → of_side side row.descriptor.words ≢ word → HasWaitWord rows k s word → HasWaitWord (with_word_at rows d row side new) k s word
 word_kept rows d row side new k s word at other has =

@@ -1,4 +1,4 @@
--- A word of a descriptor changes together with a goroutine's status: the world stays well formed.
+-- Changing a word of a descriptor together with a goroutine's status keeps a world well formed.
 use Rattle.std.proofs.Common.{◌≡◌, ◌≢◌, ℕ, ◌+◌, ◌-◌, false, List, Option, Some, None, ◌⊎◌, inl, inr, refl, sym, ap, ◌∙◌, set, arith, true≢false, get_or}
 use Rattle.std.proofs.lemmas.Option.{none-some, some_pair_parts, slice_get_within, get_or_from_slice_get}
 use Rattle.std.proofs.lemmas.List.Sums.{sum_by-set}
@@ -27,7 +27,7 @@ held_change : (side : Side) (row : DescriptorRow) (old new : WaitWord) → of_si
 held_change Read row old new e = let k : bit (is_held row.descriptor.words.read) ≡ bit (is_held old) = ap (λ (x : WaitWord). bit (is_held x)) e in omega arith
 held_change Write row old new e = let k : bit (is_held row.descriptor.words.write) ≡ bit (is_held old) = ap (λ (x : WaitWord). bit (is_held x)) e in omega arith
 
--- the change of the count of held words
+-- how changing one word changes the number of words that hold a goroutine
 pub held_sum : (rows : List DescriptorRow) (d : ℕ) (row : DescriptorRow) (side : Side) (old new : WaitWord) → slice_get rows d ≡ Some row → of_side side row.descriptor.words ≡ old
     → sum_by held_count (with_word_at rows d row side new) + bit (is_held old) ≡ sum_by held_count rows + bit (is_held new)
 held_sum rows d row side old new at is =
@@ -46,7 +46,7 @@ unheld word k none same = true≢false (sym (ap is_held same) ∙ none)
 pub same_place : (d e : ℕ) (side s : Side) → ◌≡◌ {A = Option (ℕ × Side)} (Some (d, side)) (Some (e, s)) → (e ≡ d) × (s ≡ side)
 same_place d e side s same = let p = some_pair_parts d e side s same in (sym p.0, sym p.1)
 
--- a goroutine's status and d's words agree, before and after both change
+-- true if a goroutine's status and d's word agree, both before and after they change
 pub record StatusMatchesWaitWord (g d : ℕ) (side : Side) (old new : Status) (was word : WaitWord) : Type 0 where
   pub held_before : (k : ℕ) → was ≡ Held k → k ≡ g
   pub held : (k : ℕ) → word ≡ Held k → (k ≡ g) × (parked_of new ≡ Some (d, side))
@@ -99,7 +99,8 @@ word_and_status_keep w g d after side row old new was word h at row_at is_open i
     words_and_status_keep w g after d old new row _ h at row_at is_open may matches.unqueued
     (WaitWordsFit-set w.goroutines w.descriptors w.waiters after g d side row old new was word at row_at is matches counts h.words)
 
--- neither status is parked, the new one waits if the word says so, and the old one waited nowhere else
+-- true if neither status is parked, the new one is at wait if the word is, and the old one was at
+-- no other wait
 pub record StatusMatchesUnheld (d : ℕ) (side : Side) (old new : Status) (word : WaitWord) : Type 0 where
   pub unparked : (parked_of old ≡ None) × (parked_of new ≡ None)
   pub awaits : word ≡ WaitWord.Wait → awaiting_of new ≡ Some (d, side)
@@ -156,7 +157,7 @@ held_alone w g k d side h inside has =
     let at : slice_get w.goroutines k ≡ Some (Parked d side) = parked_at w.goroutines k d side ((h.words.held k d side).0 has) in
     ap (slice_get w.goroutines) (h.goroutines.one_inside g k d side inside (ap (option_and_then wait_of) at)) ∙ at
 
--- if a word is at wait, the goroutine inside has left it so
+-- if a word is at wait, the goroutine inside the wait set it
 waiting_alone : (w : World) (g d : ℕ) (side : Side) → WellFormed w → IsInside w.goroutines g d side → HasWaitWord w.descriptors d side WaitWord.Wait → HasView awaiting_of w.goroutines g (d, side)
 waiting_alone w g d side h inside has =
     let a = h.words.waited d side has in

@@ -20,7 +20,7 @@ held_within (row ∷ rows) =
     let rest = held_within rows in
     omega (arith, one, read, write, rest)
 
--- at most two for each descriptor
+-- at most two goroutines for each descriptor
 pub waiters_within : (w : World) → WellFormed w → w.waiters ≤ 2 * w.limits.descriptors
 waiters_within w h =
     let most = held_within w.descriptors in
