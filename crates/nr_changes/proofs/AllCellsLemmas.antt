@@ -35,7 +35,7 @@ use Rattle.nr_changes.proofs.OrderLemmas.{Before, changed_in_order, joined, risi
 not_below : (a b : ℕ) → nat_lt a b ≡ false → b ≤ a
 not_below a b e = grind (arith, e)
 
--- ---- two lists in order with the same cells are one
+-- ---- two sorted lists with the same cells are equal
 
 apart_by : (a b c d : Ordering) → a ≡ ordering_reverse c → b ≡ ordering_reverse d → ordering_then a b ≡ Less → ordering_then c d ≡ Less → ⊥
 apart_by a b Less d first second e f = cc
@@ -44,7 +44,7 @@ apart_by a b Equal Equal first second e f = cc
 apart_by a b Equal Greater first second e f = cc
 apart_by a b Greater d first second e f = cc
 
--- of two cells only one comes before the other
+-- two cells can't each come before the other
 apart : (c d : Cell) → listing_order c d ≡ Less → listing_order d c ≡ Less → ⊥
 apart c d e f =
     apart_by (nat_cmp (cell_number c) (cell_number d)) (nat_cmp (number_or_0 c) (number_or_0 d)) (nat_cmp (cell_number d) (cell_number c)) (nat_cmp (number_or_0 d) (number_or_0 c))
@@ -143,7 +143,7 @@ module _ (w next : World) where
       first : (c : Cell) → cell_number c < 6 → Before listing_order c from_goroutines
       first c below = before_higher c 6 from_goroutines below goroutines_listed.least
 
-  -- ---- each that differs is among them
+  -- ---- all_cells contains each cell that differs
 
   there_below : {X : Type 0} (value : X → CellValue) (xs ys : List X) (i : ℕ) → value_or_absent value (slice_get ys i) ≢ value_or_absent value (slice_get xs i) → i < max (length xs) (length ys)
   there_below value xs ys i other = by_test (nat_lt i (max (length xs) (length ys))) refl
@@ -225,7 +225,7 @@ module _ (w next : World) where
   pub differing_in_order : IsStrictlySortedBy listing_order (differing_cells w next)
   differing_in_order = IsStrictlySortedBy-filter listing_order (λ c. not (same_value (cell next c) (cell w c))) (all_cells w next) all_in_order
 
--- the changed cells among those that a step may change are all cells that differ
+-- the cells that a step changed are all cells that differ
 pub changed_differing : (w : World) (step : Step) (answer : Answer) (next : World) → outcome w step ≡ Ok (answer, next) → changed_cells w step next ≡ differing_cells w next
 changed_differing w step answer next is =
     same_list (changed_cells w step next) (differing_cells w next) (changed_in_order w step next) (differing_in_order w next) λ c. (

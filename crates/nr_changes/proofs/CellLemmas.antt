@@ -27,7 +27,7 @@ use Rattle.nr_changes.proofs.KeepsLemmas.{Keeps, Touches, state_of}
 use Rattle.nr_changes.proofs.MemberLemmas.{here, later, nowhere, here_or_later, Contains-filter, Contains-in_order}
 use Rattle.nr_changes.proofs.SocketTouchLemmas.{spawn_touches, exit_touches, incref_touches, increfclose_touches, decref_touches, rwlock_touches, rwunlock_touches, acquire_touches, release_touches, sockopen_touches, arrive_touches, peerclose_touches, sysread_touches, syswrite_touches, drain_touches, closewrite_touches}
 
--- the law for every kind of step
+-- every kind of step changes only what it touches
 step_touches : (w : World) (step : Step) → Touches (touched w step) w (outcome w step)
 step_touches w Step.Spawn = spawn_touches w
 step_touches w (Step.Exit g) = exit_touches w g
@@ -61,7 +61,7 @@ step_touches w Step.Pop = pop_touches w
 step_touches w (Step.Fire i) = fire_touches w i
 step_touches w (Step.CloseWrite g s) = closewrite_touches w g s
 
--- ---- the cells of what is touched
+-- ---- the cells of touched things
 
 in_world : (t : Touched) (c : Cell) → Contains (cells_at None) c → Contains (cells_of t) c
 in_world t c at = Contains-append_left (cells_at None) _ c at
@@ -79,7 +79,7 @@ in_goroutines t g at =
     Contains-append_right (cells_at None) _ (Cell.Goroutine g)
     (Contains-append_left (goroutine_cells (in_order t.goroutines)) _ (Cell.Goroutine g) (mapped (in_order t.goroutines) g (Contains-in_order t.goroutines g at)))
 
--- the cells after those of goroutines
+-- the cells that follow the goroutines' cells in a list
 abbrev socket_part : Touched → List Cell
 socket_part t = option_map_or socket_cells t.socket []
 
@@ -107,9 +107,9 @@ in_shut t s is =
     (Contains-append_right (descriptor_part t) (shut_part t) (Cell.Shut s)
     (subst (λ o. Contains (option_map_or shut_cells o []) (Cell.Shut s)) (sym is) (here (Cell.Shut s) []))))
 
--- ---- a cell that isn't among them
+-- ---- a cell that isn't listed
 
--- what a descriptor's cell shows hangs on its state alone
+-- the value of a descriptor's cell depends only on the descriptor's state
 by_state : (value : Descriptor → CellValue) (row : Option DescriptorRow) → value_or_absent (λ (x : DescriptorRow). value x.descriptor) row ≡ value_or_absent value (state_of row)
 by_state value None = refl
 by_state value (Some row) = refl

@@ -1,4 +1,4 @@
--- Reading the cells again after a step gives what it changed.
+-- Comparing the values of cells before and after a step finds what the step changed.
 use Rattle.std.proofs.Common.{◌≡◌, ◌∙◌, true, false, cond, not, Bool, List, [], ◌∷◌, refl, ap, subst}
 use Rattle.std.specs.List.Retain.{RetainsInTurn}
 use Rattle.std.specs.Prelude.{filter, map}
@@ -8,12 +8,12 @@ use Rattle.nr_rev.specs.declared.cell.Cell.{Cell}
 use Rattle.nr_changes.specs.Changes.{with_value}
 use Rattle.nr_changes.specs.declared.changing.CellWithValue.{CellWithValue}
 
--- the cells whose value is different in a world, with the new value
+-- the cells whose value in a world differs from the given one, with the new value
 abbrev pub changes_since : World → List CellWithValue → List CellWithValue
 changes_since next before =
     map (λ (old : CellWithValue). with_value next old.cell) (filter (λ (old : CellWithValue). not (same_value (cell next old.cell) old.value)) before)
 
--- of cells with the values of one world, those that differ in the next one
+-- if the given values are those of world w, the result is the cells that differ between w and next
 pub changes_among : (cells : List Cell) (w next : World)
     → changes_since next (map (with_value w) cells) ≡ map (with_value next) (filter (λ c. not (same_value (cell next c) (cell w c))) cells)
 changes_among [] w next = refl
@@ -25,7 +25,7 @@ changes_among (c ∷ cells) w next =
       | false ↦ λ is. rw is (changes_among cells w next)
     ] refl
 
--- the list one element at a time
+-- how the first element of the list contributes to the result
 pub since_next : (next : World) (x : CellWithValue) (xs : List CellWithValue)
     → cond (not (same_value (cell next x.cell) x.value)) (with_value next x.cell ∷ changes_since next xs) (changes_since next xs) ≡ changes_since next (x ∷ xs)
 since_next next x xs =
@@ -36,7 +36,8 @@ since_next next x xs =
       | false ↦ λ is. rw is refl
     ] refl
 
--- the result of `retain` if each call takes the value of the next world and says whether it differs
+-- the result of `retain` if each call stores the value in the next world and returns whether it
+-- differs
 pub changes_since_from_retain : {F : Type 0} (R : F → CellWithValue → Bool → F → CellWithValue → Type 0) (next : World) (f : F)
     → ((x : CellWithValue) (b : Bool) (f' : F) (y : CellWithValue) → R f x b f' y
     → (b ≡ not (same_value (cell next x.cell) x.value)) × (f' ≡ f) × (y ≡ with_value next x.cell))

@@ -66,7 +66,7 @@ waitbegin_touches w g d side =
     ComesTo-then (ComesTo-any (refused_if ((check side row.descriptor == 0) && is_waited d side w.goroutines) _)) λ _.
     ComesTo-ok (Keeps-if (check side row.descriptor == 0) (goroutine_set _ w g _ _ (here g [])) Keeps-same)
 
--- the descriptor is that of the goroutine's wait
+-- a goroutine inside a wait is at the wait's descriptor
 inside : (w : World) (g d : ℕ) (side : Side) (status : Status) → slice_get w.goroutines g ≡ Some status → wait_of status ≡ Some (d, side) → descriptor_at g w ≡ Some d
 inside w g d side status at is = ap (λ o. option_map (λ (place : ℕ × Side). place.0) (option_and_then wait_of o)) at ∙ ap (option_map (λ (place : ℕ × Side). place.0)) is
 
@@ -132,12 +132,12 @@ change_keeps t d row change w at among =
     ComesTo-bind (ComesTo-any (after_orders change.orders (row.timers, w.next_arming))) λ left _.
     ComesTo-ok (Keeps-then (row_set t w d _ at) (Keeps-then (rest_set t _ _ refl refl refl) (wakes_keep t change.woken _ among)))
 
--- the goroutines that the row's words hold are those held at the descriptor
+-- a goroutine that a word of the row holds is held at the descriptor
 held_there : (w : World) (d : ℕ) (row : DescriptorRow) (h : ℕ) → slice_get w.descriptors d ≡ Some row → Contains (held_of row.descriptor) h → Contains (held_at d w) h
 held_there w d row h at held =
     subst (λ gs. Contains gs h) (sym (ap (λ o. option_map_or (λ (x : DescriptorRow). held_of x.descriptor) o []) at)) held
 
--- the same, next to the goroutine of the step
+-- goroutines that a change wakes are among those that evict touches
 beside : (w : World) (g d : ℕ) (row : DescriptorRow) (change : Change) → slice_get w.descriptors d ≡ Some row → Wakes row.descriptor change → (h : ℕ) → Contains change.woken h
     → Contains (touched w (Step.Evict g d)).goroutines h
 beside w g d row change at so h woken = later g (held_at d w) h (held_there w d row h at (so.woken h woken))
@@ -188,7 +188,7 @@ fired_touches : (t : Touched) (d : ℕ) (row : DescriptorRow) (change : Option C
 fired_touches t d row None w at among = ComesTo-ok Keeps-same
 fired_touches t d row (Some change) w at among = ComesTo-bind (change_keeps t d row change w at (λ h. among change h refl)) λ next keeps. ComesTo-ok keeps
 
--- a step after a change of the world
+-- a change of the world, followed by a step
 Touches-after : {t : Touched} {w between : World} {o : Outcome} → Keeps t w between → Touches t between o → Touches t w o
 Touches-after first step = record { value = λ left is. Keeps-then first (step.value left is) }
 

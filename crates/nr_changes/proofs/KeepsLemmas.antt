@@ -1,4 +1,4 @@
--- A change of a world keeps everything that isn't touched.
+-- A change of a world affects only the things that it touches.
 use Rattle.std.proofs.Common.{◌≡◌, ◌≢◌, ℕ, zero, suc, List, [], ◌∷◌, ◌++◌, length, Option, Some, refl, sym, ap, subst, ◌∙◌, Bool, true, false, Result}
 use Rattle.std.specs.Prelude.{Contains, slice_get, slice_set, option_map, if◌then◌else◌}
 use Rattle.nr_rev.specs.declared.answer.Answer.{Answer}
@@ -18,13 +18,13 @@ use Rattle.nr_changes.proofs.MemberLemmas.{here, later}
 abbrev pub state_of : Option DescriptorRow → Option Descriptor
 state_of row = option_map (λ (x : DescriptorRow). x.descriptor) row
 
--- everything that isn't touched is unchanged
+-- true if everything that isn't touched is unchanged
 pub record Keeps (t : Touched) (w next : World) : Type 0 where
   pub goroutines : (g : ℕ) → ¬ Contains t.goroutines g → slice_get next.goroutines g ≡ slice_get w.goroutines g
   pub sockets : (s : ℕ) → t.socket ≢ Some s → slice_get next.sockets s ≡ slice_get w.sockets s
   pub descriptors : (d : ℕ) → t.descriptor ≢ Some d → state_of (slice_get next.descriptors d) ≡ state_of (slice_get w.descriptors d)
 
--- a step changes only what it touches
+-- true if a step changes only what it touches
 abbrev pub Touches : Touched → World → Result (Answer × World) Refusal → Type 0
 Touches t w o = ComesTo (λ (left : Answer × World). Keeps t w left.1) o
 
@@ -43,7 +43,7 @@ push_elsewhere [] x (suc j) other = refl
 push_elsewhere (y ∷ xs) x zero other = refl
 push_elsewhere (y ∷ xs) x (suc j) other = push_elsewhere xs x j (λ e. other (ap suc e))
 
--- another number than the one touched
+-- a number that isn't touched differs from the touched one
 differs : {d : Option ℕ} (i j : ℕ) → d ≡ Some i → d ≢ Some j → j ≢ i
 differs i j at other e = other (at ∙ ap Some (sym e))
 
@@ -110,7 +110,7 @@ pub row_pushed : (t : Touched) (w : World) (row : DescriptorRow) → t.descripto
 row_pushed t w row at =
     record { goroutines = λ _ _. refl; sockets = λ _ _. refl; descriptors = λ k other. ap state_of (push_elsewhere w.descriptors row k (differs _ k at other)) }
 
--- a descriptor's timers change, and its state stays
+-- a descriptor's timers change, but not its state
 pub timers_set : (t : Touched) (w : World) (d : ℕ) (old new : DescriptorRow) → slice_get w.descriptors d ≡ Some old → new.descriptor ≡ old.descriptor → Keeps t w (with_row d new w)
 timers_set t w d old new at same =
     record { goroutines = λ _ _. refl; sockets = λ _ _. refl; descriptors = λ k _. slice_get-set_unseen state_of w.descriptors d old new k at (ap Some same) }

@@ -27,7 +27,7 @@ use Rattle.nr_changes.specs.Changed.{cells_of, changed_cells, descriptor_cells, 
 
 -- ---- numbers in order
 
--- all of these are greater
+-- true if every element of the list is greater
 abbrev pub Before : {X : Type 0} → (X → X → Ordering) → X → List X → Type 0
 Before c x ys = AllByRecursion (λ y. c x y ≡ Less) ys
 
@@ -58,7 +58,7 @@ ordered (n ∷ ns) = inserted n (in_order ns) (ordered ns)
 
 -- ---- cells in order
 
--- a cell that comes before those of goroutines comes before all that follow them
+-- a cell that comes before the goroutines' cells also comes before the cells that follow them
 before_goroutines : (c : Cell) (gs : List ℕ) (rest : List Cell) → ((g : ℕ) → listing_order c (Cell.Goroutine g) ≡ Less) → Before listing_order c rest → Before listing_order c (map Cell.Goroutine gs ++ rest)
 before_goroutines c [] rest first so = so
 before_goroutines c (g ∷ gs) rest first so = (first g, before_goroutines c gs rest first so)

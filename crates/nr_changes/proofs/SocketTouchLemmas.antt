@@ -1,4 +1,4 @@
--- Steps of goroutines, of sockets, and on locks and semaphores change only what they touch.
+-- Steps on goroutines, sockets, locks and semaphores change only what they touch.
 use Rattle.std.proofs.Common.{◌≡◌, ℕ, List, [], ◌∷◌, length, Option, Some, None, Result, Ok, refl, ap, ◌∙◌, subst, sym}
 use Rattle.std.specs.Prelude.{Contains, slice_get, option_and_then, if◌then◌else◌, ◌==◌, nat_lt, nat_le}
 use Rattle.std.specs.Option.{option_to_list}

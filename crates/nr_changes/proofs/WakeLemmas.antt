@@ -17,7 +17,8 @@ use Rattle.nr_laws.proofs.AspectLemmas.{ComesTo, ComesTo-ok, ComesTo-any, ComesT
 use Rattle.nr_changes.specs.Touched.{held_by, held_of}
 use Rattle.nr_changes.proofs.MemberLemmas.{nowhere}
 
--- a change wakes only goroutines that the words held, and afterwards the words hold no others
+-- true if a change wakes only goroutines that the words held, and afterwards the words hold no
+-- others
 pub record Wakes (old : Descriptor) (change : Change) : Type 0 where
   pub woken : (g : ℕ) → Contains change.woken g → Contains (held_of old) g
   pub held : (g : ℕ) → Contains (held_of change.descriptor) g → Contains (held_of old) g
@@ -42,7 +43,7 @@ Wakes-then_if : (old : Descriptor) (first : Change) (test : Bool) (next : Descri
 Wakes-then_if old first true next a b = Wakes-and_then old first next a b
 Wakes-then_if old first false next a b = a
 
--- unblocking a word wakes the goroutine that it held, and afterwards it holds none
+-- unblocking a word wakes the goroutine that it held, and afterwards the word holds none
 wakes_held : (word : WaitWord) (ioready : Bool) → (unblock word ioready).1 ≡ held_by word
 wakes_held Ready ioready = refl
 wakes_held Nil ioready = refl
@@ -141,7 +142,7 @@ expire_wakes side d =
     let late = Wakes-unblocked false side (record d { deadlines = with_side side (negsuc 0) d.deadlines }) in
     record { woken = late.woken; held = late.held }
 
--- a firing that isn't stale wakes only goroutines that the words held
+-- true if a firing is stale or wakes only goroutines that the words held
 abbrev pub FiringWakes : Descriptor → Option Change → Type 0
 FiringWakes d change = (x : Change) → change ≡ Some x → Wakes d x
 

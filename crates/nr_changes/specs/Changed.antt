@@ -14,7 +14,7 @@ use Rattle.nr_rev.specs.Kind.{kind_of}
 use Rattle.nr_rev.specs.World.{World}
 use Rattle.nr_changes.specs.Touched.{Touched, touched}
 
--- the number of a cell's goroutine, socket or descriptor, or 0 if it has none
+-- the number of a cell's goroutine, socket or descriptor, or 0 if the cell has none
 abbrev pub number_or_0 : Cell → ℕ
 number_or_0 c = option_map_or (λ i. i) (cell_index c) 0
 
@@ -33,8 +33,7 @@ in_order (n ∷ ns) = insert_key nat_cmp (in_order ns) n
 abbrev pub goroutine_cells : List ℕ → List Cell
 goroutine_cells gs = map Cell.Goroutine gs
 
--- the cells of a socket, except the one that shows whether its write side is shut, which comes last
--- in a list
+-- the cells of a socket, except the last one in a list, which shows whether its write side is shut
 abbrev pub socket_cells : ℕ → List Cell
 socket_cells s =
     Cell.Lock s ∷
@@ -61,7 +60,7 @@ descriptor_cells d =
     Cell.Info d ∷
     []
 
--- the cells without a number and the cells of touched things, in the order of lists
+-- the cells without a number and the cells of touched things, in listing order
 abbrev pub cells_of : Touched → List Cell
 cells_of t =
     cells_at None
@@ -70,7 +69,7 @@ cells_of t =
     ++ (option_map_or descriptor_cells t.descriptor []
     ++ option_map_or shut_cells t.socket [])))
 
--- the cells of these things that a step of the kind may change
+-- the cells of the touched things that this kind of step may change
 abbrev pub cells_for : Kind → Touched → List Cell
 cells_for kind t = filter (can_change kind) (cells_of t)
 
@@ -78,7 +77,7 @@ cells_for kind t = filter (can_change kind) (cells_of t)
 abbrev pub touched_cells : World → Step → List Cell
 touched_cells w step = cells_for (kind_of step) (touched w step)
 
--- the cells among those that a step may change whose value differs after it
+-- the cells that a step may change and whose value differs after it
 abbrev pub changed_cells : World → Step → World → List Cell
 changed_cells w step next =
     filter (λ c. not (same_value (cell next c) (cell w c))) (touched_cells w step)

@@ -7,16 +7,16 @@ use Rattle.nr_rev.specs.CellName.{cells_at}
 use Rattle.nr_rev.specs.World.{World}
 use Rattle.nr_changes.specs.declared.changing.CellWithValue.{CellWithValue}
 
--- the cells of these sorts with a number below n: sort after sort, each from number 0 on
+-- the cells of these sorts with a number below n: one sort after another, each in ascending order
 abbrev pub numbered_cells : ℕ → List (ℕ → Cell) → List Cell
 numbered_cells n sorts = flat_map (λ sort. map sort (range_with_len 0 n)) sorts
 
--- the greater number of these things in the two worlds
+-- the number of these things in the world that has more of them
 abbrev pub most_of : {X : Type 0} → (World → List X) → World → World → ℕ
 most_of things w next = max (length (things w)) (length (things next))
 
--- All cells of the things that exist in either world, in the order of COMMANDS.md: by sort, and
--- then by number.
+-- All cells of the things that exist in either world, by sort and then by number, as COMMANDS.md
+-- lists them.
 abbrev pub all_cells : World → World → List Cell
 all_cells w next =
     let goroutines = most_of (λ (w : World). w.goroutines) w next in
@@ -31,12 +31,12 @@ all_cells w next =
     ∷ Cell.WriteSequence ∷ Cell.DescriptorSequence ∷ Cell.Info ∷ [])
     ++ numbered_cells sockets (Cell.Shut ∷ []))))
 
--- the cells whose value in the next world differs from that in the world before
+-- the cells whose values in the two worlds differ
 abbrev pub differing_cells : World → World → List Cell
 differing_cells w next =
     filter (λ c. not (same_value (cell next c) (cell w c))) (all_cells w next)
 
--- a cell with its value in a world
+-- a cell together with its value in a world
 abbrev pub with_value : World → Cell → CellWithValue
 with_value w c = record { cell = c; value = cell w c }
 

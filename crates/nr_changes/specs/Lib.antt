@@ -1,5 +1,5 @@
 -- what the laws of THEOREM.md rest on, whole files
 pub mod Changes
--- what callers need besides: contracts cite it, of other crates or of this crate's public functions
+-- what callers need as well: contracts of other crates or public functions of this crate cite it
 pub mod Touched
 pub mod Changed

@@ -20,22 +20,22 @@ use Rattle.nr_rev.specs.World.{World, wait_of}
 
 -- what a step touches: no other numbered thing has a cell whose value differs after the step
 pub record Touched : Type 0 where
-  -- the goroutine of the step, those that it wakes, or the one that it makes
+  -- the goroutine that makes the step, those that it wakes, or the one that it creates
   pub goroutines : List ℕ
-  -- the socket on which it is a step, or that it makes
+  -- the socket on which the step acts, or that it creates
   pub socket : Option ℕ
-  -- the descriptor on which it is a step, or that it opens
+  -- the descriptor on which the step acts, or that it opens
   pub descriptor : Option ℕ
 
 -- only goroutines
 abbrev pub goroutines_alone : List ℕ → Touched
 goroutines_alone gs = record { goroutines = gs; socket = None; descriptor = None }
 
--- a socket, and goroutines
+-- a socket and goroutines
 abbrev pub socket_and : Option ℕ → List ℕ → Touched
 socket_and s gs = record (goroutines_alone gs) { socket = s }
 
--- a descriptor, and goroutines
+-- a descriptor and goroutines
 abbrev pub descriptor_and : Option ℕ → List ℕ → Touched
 descriptor_and d gs = record (goroutines_alone gs) { descriptor = d }
 
@@ -48,7 +48,7 @@ abbrev pub descriptor_at : ℕ → World → Option ℕ
 descriptor_at g w =
     option_map (λ place. place.0) (option_and_then wait_of (slice_get w.goroutines g))
 
--- the front of the queue to which this goroutine's next release goes
+-- the first goroutine in the queue of the semaphore that a goroutine with this status releases next
 abbrev pub front_for : Status → World → Option ℕ
 front_for (Owing s reads writes) w =
     let side : Side = if nat_lt 0 reads then Read else Write in
@@ -56,7 +56,7 @@ front_for (Owing s reads writes) w =
     (slice_get w.sockets s)
 front_for _ w = None
 
--- the goroutine that tries again after a release by goroutine g
+-- the goroutine that tries again after goroutine g releases a semaphore
 abbrev pub released_by : ℕ → World → List ℕ
 released_by g w =
     option_to_list (option_and_then (λ status. front_for status w) (slice_get w.goroutines g))

@@ -19,7 +19,7 @@ pub struct CellWithValue {
     pub value: CellValue,
 }
 
-/// The value of unused places of a list: a cell without a value.
+/// Fills the unused places of a list: a cell without a value.
 impl Default for CellWithValue {
     fn default() -> CellWithValue {
         CellWithValue {
@@ -47,7 +47,7 @@ fn list_values<W: TouchesCells>(world: &W, cells: &[Cell], values: &mut Changes)
     }
 }
 
-// Keeps the cells whose value is different now, with the new value.
+// Keeps the cells whose value differs in the world, and stores the new value.
 fn keep_changed<W: TouchesCells>(world: &W, changes: &mut Changes)
     requires world { W.is_well_formed world.now }
     ensures { changes.new.items ≡ map (λ old. with_value (W.world world.now) old.cell)
@@ -69,9 +69,9 @@ fn keep_changed<W: TouchesCells>(world: &W, changes: &mut Changes)
     );
 }
 
-/// Applies the step without an undo, and returns its answer. Replaces the list's contents with the cells that the step
-/// changed, in the order of lists, each once and with its new value. If the step is refused, the world stays as it was,
-/// and the list is empty. Allocates no memory.
+/// Applies the step without an undo, and returns its answer. Replaces the list's contents with the
+/// cells that the step changed, in listing order, each once and with its new value. If the step is
+/// refused, the world stays as it was, and the list is empty. Allocates no memory.
 pub fn advance<W: TouchesCells>(
     world: &mut W,
     step: &Step,

@@ -25,13 +25,13 @@ pub fn just_what_shows_another_value_differs()
         → Contains (differing_cells w next) c ↔ (cell next c ≢ cell w c) }
 {}
 
-/// After a step, the cells that differ are exactly the changed ones among those that it may change.
+/// After a step, `changed_cells` and `differing_cells` are the same list.
 pub fn what_differs_was_touched()
     ensures { (w : World) (step : Step) (answer : Answer) (next : World)
         → outcome w step ≡ Ok (answer, next) → changed_cells w step next ≡ differing_cells w next }
 {}
 
-/// Cells are listed in one order, by sort and then by number, each once.
+/// Lists of cells are ordered by sort and then by number, and contain each cell once.
 pub fn cells_are_listed_in_order()
     ensures touched { (w : World) (step : Step)
         → IsStrictlySortedBy listing_order (touched_cells w step) }

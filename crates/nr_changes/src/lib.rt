@@ -1,5 +1,6 @@
-//! Which cells a step of a recording may change, by number. The definitions are in `specs/`: `Touched` defines what a
-//! step touches, `Changed` the cells that it may change and those that it changed.
+//! Lists the cells that a step of a recording may change. The definitions are in `specs/`:
+//! `Touched` defines what a step touches, and `Changed` the cells that it may change and those that
+//! it changed.
 #![tactic(auto)]
 
 mod cell_list;

@@ -14,7 +14,7 @@ use nr_rev::{Cell, Kind};
 /// The maximum number of goroutines that a step touches.
 pub const MOST_TOUCHED: usize = 3;
 
-// Returns the place of the first number that isn't below this one, or the end if there is none.
+// Returns the index of the first number that isn't below this one, or the list's length if all are.
 fn place_of(numbers: &[u32], number: u32) -> usize
     ensures within { result ≤ length numbers.now }
     ensures next { result < length numbers.now → number ≤ slice_index numbers.now result }
@@ -56,7 +56,7 @@ pub(crate) fn in_order(numbers: &[u32]) -> ArrayVec<u32, MOST_TOUCHED>
     listed
 }
 
-/// Appends those of these cells that a step of the kind may change.
+/// Appends, from these cells, the ones that this kind of step may change.
 pub(crate) fn list(cells: &mut CellList, kind: Kind, more: &[Cell])
     requires { length cells.old + length more.now ≤ 22 }
     ensures items { cells.new ≡ cells.old ++ filter (can_change kind) more.now }
@@ -69,7 +69,7 @@ pub(crate) fn list(cells: &mut CellList, kind: Kind, more: &[Cell])
     }
 }
 
-/// Appends the cells of these goroutines that a step of the kind may change.
+/// Appends the cells of these goroutines that this kind of step may change.
 pub(crate) fn list_goroutines(cells: &mut CellList, kind: Kind, goroutines: &[u32])
     requires { length cells.old + length goroutines.now ≤ 22 }
     ensures items { cells.new
@@ -81,7 +81,8 @@ pub(crate) fn list_goroutines(cells: &mut CellList, kind: Kind, goroutines: &[u3
     }
 }
 
-/// Appends the cells of a socket that a step of the kind may change, except the one that shows whether it is shut.
+/// Appends the cells of a socket that this kind of step may change, except the cell that shows
+/// whether it is shut.
 pub(crate) fn list_socket(cells: &mut CellList, kind: Kind, socket: Option<u32>)
     requires { length cells.old + 5 ≤ 22 }
     ensures items { cells.new
@@ -100,7 +101,7 @@ pub(crate) fn list_socket(cells: &mut CellList, kind: Kind, socket: Option<u32>)
     }
 }
 
-/// Appends the cells of a descriptor that a step of the kind may change.
+/// Appends the cells of a descriptor that this kind of step may change.
 pub(crate) fn list_descriptor(cells: &mut CellList, kind: Kind, descriptor: Option<u32>)
     requires { length cells.old + 8 ≤ 22 }
     ensures items { cells.new
@@ -122,7 +123,7 @@ pub(crate) fn list_descriptor(cells: &mut CellList, kind: Kind, descriptor: Opti
     }
 }
 
-/// Appends the cell that shows whether a socket is shut, if a step of the kind may change it.
+/// Appends the cell that shows whether a socket is shut, if this kind of step may change it.
 pub(crate) fn list_shut(cells: &mut CellList, kind: Kind, socket: Option<u32>)
     requires { length cells.old + 1 ≤ 22 }
     ensures items { cells.new

@@ -32,7 +32,7 @@ impl Touched {
     ghost use Rattle.std.specs.Prelude.{◌≡◌};
     ghost use Rattle.nr_changes.specs.Changed.{cells_for};
 
-    /// Returns these goroutines, in any order, and the socket or the descriptor, if there is one.
+    /// Returns a value with these goroutines, in any order, and this socket or descriptor, if any.
     pub fn new(
         goroutines: ArrayVec<u32, MOST_TOUCHED>,
         socket: Option<u32>,
@@ -51,16 +51,16 @@ impl Touched {
         }
     }
 
-    /// Returns the descriptor, if there is one.
+    /// Returns the touched descriptor, if any.
     pub fn descriptor(&self) -> Option<u32>
         ensures { result ≡ self.now.descriptor }
     {
         self.descriptor
     }
 
-    /// Returns the cells that a step of this kind may change if it touches these things, in the order of lists, each
-    /// once. For a step of a world these are `touched_cells`; every other cell has the same value after the step as
-    /// before it (`laws::steps_change_what_they_touch_alone`).
+    /// Returns the cells that a step of this kind may change if it touches these things, in listing
+    /// order, each once. For a step of a world, the result is `touched_cells`; the step leaves
+    /// every other cell's value unchanged (`laws::steps_change_what_they_touch_alone`).
     pub fn cells(&self, kind: Kind) -> CellList
         ensures { result ≡ cells_for kind self.now }
     {
