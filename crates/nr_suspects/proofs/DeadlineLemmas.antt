@@ -28,14 +28,14 @@ by_cases : {A : Type 0} {P : A → Type 0} (c : Bool) {x y : Result A Refusal} �
 by_cases true a b = a refl
 by_cases false a b = b refl
 
--- a firing that changes something has its side's current sequence
+-- a firing that has an effect has the current sequence of its side
 current_change : (f : TimerFunction) (n : ℕ) (d : Descriptor) → ComesTo (λ (change : Option Change). change ≢ None → n ≡ of_side (side_of_function f) d.sequences) (change_by_firing f n d)
 current_change f n d =
     by_cases (not (is_current f n d)) (λ _. ComesTo-ok (λ differs. absurd (differs refl))) λ e.
     ComesTo-then (ComesTo-any (refused_unless (is_timed f d) Refusal.CorruptedDescriptor)) λ _.
     ComesTo-ok (λ _. eqb-true n (of_side (side_of_function f) d.sequences) (not_false (is_current f n d) e))
 
--- the firing and its descriptor's row
+-- the entry that fires, and the row of its descriptor
 abbrev pub FiresInTime : World → ℕ → Type 0
 FiresInTime w i =
     (firing : Entry) × (row : DescriptorRow) × (slice_get w.firings i ≡ Some firing) × (slice_get w.descriptors firing.descriptor ≡ Some row) × IsInTime w row firing

@@ -1,4 +1,5 @@
--- Each deadline that is set was set by a step, and each timeout is due to such a deadline.
+-- Each deadline that is set was set by a step, and each timeout comes from a deadline that a step
+-- set.
 use Rattle.std.proofs.Common.{◌≡◌, ◌≢◌, ℕ, Bool, true, false, not, ◌&&◌, List, [], ◌∷◌, ◌++◌, length, ◌⊎◌, inl, inr, Option, Some, None, Ok, refl, sym, ap, subst, ◌∙◌, true≢false}
 use Rattle.std.specs.Prelude.{◌==◌, if◌then◌else◌, nat_lt, remove, slice_get, slice_set, option_map, ℤ, pos}
 use Rattle.std.proofs.lemmas.Bool.{eqb-false, eqb-true}
@@ -147,7 +148,7 @@ expired_deadlines change =
     let first : Change = then_if change (is_expired Read change.descriptor) (unblocked false Read) in
     then_if_deadlines first (is_expired Write change.descriptor) false Write ∙ then_if_deadlines change (is_expired Read change.descriptor) false Read
 
--- a side that the mode doesn't name keeps its deadline
+-- a step leaves the deadline of a side unchanged if the mode doesn't name the side
 unnamed_kept : (mode : Mode) (t : ℤ) (d : Descriptor) (side : Side) → names_side mode side ≡ false → of_side side (with_deadlines mode t d).deadlines ≡ of_side side d.deadlines
 unnamed_kept mode t d Read e = ap (λ b. if b then t else d.deadlines.read) e
 unnamed_kept mode t d Write e = ap (λ b. if b then t else d.deadlines.write) e

@@ -1,4 +1,4 @@
--- A side has a debt if and only if an event came for it and nothing has paid since.
+-- A side has a debt if and only if an event came for it and no step has settled the debt since.
 use Rattle.std.proofs.Common.{◌≡◌, ◌≢◌, ◌⊎◌, inl, inr, ℕ, zero, suc, ◌+◌, ◌<◌, Bool, true, false, Option, Some, None, refl, sym, ap, subst, ◌∙◌, arith}
 use Rattle.std.specs.Prelude.{◌==◌, if◌then◌else◌, option_and_then, option_map, IsTrue}
 use Rattle.std.proofs.lemmas.Bool.{eqb-false, eqb-true}
@@ -28,7 +28,7 @@ debt_of side a = option_and_then (λ (x : Account). of_side side x.debts) a
 abbrev pub event_of : Option Debt → Option ℕ
 event_of debt = option_map (λ (b : Debt). b.event) debt
 
--- the notice pays the debt of a side, given the descriptor's account
+-- the notice settles the debt of a side, given the descriptor's account
 abbrev pub Pays : ℕ → Side → Notice → Option Account → Type 0
 Pays d side x a =
     ((s : ℕ) × (x ≡ notices.Opened d s)) ⊎ ((s : ℕ) × (x ≡ notices.Tried s side) × (option_map (λ (y : Account). y.socket) a ≡ Some s))
@@ -37,8 +37,8 @@ Pays d side x a =
 abbrev pub Comes : ℕ → Side → Notice → Type 0
 Comes d side x = (mode : Mode) × (x ≡ notices.Event d mode) × IsTrue (names_side mode side)
 
--- The effect of a notice on the debt of a side: it adds one, pays it, or leaves the event
--- unchanged.
+-- The effect of a notice on the debt of a side: it adds a debt, settles the debt, or leaves the
+-- debt's event unchanged.
 pub data Effect (n d : ℕ) (side : Side) (x : Notice) (a : Option Account) : Type 0 where
   Owes : Comes d side x → event_of (debt_of side (account_after n d x a)) ≡ Some n → Effect n d side x a
   Clears : Pays d side x a → debt_of side (account_after n d x a) ≡ None → Effect n d side x a
@@ -189,7 +189,7 @@ effect n d side notices.Nothing a =
 
 -- ---- over a recording
 
--- an event pays nothing
+-- an event settles no debt
 not_both : (d : ℕ) (side : Side) (x : Notice) (a : Option Account) → Comes d side x → Pays d side x a → ⊥
 not_both d side x a comes (inl p) = let is = sym comes.1 ∙ p.1 in cc
 not_both d side x a comes (inr p) = let is = sym comes.1 ∙ p.1 in cc
@@ -210,7 +210,8 @@ module _ (r : Recording) (d : ℕ) (side : Side) where
   kept_there : (n : ℕ) → Comes d side (notice_at r n) → account r d n ≡ None → ⊥
   kept_there n comes none = let kept = event_is_kept r d n comes.0 comes.1 in none-some _ (sym none ∙ kept.1)
 
-  -- if no step before position n nor the one after it pays, no step before position n + 1 pays
+  -- if neither a step before position n nor the step after it settles the debt, no step before
+  -- position n + 1 does
   unpaid_on : (n event : ℕ) → ((k : ℕ) → event < k → k < n → ¬ IsPayment r d side k) → ¬ IsPayment r d side n → (k : ℕ) → event < k → k < suc n → ¬ IsPayment r d side k
   unpaid_on n event before now k after below =
       elim (below_or_here k n below) [
@@ -218,7 +219,7 @@ module _ (r : Recording) (d : ℕ) (side : Side) where
         | inr same ↦ subst (λ j. ¬ IsPayment r d side j) (sym same) now
       ]
 
-  -- a debt belongs to an event that nothing has paid
+  -- a debt comes from an event, and no later step has settled it
   pub debt_is_owed : (n : ℕ) (b : Debt) → debt r d side n ≡ Some b → (owed : Owed r n d side) × (b.event ≡ owed.event + 1)
   debt_is_owed zero b is = cc
   debt_is_owed (suc n) b is = go (effect_at n) (debt_is_owed n)
@@ -247,7 +248,7 @@ module _ (r : Recording) (d : ℕ) (side : Side) where
             sym old.2 ∙ owed.1,
           )
 
-  -- an event that nothing has paid is a debt
+  -- the debt of an event remains as long as no later step settles it
   pub owed_is_kept : (n event : ℕ) → event < n → IsEvent r d side event → ((k : ℕ) → event < k → k < n → ¬ IsPayment r d side k)
       → (b : Debt) × (debt r d side n ≡ Some b)
   owed_is_kept zero event before came unpaid = absurd (omega (arith, before))
@@ -265,7 +266,7 @@ module _ (r : Recording) (d : ℕ) (side : Side) where
       go (Leaves not_paid silent same) (inr here) kept =
           absurd (kept_there n (subst (IsEvent r d side) here came) (silent (subst (IsEvent r d side) here came)))
 
-  -- if there is no debt, each event was paid
+  -- if a side has no debt, the debt of each event was settled
   pub paid_since : (n event : ℕ) → event < n → IsEvent r d side event → debt r d side n ≡ None
       → (k : ℕ) × (event < k) × (k < n) × IsPayment r d side k
   paid_since zero event before came none = absurd (omega (arith, before))

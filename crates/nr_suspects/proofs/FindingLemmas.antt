@@ -37,7 +37,7 @@ use Rattle.nr_suspects.proofs.NoticeLemmas.{Moves, Made, Stays, Noticed, OfOpeni
 use Rattle.nr_suspects.proofs.PresenceLemmas.{IsKept, IsMade, made_is_kept}
 use Rattle.nr_suspects.proofs.SettingLemmas.{IsSet, below_or_here, set_now, set_on, setting_is}
 
--- ---- a deadline that is set has a setting
+-- ---- a deadline that is set has a recorded setting
 
 same_opening : (d e s k : ℕ) → notices.Opened d s ≡ notices.Opened e k → d ≡ e
 same_opening d e s k is = cc
@@ -80,7 +80,7 @@ unopened w step answer next d s none (Quiet quiet) opened = true≢false (sym qu
 none_at_first : (d : ℕ) (side : Side) (r : Recording) → IsDeadline (world_at r 0) d side → ⊥
 none_at_first d side r set = none-some _ set.1
 
--- a `setdeadline` applies only to a descriptor that was made
+-- a `setdeadline` applies only to a descriptor that exists
 setdeadline_made : (w : World) (g d : ℕ) (mode : Mode) (t : ℤ) → ComesTo (λ left. IsMade w d) (setdeadline g d mode t w)
 setdeadline_made w g d mode t = ComesTo-then (ComesTo-any (idle g w)) λ _. ComesTo-bind (ComesTo-open_row_of d w) λ row at. record { value = λ left is. (row, at) }
 
@@ -116,7 +116,7 @@ deadline_has_setting r d side (suc n) set = go (moves r n) (deadline_has_setting
         let was = set_before w step answer next d side is (subst (λ x. IsDeadline x d side) leads set) in
         made_step step answer next is leads noticed was.0 was.1 before
 
--- ---- a timeout has a setting
+-- ---- a timeout has a recorded setting
 
 -- a check with code 2 found a deadline that is set
 checked_is_set : (w : World) (step : Step) (answer : Answer) (next : World) (v : Visit) → outcome w step ≡ Ok (answer, next) → Noticed w step answer next → notice w step answer next ≡ notices.Checked v 2 → IsDeadline w v.descriptor v.side
@@ -167,7 +167,7 @@ timeout_has_setting r n v checked = deadline_has_setting r v.descriptor v.side n
         nothing f = cc
     go (Made step answer next read is leads noticed) = checked_is_set (world_at r n) step answer next v is (noticed_of (world_at r n) answer next step) (sym noticed ∙ checked)
 
--- ---- a deadline that passes has a setting
+-- ---- a deadline that passes has a recorded setting
 
 passing_passed : (w next : World) (d : ℕ) (side : Side) (p : Passing) → passing w next d side ≡ Some p → has_passed next d side ≡ true
 passing_passed w next d side p is = by (not (has_passed w d side)) (has_passed next d side) is
@@ -316,7 +316,7 @@ module _ (r : Recording) where
     | inr none ↦ absurd (none-some _ (sym (ap (woken_of side) none) ∙ is))
   ]
 
-  -- below the limit the account is the descriptor's
+  -- below the limit, `account_within` is the descriptor's account
   pub within : (k d : ℕ) → d < r.limits.descriptors → account_within r k d ≡ account r d k
   within k d below = ap (λ b. if b then account r d k else None) (is_below d r.limits.descriptors below)
 
@@ -403,7 +403,7 @@ module _ (r : Recording) where
           Contains-append_right (passed_at (suc k) d Read comes.0.read (account_within r k d)) (passed_at (suc k) d Write comes.0.write (account_within r k d)) there.0
           (subst (λ (s : Side). Contains (passed_at (suc k) d s (of_side s comes.0) (account_within r k d)) there.0) (sym is) at_side)
 
-  -- each call that ends with a deadline is listed
+  -- each call that a deadline ends is listed
   pub ended_is_listed : (n k d g : ℕ) (side : Side) → k < n → d < r.limits.descriptors → Comes r k d side (EndedCall g) → (found : DeadlineFinding) × Contains (deadline_findings r n) found × IsOf k d side (EndedCall g) found
   ended_is_listed n k d g side below few comes =
       let v : Visit = record { goroutine = g; descriptor = d; side = side } in

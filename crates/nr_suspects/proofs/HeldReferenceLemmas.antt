@@ -1,4 +1,4 @@
--- The list of held references is exact, and a closed socket that isn't listed has no reference.
+-- The list of held references is exact, and a closed socket without an entry has no references.
 use Rattle.std.proofs.Common.{◌≡◌, ◌≢◌, ℕ, zero, suc, ◌-◌, ◌<◌, ◌≤◌, Bool, true, false, ◌&&◌, inl, inr, List, [], ◌∷◌, Some, refl, sym, ap, subst, ◌∙◌, arith}
 use Rattle.std.specs.Prelude.{All, Contains, IsTrue, ◌==◌, if◌then◌else◌, nat_lt, slice_get}
 use Rattle.std.specs.Option.{option_map_or}
@@ -28,7 +28,7 @@ use Rattle.nr_suspects.proofs.NotebookLemmas.{not_below}
 
 -- ---- one holding
 
--- the entry describes this goroutine's holding of this socket
+-- the entry describes how many references to this socket this goroutine holds
 record IsOfOne (n s g : ℕ) (status : CellValue) (h : Holding) (held : HeldReference) : Type 0 where
   more : h.given < h.taken
   position : held.position ≡ n
@@ -55,7 +55,7 @@ one_listed n s g status h more =
     let made : HeldReference = record { position = n; socket = s; goroutine = g; count = h.taken - h.given; since = h.since; is_gone = is_gone status } in
     (made, subst (λ (xs : List HeldReference). Contains xs made) (sym (ap (λ (b : Bool). if b then made ∷ [] else []) (is_below h.given h.taken more))) (here made), refl, refl)
 
--- ---- all of a socket
+-- ---- the references to one socket
 
 module _ (n : ℕ) (w : World) (s : ℕ) (held_goroutine : ℕ → Holding) where
   of_goroutines : (k : ℕ) (held : HeldReference) → Contains (held_of_goroutines n w s held_goroutine k) held → (g : ℕ) × IsOfOne n s g (cell w (Cell.Goroutine g)) (held_goroutine g) held
@@ -140,7 +140,7 @@ held_is_listed r n s g few below is =
       found.3,
     )
 
--- if no goroutine took more than it returned, all together didn't either
+-- if no goroutine took more references than it returned, the goroutines together didn't either
 nobody_more : (f h : ℕ → ℕ) (k : ℕ) → ((g : ℕ) → g < k → f g ≤ h g) → total f k ≤ total h k
 nobody_more f h zero less = omega arith
 nobody_more f h (suc k) less =
@@ -148,7 +148,7 @@ nobody_more f h (suc k) less =
     let last = less k (omega arith) in
     omega (arith, rest, last)
 
--- a closed socket that isn't listed has no reference
+-- a closed socket without an entry has no references
 pub unlisted_has_none : (r : Recording) (n s : ℕ) (socket : Socket) → 0 < r.limits.goroutines → All IsTimely r.steps → slice_get (world_at r n).sockets s ≡ Some socket → socket.lock.closed ≡ true
     → ((held : HeldReference) → Contains (held_references r n) held → held.socket ≢ s) → references_at (world_at r n) s ≡ 0
 unlisted_has_none r n s socket room timely at closed unlisted = by (nat_lt 0 socket.lock.references) refl

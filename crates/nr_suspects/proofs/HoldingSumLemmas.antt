@@ -1,4 +1,4 @@
--- The references of a socket that all goroutines took and returned add up to the count of its lock.
+-- The references to a socket that all goroutines took and returned add up to the count in its lock.
 use Rattle.std.proofs.Common.{◌≡◌, ℕ, zero, suc, ◌+◌, ◌<◌, ◌≤◌, Bool, true, false, ◌&&◌, inl, inr, List, Option, Some, None, Ok, refl, sym, ap, subst, ◌∙◌, arith, true≢false}
 use Rattle.std.specs.Prelude.{All, ◌==◌, if◌then◌else◌, slice_get}
 use Rattle.nr_rev.specs.declared.sides.Side.TheVariants.{Read, Write}
@@ -47,7 +47,7 @@ total_both : (f h : ℕ → ℕ) (k : ℕ) → total (λ g. f g + h g) k ≡ tot
 total_both f h zero = refl
 total_both f h (suc k) = let rest = total_both f h k in omega (arith, rest)
 
--- 1 at place h, 0 elsewhere
+-- 1 if the place is h, otherwise 0
 abbrev place_of : ℕ → ℕ → ℕ
 place_of h g = if g == h then 1 else 0
 
@@ -70,7 +70,7 @@ one_place h (suc k) below = by (k == h) refl (λ less. one_place h k less)
 abbrev count_if : Bool → ℕ
 count_if b = if b then 1 else 0
 
--- 1 at place h of socket s, 0 elsewhere
+-- 1 for goroutine h at socket s, otherwise 0
 abbrev here_of : ℕ → ℕ → ℕ → ℕ → ℕ
 here_of s h k g = if (g == h) && (s == k) then 1 else 0
 
@@ -89,9 +89,9 @@ one_here s h k G below = by (s == k) refl
         each g true is = ap (λ (x : Bool). count_if x) apart
         each g false is = refl
 
--- ---- what a notice moves
+-- ---- the references that a notice takes and returns
 
--- how many references of socket s goroutine g takes
+-- how many references to socket s goroutine g takes
 abbrev took : ℕ → Notice → ℕ → ℕ
 took s (notices.TookReference h k) g = here_of s h k g
 took s x g = 0
@@ -128,7 +128,7 @@ moves_none (notices.TookReference h k) = false
 moves_none (notices.GaveReference h k) = false
 moves_none x = true
 
--- the references of socket s that a notice takes and returns, summed over the goroutines below G
+-- the references to socket s that a notice takes and returns, summed over the goroutines below G
 record Sums (s G : ℕ) (x : Notice) (takes gives : ℕ) : Type 0 where
   takes_is : total (took s x) G ≡ takes
   gives_is : total (gave s x) G ≡ gives
@@ -147,7 +147,7 @@ none_moved s G (notices.SocketOpened sock room) e = record { takes_is = total_no
 none_moved s G (notices.PeerClosed sock) e = record { takes_is = total_none G; gives_is = total_none G }
 none_moved s G notices.Nothing e = record { takes_is = total_none G; gives_is = total_none G }
 
--- ---- what a step moves
+-- ---- the references that a step takes and returns
 
 taken_of_yes : (answer : Answer) → ((answer_eq.ghosts).eq answer answers.Yes ≡ false) → taken_by answer ≡ 0
 taken_of_yes answers.Yes e = absurd (yes e)
@@ -289,7 +289,7 @@ step_sums w (Step.CloseWrite g k) answer next s fits is = none_moved s w.limits.
 timely_at : (steps : List Step) (n : ℕ) (step : Step) → All IsTimely steps → slice_get steps n ≡ Some step → IsTimely step
 timely_at steps n step timely read = subst IsTimely (get_or_from_slice_get steps n step step read) (timely n step (slice_get_within steps n step read))
 
--- the references that all goroutines took and returned add up to the count of the lock
+-- the references that all goroutines took and returned add up to the count in the lock
 pub sums_at : (r : Recording) (n s : ℕ) → 0 < r.limits.goroutines → All IsTimely r.steps
     → references_at (world_at r n) s + total (λ g. (holding r g s n).given) r.limits.goroutines ≡ total (λ g. (holding r g s n).taken) r.limits.goroutines
 sums_at r zero s room timely = let none = total_none r.limits.goroutines in omega (arith, none)

@@ -16,7 +16,7 @@ module _ {X : Type 0} (items : X → List Holding) (rows : List X) (s : ℕ) whe
   place_is : (t g : ℕ) (row : X) → slice_get rows t ≡ Some row → place (map items rows) t g ≡ slice_get (items row) g
   place_is t g row at = ap (option_and_then (λ (r : List Holding). slice_get r g)) (row_is t row at)
 
-  -- a row of a ledger whose counts can grow has counts that can grow
+  -- if the counts of a ledger can grow, the counts of each of its rows can grow
   pub row_has_room : (row : X) → slice_get rows s ≡ Some row → CanCount (map items rows) → RowCanCount (items row)
   row_has_room row at room g h is = room s g h (place_is s g row at ∙ is)
 
@@ -43,7 +43,7 @@ row_noted items rows n g s notice old new at noted =
     within t k (inr apart) same is =
         place_is items (set rows s new) s t k new is ∙ noted.elsewhere k apart ∙ sym (place_is items rows s t k old (ap (slice_get rows) same ∙ at))
 
--- beyond the rows there is no place
+-- a ledger has no places beyond its rows
 no_place : (rows : List (List Holding)) (s g : ℕ) → length rows ≤ s → place rows s g ≡ None
 no_place rows s g past = go (slice_get rows s) refl
   where

@@ -37,7 +37,7 @@ use Rattle.nr_laws.proofs.BoolLemmas.{neither_of, not_false}
 use Rattle.nr_laws.proofs.LookupLemmas.{Ends-idle, Ends-socket_of}
 use Rattle.nr_suspects.specs.LockedSides.{is_locked}
 
--- ---- a lock's operations
+-- ---- the operations of a lock
 
 ComesTo-cases : {A : Type 0} {P : A → Type 0} (c : Bool) {x y : Result A Refusal} → (c ≡ true → ComesTo P x) → (c ≡ false → ComesTo P y) → ComesTo P (if c then x else y)
 ComesTo-cases true a b = a refl
@@ -67,7 +67,7 @@ tried side lock =
     (λ locked. ComesTo-bind (raised (of_side side lock.waiters)) λ n is. ComesTo-ok (Waits refl (ap (λ k. record lock { waiters = with_side side k lock.waiters }) is) is_open locked))
     (λ free. ComesTo-bind (raised lock.references) λ n is. ComesTo-ok (Takes refl (ap (λ k. record lock { locked = with_side side true lock.locked; references = k }) is) is_open free))
 
--- the lock with the side unlocked, one reference less and one waiter less
+-- the lock with the side unlocked, one reference fewer and one waiter fewer
 abbrev freed_at : Side → Lock → Lock
 freed_at side lock = record lock { locked = with_side side false lock.locked; references = lock.references - 1; waiters = with_side side (of_side side lock.waiters - 1) lock.waiters }
 
@@ -127,7 +127,7 @@ module _ (w : World) (g k : ℕ) (socket : Socket) (lock : Lock) (status : Statu
   now_locked : (side : Side) → is_locked left_world k side ≡ of_side side lock.locked
   now_locked side = ap (locked_in side) socket_here
 
-  -- a side that the new lock has unchanged is unchanged in the world
+  -- if a step leaves a side of the lock unchanged, the side is unchanged in the world
   unseen : (s : ℕ) (side : Side) → of_side side lock.locked ≡ of_side side socket.lock.locked → is_locked left_world s side ≡ is_locked w s side
   unseen s side same = slice_get-set_unseen (locked_in side) w.sockets k socket (record socket { lock = lock }) s at same
 
@@ -145,7 +145,7 @@ module _ (w : World) (g k : ℕ) (socket : Socket) (lock : Lock) (status : Statu
         | inr other ↦ inr other.0
       ]
 
--- the sides after an attempt to lock one
+-- the sides after an attempt to lock one of them
 tried_turn : (w : World) (g k s : ℕ) (at_side side : Side) (socket : Socket) (status : Status) (left : LockOutcome) (at : slice_get w.sockets k ≡ Some socket)
     → Tried at_side socket.lock left → Turn w s side (Step.RwLock g k at_side) (left.answer, left_world w g k socket left.lock status at)
 tried_turn w g k s at_side side socket status left at (Refused answer lock closed) = Kept (unseen w g k socket left.lock status at s side (ap (λ (x : Lock). of_side side x.locked) lock))
@@ -432,11 +432,11 @@ unlock_owes_a_waiter w g s side socket answer next there is =
 
 -- ---- runs
 
--- these steps, from a world on, include an rwunlock of the side that applies
+-- these steps, starting from a world, include an rwunlock that unlocks the side
 abbrev GivenBack : World → ℕ → Side → List Step → Type 0
 GivenBack w s side steps = (n k : ℕ) × (slice_get steps n ≡ Some (Step.RwUnlock k s side)) × IsOk (outcome (world_after w (take n steps)) (Step.RwUnlock k s side))
 
--- the same after one more step at the beginning
+-- if the steps after the first include such an rwunlock, so do all the steps
 given_back_later : (w : World) (s : ℕ) (side : Side) (step : Step) (steps : List Step) → GivenBack (next_of w (outcome w step)) s side steps → GivenBack w s side (step ∷ steps)
 given_back_later w s side step steps rest = (suc rest.0, rest.1, rest.2, rest.3)
 

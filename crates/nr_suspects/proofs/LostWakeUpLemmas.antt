@@ -1,4 +1,4 @@
--- The list of lost wake-ups: how it grows, and that it is exact.
+-- The list of lost wake-ups grows by descriptors, and it is exact.
 use Rattle.std.proofs.Common.{◌≡◌, inl, inr, ℕ, zero, suc, ◌+◌, ◌<◌, Bool, true, false, List, [], ◌∷◌, ◌++◌, Option, Some, None, refl, ap, subst, sym, ◌∙◌, add-one, arith}
 use Rattle.std.specs.Prelude.{Contains, ◌==◌, option_map, slice_get}
 use Rattle.std.proofs.lemmas.Bool.{eqb-false, eqb-true}
@@ -37,7 +37,7 @@ next_listed n w kept d a before between after same is read write =
     ∙ ap (λ x. lost_below n w kept d ++ (lost_at n w d x Read ++ lost_at n w d x Write)) same
     ∙ ap (lost_below n w kept) (sym (add-one d))
 
--- ---- just those that there are
+-- ---- the list is exact
 
 pub here : {X : Type 0} (x : X) → Contains (x ∷ []) x
 here x = Contains-push [] x
@@ -45,7 +45,8 @@ here x = Contains-push [] x
 pub nowhere : {X : Type 0} (y : X) → Contains [] y → ⊥
 nowhere y at = omega (arith, at.1)
 
--- the entry is of a side whose word holds its goroutine, and that has this debt
+-- the entry describes this side: the side's word holds the entry's goroutine, and the side has this
+-- debt
 pub record IsOf (n d : ℕ) (side : Side) (word : CellValue) (debt : Option Debt) (lost : LostWakeUp) : Type 0 where
   pub held : word ≡ CellValue.WaitWord (Held lost.goroutine)
   pub owed : (b : Debt) × (debt ≡ Some b) × (lost.event ≡ b.event) × (lost.taken ≡ b.taken)
@@ -72,7 +73,7 @@ from_word n d side (CellValue.Time x) debt lost at = absurd (nowhere lost at)
 from_word n d side (CellValue.Status x) debt lost at = absurd (nowhere lost at)
 
 module _ (n : ℕ) (w : World) (kept : ℕ → Option Account) where
-  -- the lost wake-up of a side names that side
+  -- the lost wake-up at a side names that side
   at_own : (d : ℕ) (side : Side) (lost : LostWakeUp) → Contains (lost_at n w d (kept d) side) lost → Contains (lost_at n w lost.descriptor (kept lost.descriptor) lost.side) lost
   at_own d side lost at =
       let is = from_word n d side (cell w (word_cell d side)) (debt_of side (kept d)) lost at in
@@ -121,14 +122,14 @@ pub word_held : (o : Option DescriptorRow) (side : Side) (g : ℕ) → option_ma
 word_held None side g e = cc
 word_held (Some row) side g e = ap CellValue.WaitWord (same_Some _ _ e)
 
--- each listed lost wake-up is of the side that it names
+-- each entry describes the side that it names
 pub listed_word : (r : Recording) (n : ℕ) (lost : LostWakeUp) → Contains (lost_wake_ups r n) lost
     → IsOf n lost.descriptor lost.side (cell (world_at r n) (word_cell lost.descriptor lost.side)) (debt r lost.descriptor lost.side n) lost
 listed_word r n lost at =
     let d = lost.descriptor in
     from_word n d lost.side (cell (world_at r n) (word_cell d lost.side)) (debt r d lost.side n) lost (from_all n (world_at r n) (λ e. account r e n) r.limits.descriptors lost at)
 
--- each listed lost wake-up is one
+-- each entry is a lost wake-up
 pub listed_is_lost : (r : Recording) (n : ℕ) (lost : LostWakeUp) → WellFormed (world_at r n) → Contains (lost_wake_ups r n) lost
     → (has : HasLost r n lost.goroutine lost.descriptor lost.side) × (lost.position ≡ n) × (lost.event ≡ has.owed.event + 1)
 listed_is_lost r n lost fits at =
@@ -151,7 +152,7 @@ lost_is_listed r n g d side fits below has =
     let listed : lost_at n w d (account r d n) side ≡ lost ∷ [] = ap (λ x. lost_by n d side x (debt r d side n)) word ∙ ap (lost_by n d side (CellValue.WaitWord (Held g))) b.1 in
     (lost, to_all n w (λ e. account r e n) r.limits.descriptors d side lost below (subst (λ xs. Contains xs lost) (sym listed) (here lost)), refl, refl, refl)
 
--- if none is listed, each event for the side of a parked goroutine was paid
+-- if no lost wake-up is listed, the debt of each event for a parked goroutine's side was settled
 pub paid_if_none : (r : Recording) (n g d : ℕ) (side : Side) (event : ℕ) → WellFormed (world_at r n) → d < r.limits.descriptors → lost_wake_ups r n ≡ []
     → HasView parked_of (world_at r n).goroutines g (d, side) → event < n → IsEvent r d side event
     → (k : ℕ) × (event < k) × (k < n) × IsPayment r d side k

@@ -80,7 +80,7 @@ notes_first r notes accounts peers rows deadlines =
       deadlines = deadlines;
     }
 
--- ---- one step more
+-- ---- after one more step
 
 -- the accounts are those of the recording, within its limits
 kept_within : (r : Recording) (n d : ℕ) (accounts : List (Option Account)) → AreAccounts r n accounts → kept_of accounts d ≡ account_within r n d
@@ -153,7 +153,7 @@ notes_next r n noticed old new notes is accounts peers rows deadlines =
         ∙ ap (holding_after (n + 1) g s noticed) (notes.holdings.right s g before at)
         ∙ holding_on s g
 
--- ---- room to count
+-- ---- the counts have room to grow
 
 counted_after : (n k g s : ℕ) (noticed : Notice) (h : Holding) → (h.taken ≤ n) × (h.given ≤ n) → ((holding_after k g s noticed h).taken ≤ n + 1) × ((holding_after k g s noticed h).given ≤ n + 1)
 counted_after n k g s noticed h few = go noticed
@@ -195,7 +195,7 @@ has_room r n notes are few s g h at =
     let same = are.holdings.right s g h at in
     (subst (λ (x : Holding). x.taken < 2 ^ 64 - 1) (sym same) (omega (arith, counts.0, few)), subst (λ (x : Holding). x.given < 2 ^ 64 - 1) (sym same) (omega (arith, counts.1, few)))
 
--- ---- what is found
+-- ---- the findings
 
 lost_same : (n : ℕ) (w : World) (f g : ℕ → Option Account) (k : ℕ) → ((d : ℕ) → d < k → f d ≡ g d) → lost_below n w f k ≡ lost_below n w g k
 lost_same n w f g zero same = refl
@@ -215,7 +215,7 @@ held_same n w f g goroutines (suc k) same =
     ap (λ xs. xs ++ (if is_unfreed w k then held_of_goroutines n w k (f k) goroutines else [])) (held_same n w f g goroutines k (λ s x below within. same s x (omega (arith, below)) within))
     ∙ ap (λ ys. held_of_sockets n w g goroutines k ++ (if is_unfreed w k then ys else [])) (held_below_same n w k (f k) (g k) goroutines (λ x within. same k x (omega arith) within))
 
--- the other ends in the notebook are the machine's
+-- the other ends in the notebook are those in the machine
 peers_are : (r : Recording) (n : ℕ) (peers : List (Option Peer)) → WellFormed (world_at r n) → ArePeers r n peers → (s : ℕ) → peer_in peers s ≡ option_map peer_of (slice_get (world_at r n).sockets s)
 peers_are r n peers fits are s = by (nat_lt s r.limits.sockets) refl (slice_get peers s) (slice_get (world_at r n).sockets s) refl refl
   where
@@ -233,7 +233,7 @@ peers_are r n peers fits are s = by (nat_lt s r.limits.sockets) refl (slice_get 
         let places = are.places in
         absurd (not_below s r.limits.sockets above (omega (arith, within, places)))
 
--- the sleepers in the notebook are the recording's
+-- the sleepers found with the notebook are those of the recording
 asleep_are : (r : Recording) (n : ℕ) (notes : Notes) → WellFormed (world_at r n) → AreNotes r n notes
     → sleepers_below n (world_at r n) (reason_kept (world_at r n) (kept_of notes.accounts) (peer_in notes.peers)) r.limits.descriptors ≡ sleepers r n
 asleep_are r n notes fits are =
@@ -242,7 +242,7 @@ asleep_are r n notes fits are =
     kept_shows w (kept_of notes.accounts) (peer_in notes.peers) d side (peers_are r n notes.peers fits are.peers)
     (ap (λ o. option_map (λ (y : Account). y.socket) (option_and_then (λ a. a) o)) (are.accounts.each d below) ∙ socket_is r d n)
 
--- the suspects found with the notebook are the recording's
+-- the suspects found with the notebook are those of the recording
 pub found_are : (r : Recording) (w : World) (notes : Notes) (found : Suspects) → AreNotes r (length r.steps) notes → w ≡ world_at r (length r.steps) → WellFormed w
     → AreFound (length r.steps) w r.limits notes found → found_lines found ≡ suspect_lines r
 found_are r w notes found are there fits is =

@@ -28,8 +28,8 @@ after_next [] w (suc n) = refl
 after_next (step ∷ steps) w zero = refl
 after_next (step ∷ steps) w (suc n) = after_next steps (next_of w (outcome w step)) n
 
--- The step after a position leads to the next one with this notice; or the world is unchanged, and
--- there is no notice.
+-- The step after a position turns its world into the next one and has this notice; or the world is
+-- unchanged, and the notice is `Nothing`.
 pub data Moves (r : Recording) (n : ℕ) : Type 0 where
   Made : (step : Step) (answer : Answer) (next : World) → slice_get r.steps n ≡ Some step → outcome (world_at r n) step ≡ Ok (answer, next) → world_at r (suc n) ≡ next → notice_at r n ≡ notice (world_at r n) step answer next → Moves r n
   Stays : world_at r (suc n) ≡ world_at r n → notice_at r n ≡ notices.Nothing → Moves r n
@@ -99,7 +99,8 @@ socket_cases capacity answers.Pipe = inr refl
 
 -- ---- notices by step
 
--- true if a notice neither opens a descriptor nor is an event, sets deadlines or visits a side
+-- true if a notice isn't an opening of a descriptor, an event, a setting of deadlines or a visit to
+-- a side
 abbrev pub is_quiet : Notice → Bool
 is_quiet (notices.Tried s side) = true
 is_quiet (notices.TookReference g s) = true
@@ -186,7 +187,7 @@ module _ (w : World) (answer : Answer) (next : World) where
 
 -- ---- checks
 
--- a check's notice has its code; any other answer has no notice
+-- the notice of a check has the check's code; any other answer has no notice
 pub checking_cases : (v : Visit) (answer : Answer) → ((code : ℕ) × (answer ≡ answers.Code code) × (checking v answer ≡ notices.Checked v code)) ⊎ (checking v answer ≡ notices.Nothing)
 checking_cases v (answers.Number x) = inr refl
 checking_cases v (answers.Code x) = inl (x, refl, refl)

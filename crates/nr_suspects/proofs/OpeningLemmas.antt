@@ -111,7 +111,7 @@ swapped_rows g e side Ready row w at = row_set w e row _ at refl
 swapped_rows g e side Wait row w at = row_set w e row _ at refl
 swapped_rows g e side (Held h) row w at = row_set w e row _ at refl
 
--- ---- changes of a descriptor leave its socket
+-- ---- changes of a descriptor leave its socket unchanged
 
 then_if_socket : (first : Change) (b : Bool) (next : Descriptor → Change) → ((x : Descriptor) → (next x).descriptor.socket ≡ x.socket) → (then_if first b next).descriptor.socket ≡ first.descriptor.socket
 then_if_socket first true next same = same first.descriptor
@@ -260,7 +260,7 @@ fire_rows w i = ComesTo-bind (ComesTo-any (found_or (slice_get w.firings i) _)) 
 closewrite_rows : (w : World) (g : ℕ) (k : ℕ) → ComesTo (Keeps w) (outcome w (Step.CloseWrite g k))
 closewrite_rows w g k = by_descriptors w (outcome w (Step.CloseWrite g k)) (ComesTo-then (ComesTo-any (idle g w)) λ _. ComesTo-bind (ComesTo-any (socket_of k w)) λ socket _. ComesTo-ok refl)
 
--- ---- what is noticed of them
+-- ---- the notices of openings
 
 -- true if the notice opens no descriptor
 abbrev opens_none : Notice → Bool
@@ -316,7 +316,7 @@ ran w next (Some d) = refl
 
 -- ---- every kind
 
--- after a step the socket of descriptor d is the one that the notice gives
+-- after a step, descriptor d has the socket that the notice implies
 abbrev Follows : World → ℕ → Step → Outcome → Type 0
 Follows w d step o = ComesTo (λ (left : Answer × World). row_socket left.1 d ≡ socket_after d (notice w step left.0 left.1) (row_socket w d)) o
 
@@ -325,7 +325,7 @@ stays w step d kept none = record {
   value = λ left is. kept.value left is d ∙ sym (none_stays d (notice w step left.0 left.1) (row_socket w d) (none left.0 left.1));
 }
 
--- a place that was taken has a row, and the other rows are unchanged
+-- the new row is at the place that was taken, and the other rows are unchanged
 record IsTaken (w : World) (place : ℕ × World) : Type 0 where
   others : (d : ℕ) → d ≢ place.0 → row_socket place.1 d ≡ row_socket w d
 
@@ -397,7 +397,7 @@ follows w Step.Pop d = stays w Step.Pop d (pop_rows w) (λ a m. refl)
 follows w (Step.Fire i) d = stays w (Step.Fire i) d (fire_rows w i) (λ a m. ran w m (fired_descriptor w (Step.Fire i)))
 follows w (Step.CloseWrite g k) d = stays w (Step.CloseWrite g k) d (closewrite_rows w g k) (λ a m. refl)
 
--- ---- what is kept
+-- ---- the socket in the account
 
 mapped : (a : Option Account) (f : Account → Account) → ((y : Account) → (f y).socket ≡ y.socket) → option_map (λ (y : Account). y.socket) (option_map f a) ≡ option_map (λ (y : Account). y.socket) a
 mapped None f same = refl

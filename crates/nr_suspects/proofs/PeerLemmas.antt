@@ -1,4 +1,4 @@
--- The other ends in the notebook are the machine's.
+-- The other ends in the notebook are those in the machine.
 use Rattle.std.proofs.Common.{◌≡◌, ℕ, zero, suc, ◌*◌, ◌&&◌, ◌||◌, not, Bool, true, false, length, List, [], ◌∷◌, Option, Some, None, inl, inr, refl, sym, ap, ◌∙◌, true≢false}
 use Rattle.std.specs.Prelude.{if◌then◌else◌, ◌==◌, int_le, int_lt, nat_le, nat_lt, option_map, remove, slice_get, slice_set, ℤ}
 use Rattle.std.proofs.lemmas.Bool.{eqb-false, eqb-true}
@@ -186,7 +186,7 @@ fire_peers w i = by_sockets w (outcome w (Step.Fire i)) (ComesTo-bind (ComesTo-a
 closewrite_peers : (w : World) (g : ℕ) (k : ℕ) → ComesTo (KeepsPeers w) (outcome w (Step.CloseWrite g k))
 closewrite_peers w g k = ComesTo-then (ComesTo-any (idle g w)) λ _. ComesTo-bind (ComesTo-ends (Ends-socket_of k w)) λ socket there. ComesTo-ok (peers_set w k socket _ there refl)
 
--- ---- what is noticed of them
+-- ---- the notices of other ends
 
 -- true if the notice concerns no socket's other end
 abbrev is_peerless : Notice → Bool
@@ -238,7 +238,7 @@ ran w next (Some d) = refl
 
 -- ---- every kind
 
--- after a step the other end of socket s is the one that the notice gives
+-- after a step, the other end of socket s is the one that the notice implies
 abbrev Follows : World → ℕ → Step → Outcome → Type 0
 Follows w s step o = ComesTo (λ (left : Answer × World). seen_peer left.1 s ≡ peer_after s (notice w step left.0 left.1) (seen_peer w s)) o
 
@@ -309,7 +309,7 @@ follows w Step.Pop s = stays w Step.Pop s (pop_peers w) (λ a m. refl)
 follows w (Step.Fire i) s = stays w (Step.Fire i) s (fire_peers w i) (λ a m. ran w m (fired_descriptor w (Step.Fire i)))
 follows w (Step.CloseWrite g k) s = stays w (Step.CloseWrite g k) s (closewrite_peers w g k) (λ a m. refl)
 
--- a socket's other end in the notebook is the machine's
+-- the other end of a socket in the notebook is the one in the machine
 pub peer_is : (r : Recording) (s n : ℕ) → peer r s n ≡ option_map peer_of (slice_get (world_at r n).sockets s)
 peer_is r s zero = refl
 peer_is r s (suc n) = go (moves r n) (peer_is r s n)

@@ -1,4 +1,4 @@
--- Each descriptor that was made has an account, so an event finds one.
+-- Each descriptor that exists has an account, so an event finds its account.
 use Rattle.std.proofs.Common.{◌≡◌, ℕ, zero, suc, Bool, true, false, List, [], ◌∷◌, length, ◌⊎◌, inl, inr, Option, Some, None, Ok, refl, sym, ap, subst, ◌∙◌, true≢false}
 use Rattle.std.specs.Prelude.{◌==◌, ◌||◌, if◌then◌else◌, nat_lt, slice_get, option_map}
 use Rattle.std.proofs.lemmas.Bool.{eqb-false}
@@ -130,13 +130,13 @@ was_made w Step.Pop d = unchanged w Step.Pop d refl
 was_made w (Step.Fire i) d = unchanged w (Step.Fire i) d refl
 was_made w (Step.CloseWrite g k) d = unchanged w (Step.CloseWrite g k) d refl
 
--- ---- what is kept
+-- ---- accounts
 
 -- the account exists
 abbrev pub IsKept : Option Account → Type 0
 IsKept a = (x : Account) × (a ≡ Some x)
 
--- an account persists after any notice
+-- a descriptor that has an account still has one after any notice
 pub kept_on : (n d : ℕ) (x : Notice) (a : Option Account) → IsKept a → IsKept (account_after n d x a)
 kept_on n d (notices.Opened e s) a kept = by_opening (d == e)
   where
@@ -187,14 +187,14 @@ made_is_kept r d (suc n) made = go (moves r n) (made_is_kept r d n)
 
 -- ---- events
 
--- an event that was done belongs to a descriptor that exists
+-- an event that was answered `Done` names a descriptor that exists
 event_made : (w : World) (d tag : ℕ) (mode : Mode) (error : Bool) → ComesTo (λ left. IsMade w d) (pollevent d tag mode error w)
 event_made w d tag mode error = ComesTo-bind (ComesTo-ends (Ends-row_of d w)) λ row at. record { value = λ left is. (row, at) }
 
 same_event : (d e : ℕ) (mode other : Mode) → notices.Event d mode ≡ notices.Event e other → (d ≡ e) × (mode ≡ other)
 same_event d e mode other is = (cc, cc)
 
--- The step of an event: it was done and led to the next position.
+-- The step of an event: it was answered `Done`, and made the world of the next position.
 pub record EventStep (r : Recording) (d n : ℕ) (mode : Mode) : Type 0 where
   pub tag : ℕ
   pub error : Bool

@@ -1,4 +1,4 @@
--- Only events make a side ready, and only three kinds of steps take readiness.
+-- An event makes its sides ready, and only three kinds of steps take readiness.
 use Rattle.std.proofs.Common.{◌≡◌, ℕ, length, Bool, true, false, not, ◌&&◌, ◌||◌, List, [], ◌∷◌, ◌++◌, ◌⊎◌, inl, inr, Option, Some, None, Ok, refl, sym, ap, subst, ◌∙◌, true≢false}
 use Rattle.std.specs.Prelude.{◌==◌, if◌then◌else◌, nat_lt, remove, slice_get, slice_set, option_map, ℤ, negsuc}
 use Rattle.std.specs.Ordering.{int_eq}
@@ -203,7 +203,7 @@ change_stays e d side row change w at kept = record {
 abbrev Opens : Step → Answer × World → ℕ → Type 0
 Opens step left d = (g s : ℕ) × (step ≡ Step.PollOpen g s) × (left.0 ≡ answers.Number d)
 
--- one of the three kinds that take readiness
+-- the kind is one of the three that take readiness
 abbrev IsTaker : Kind → Type 0
 IsTaker kind = (kind ≡ Kind.PollReset) ⊎ (kind ≡ Kind.BlockArm) ⊎ (kind ≡ Kind.BlockSwap)
 
@@ -323,7 +323,8 @@ blockswap_takes w g d side =
     ComesTo-ok
     (swapped_takes w g place.0 d place.1 side (of_side place.1 row.descriptor.words) row at (visits w g place.0 place.1 status there (ap (λ x. wait_place (CellValue.Status x)) swaps)))
 
--- a commit replaces only a waiting word by the goroutine, and leaves other words unchanged
+-- a commit puts the goroutine in a word only if the word is waiting, and leaves other words
+-- unchanged
 committed_stays : (w : World) (g e d : ℕ) (s side : Side) (row : DescriptorRow) → slice_get w.descriptors e ≡ Some row → (word : WaitWord) → of_side s row.descriptor.words ≡ word
     → StaysReady w.descriptors (committed_by g e s word row w).1.descriptors d side
 committed_stays w g e d s side row at Wait is ready = elim (word_or_kept w.descriptors e d s side row (Held g) at ready) [
@@ -392,7 +393,7 @@ unchanged w step d side cannot = record {
   value = λ left is ready. inl (ready_is left.1 d side (ap is_ready_word (step_keeps_cell w step left.0 left.1 (word_cell d side) is cannot) ∙ is_then_ready w d side ready));
 }
 
--- the same for both sides
+-- a step that keeps both sides ready satisfies the law for both
 pub same_for : (step : Step) (cells : Side → Cell) (side : Side) → can_change (kind_of step) (cells Read) ≡ false → can_change (kind_of step) (cells Write) ≡ false → can_change (kind_of step) (cells side) ≡ false
 same_for step cells Read a b = a
 same_for step cells Write a b = b
@@ -435,7 +436,7 @@ keeps_or_takes w Step.Pop d side = untouched w Step.Pop d side refl refl
 keeps_or_takes w (Step.Fire i) d side = keeps w (Step.Fire i) d side (fire_stays w i d side)
 keeps_or_takes w (Step.CloseWrite g k) d side = untouched w (Step.CloseWrite g k) d side refl refl
 
--- only three kinds of steps and another opening take readiness
+-- only these three kinds of steps, and reopening the descriptor, take readiness
 pub taken_by_three : (w next : World) (step : Step) (answer : Answer) (d : ℕ) (side : Side) → outcome w step ≡ Ok (answer, next) → is_ready w d side ≡ true → is_ready next d side ≡ false
     → IsTakenBy w step answer next d side
 taken_by_three w next step answer d side is before after =
@@ -512,7 +513,7 @@ pollevent_readies w d tag mode error side names =
     stale : answers.Stale ≡ answers.Done → ⊥
     stale e = cc
 
--- an event that was done makes its sides ready
+-- an event that was answered `Done` makes its sides ready
 pub event_makes_ready : (w : World) (d tag : ℕ) (mode : Mode) (error : Bool) (side : Side) (next : World) → outcome w (Step.PollEvent d tag mode error) ≡ Ok (answers.Done, next) → names_side mode side ≡ true
     → is_ready next d side ≡ true
 event_makes_ready w d tag mode error side next is names = is_then_ready next d side ((pollevent_readies w d tag mode error side names).value (answers.Done, next) is refl)

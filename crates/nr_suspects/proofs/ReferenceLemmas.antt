@@ -38,9 +38,9 @@ use Rattle.nr_laws.proofs.LookupLemmas.{Ends-socket_of}
 use Rattle.nr_laws.proofs.StepKeepsLemmas.{step_keeps}
 use Rattle.nr_suspects.specs.References.{references_at, taken_by, takes, gives, takes_in, gives_in, taken, given}
 
--- ---- a lock's operations
+-- ---- the operations of a lock
 
--- the resulting lock has the references before, plus those taken, minus those returned
+-- the operation changes the reference count by the references that it takes and returns
 abbrev LockCounts : ℕ → Lock → Result LockOutcome Refusal → Type 0
 LockCounts give lock o = ComesTo (λ (left : LockOutcome). left.lock.references + give ≡ lock.references + taken_by left.answer) o
 
@@ -64,7 +64,7 @@ rw_lock_counts side lock =
     (ComesTo-bind (ComesTo-any (raised_field (of_side side lock.waiters))) λ n _. ComesTo-ok refl)
     (ComesTo-bind (raised lock.references) λ n is. ComesTo-ok (omega (arith, is))))
 
--- the answer of a return takes no reference
+-- an answer to the return of a reference takes no reference
 last_takes : (lock : Lock) → taken_by (Lock.last_of lock) ≡ 0
 last_takes lock = by_last (lock.closed)
   where
@@ -86,7 +86,7 @@ last_is_none lock e = eqb-true lock.references 0 (both_true lock.closed (lock.re
     is_last true e = refl
     is_last false e = cc
 
--- one reference less is left, and none if the answer is `Last`
+-- the lock has one reference fewer than before, and none if the answer is `Last`
 record Gives (lock : Lock) (left : LockOutcome) : Type 0 where
   one : left.lock.references + 1 ≡ lock.references
   none_taken : taken_by left.answer ≡ 0
@@ -111,7 +111,7 @@ rw_unlock_gives side lock =
     ComesTo-then (ComesTo-ends (Ends-refused_if (not (of_side side lock.locked) || (lock.references == 0)) Refusal.InconsistentLock refl)) λ some.
     ComesTo-ok (record { one = some_there lock.references (neither (not (of_side side lock.locked)) (lock.references == 0) some); none_taken = last_takes left; last = last_is_none left })
 
--- ---- a socket whose lock was left so
+-- ---- the references to a socket after its lock was changed
 
 module _ (w : World) (g s k : ℕ) (socket : Socket) (lock : Lock) (status : Status) (at : slice_get w.sockets k ≡ Some socket) where
   abbrev left_world : World
@@ -141,7 +141,7 @@ module _ (w : World) (g s k : ℕ) (socket : Socket) (lock : Lock) (status : Sta
 
 -- ---- steps
 
--- a step counts the references of socket s
+-- a step changes the reference count of socket s by the references that it takes and returns
 abbrev Counts : World → ℕ → Step → Outcome → Type 0
 Counts w s step o = ComesTo (λ (left : Answer × World). references_at left.1 s + gives s step ≡ references_at w s + takes s step left.0) o
 

@@ -1,4 +1,4 @@
--- The recorded setting of a side is the step that set its deadline.
+-- The recorded setting of a side names the step that set the side's deadline.
 use Rattle.std.proofs.Common.{◌≡◌, ◌≢◌, ℕ, zero, suc, ◌<◌, Bool, true, false, ◌⊎◌, inl, inr, Option, Some, None, refl, sym, ap, subst, ◌∙◌, arith, true≢false}
 use Rattle.std.specs.Prelude.{◌==◌, if◌then◌else◌, option_map}
 use Rattle.std.specs.Option.{option_map_or}
@@ -99,16 +99,16 @@ next_of_setting n d side (notices.SocketOpened sock room) y = refl
 next_of_setting n d side (notices.PeerClosed sock) y = refl
 next_of_setting n d side notices.Nothing y = refl
 
--- ---- where a setting comes from
+-- ---- the origin of a setting
 
--- the move of an earlier setting: the first one is kept
+-- the move of an earlier setting: only its first move is kept
 abbrev pub MoveFrom : ℕ → ℕ → Side → Notice → Option StepBy → Option StepBy → Type 0
 MoveFrom n d side x old new =
     ((new ≡ old) × ((g : ℕ) (mode : Mode) → x ≢ notices.SetDeadline g d mode))
     ⊎ ((g : ℕ) × (mode : Mode) × (x ≡ notices.SetDeadline g d mode) × (names_side mode side ≡ false) × (new ≡ Some (option_map_or (λ first. first) old (record { step = n; goroutine = g }))))
 
--- A setting comes from the step that set the deadline; or it existed before, and at most its move
--- is new.
+-- The origin of a setting: this step set the deadline; or the setting existed before, and only its
+-- move may be new.
 pub data SettingFrom (n d : ℕ) (side : Side) (x : Notice) (a : Option Account) (setting : Setting) : Type 0 where
   Fresh : (g : ℕ) (mode : Mode) → x ≡ notices.SetDeadline g d mode → names_side mode side ≡ true → setting.by ≡ record { step = n; goroutine = g } → setting.mode ≡ mode → setting.moved ≡ None → SettingFrom n d side x a setting
   Old : (old : Setting) → side_setting side a ≡ Some old → setting.by ≡ old.by → setting.mode ≡ old.mode → ((g : ℕ) (mode : Mode) → x ≡ notices.SetDeadline g d mode → names_side mode side ≡ true → ⊥)
@@ -184,7 +184,7 @@ setting_from n d side (notices.SocketOpened sock room) (Some y) setting at = as_
 setting_from n d side (notices.PeerClosed sock) (Some y) setting at = as_before n d side (notices.PeerClosed sock) y setting refl (λ h m is. cc) (λ k is. cc) at
 setting_from n d side notices.Nothing (Some y) setting at = as_before n d side notices.Nothing y setting refl (λ h m is. cc) (λ k is. cc) at
 
--- ---- a setting stays
+-- ---- a setting persists
 
 -- the side has a setting
 abbrev pub IsSet : Side → Option Account → Type 0
@@ -216,14 +216,14 @@ next_is_set n d side (notices.SocketOpened sock room) o unopened set = set
 next_is_set n d side (notices.PeerClosed sock) o unopened set = set
 next_is_set n d side notices.Nothing o unopened set = set
 
--- a setting persists, unless the descriptor is reopened
+-- a setting persists unless the descriptor is reopened
 pub set_on : (n d : ℕ) (side : Side) (x : Notice) (a : Option Account) → IsSet side a → ((s : ℕ) → x ≢ notices.Opened d s) → IsSet side (account_after n d x a)
 set_on n d side x None set unopened = absurd (none-some _ set.1)
 set_on n d side x (Some y) set unopened =
     let next = next_is_set n d side x (set_of side y.deadlines) unopened set in
     (next.0, next_of_setting n d side x y ∙ next.1)
 
--- a step that sets the deadline of a side leaves a setting
+-- a step that sets the deadline of a side leaves the side with a setting
 pub set_now : (n d g : ℕ) (mode : Mode) (side : Side) (y : Account) → names_side mode side ≡ true → IsSet side (account_after n d (notices.SetDeadline g d mode) (Some y))
 set_now n d g mode side y names = by (d == d) (names_side mode side) refl names
   where
@@ -244,7 +244,7 @@ set_now n d g mode side y names = by (d == d) (names_side mode side) refl names
 pub below_or_here : (k n : ℕ) → k < suc n → (k < n) ⊎ (k ≡ n)
 below_or_here k n h = grind (arith, h)
 
--- the first move at a position is also the first one at the next
+-- the first move at a position is still the first one at the next position
 module _ (r : Recording) (d : ℕ) (side : Side) (n : ℕ) where
   none_more : (start : ℕ) → ((k g : ℕ) → start < k → k < n → ¬ IsMove r d side k g) → ((g : ℕ) → ¬ IsMove r d side n g) → (k g : ℕ) → start < k → k < suc n → ¬ IsMove r d side k g
   none_more start before now k g after below = elim (below_or_here k n below) [
@@ -263,7 +263,7 @@ module _ (r : Recording) (d : ℕ) (side : Side) (n : ℕ) where
       subst (IsFirstMove r start (suc n) d side) (sym moved.4) (n, before, omega arith, refl, (moved.1, moved.2, moved.3), is)
   first_on start (Some move) new before is (inr moved) = subst (IsFirstMove r start (suc n) d side) (sym moved.4) (stays_first start move is)
 
--- the recorded setting of a side is the one that set its deadline
+-- the recorded setting of a side names the step that set the side's deadline
 pub setting_is : (r : Recording) (d : ℕ) (side : Side) (n : ℕ) (setting : Setting) → side_setting side (account r d n) ≡ Some setting → IsSetBy r n d side setting
 setting_is r d side zero setting is = absurd (none-some _ is)
 setting_is r d side (suc n) setting is = go (setting_from (suc n) d side (notice_at r n) (account r d n) setting is) (setting_is r d side n)

@@ -65,7 +65,7 @@ write_pipes w g s bytes =
 pub pipe_just_if : (w : World) (g s : ℕ) (bytes : List ℕ) (answer : Answer) (next : World) → outcome w (Step.SysWrite g s bytes) ≡ Ok (answer, next) → (answer ≡ answers.Pipe) ↔ (cell w (Cell.Shut s) ≡ Number 1)
 pipe_just_if w g s bytes answer next is = (write_pipes w g s bytes).value (answer, next) is
 
--- writing an element over itself changes nothing
+-- writing the element that a place already has changes nothing
 set_there : {A : Type 0} (xs : List A) (i : ℕ) (x : A) → slice_get xs i ≡ Some x → set xs i x ≡ xs
 set_there [] i x at = refl
 set_there (y ∷ xs) zero x at = ap (λ z. z ∷ xs) (sym (same_Some _ _ at))

@@ -1,4 +1,4 @@
--- The list of sleepers: how it grows, that it is exact, and that the notebook gives the same list.
+-- The list of sleepers grows by descriptors, it is exact, and the notebook yields the same list.
 use Rattle.std.proofs.Common.{◌≡◌, inl, inr, ℕ, zero, suc, ◌+◌, ◌-◌, ◌<◌, ◌/◌, ◌%◌, ◌&&◌, Bool, true, false, List, [], ◌∷◌, ◌++◌, length, Option, Some, None, refl, ap, subst, sym, ◌∙◌, add-one, arith}
 use Rattle.std.specs.Prelude.{Contains, ◌==◌, if◌then◌else◌, nat_lt, option_map, option_and_then, slice_get}
 use Rattle.std.specs.Option.{option_or}
@@ -48,9 +48,10 @@ next_listed n w reasons d read write before between after reads writes is first 
     ∙ ap (λ x. sleepers_below n w reasons d ++ (sleeper_at n w d Read (reasons d Read) ++ sleeper_at n w d Write x)) writes
     ∙ ap (sleepers_below n w reasons) (sym (add-one d))
 
--- ---- just those that there are
+-- ---- the list is exact
 
--- the entry is of a side whose word holds its goroutine, and has this reason to wake it
+-- the entry describes this side: the side's word holds the entry's goroutine, and this is the
+-- reason to wake it
 pub record IsOf (n d : ℕ) (side : Side) (word : CellValue) (why : Option Reason) (s : Sleeper) : Type 0 where
   pub held : word ≡ CellValue.WaitWord (Held s.goroutine)
   pub has_reason : why ≡ Some s.reason
@@ -77,7 +78,7 @@ from_word n d side (CellValue.Time x) why s at = absurd (nowhere s at)
 from_word n d side (CellValue.Status x) why s at = absurd (nowhere s at)
 
 module _ (n : ℕ) (w : World) (reasons : ℕ → Side → Option Reason) where
-  -- the sleeper of a side names that side
+  -- the sleeper at a side names that side
   at_own : (d : ℕ) (side : Side) (s : Sleeper) → Contains (sleeper_at n w d side (reasons d side)) s → Contains (sleeper_at n w s.descriptor s.side (reasons s.descriptor s.side)) s
   at_own d side s at =
       let is = from_word n d side (cell w (word_cell d side)) (reasons d side) s at in
@@ -112,7 +113,7 @@ module _ (n : ℕ) (w : World) (reasons : ℕ → Side → Option Reason) where
   to_all (suc k) d side s below at =
       to_next k d side s (d == k) refl (λ e. let apart = eqb-false d k e in to_all k d side s (omega (arith, below, apart)) at) at
 
--- each listed goroutine sleeps on
+-- each listed goroutine sleeps although it should have been woken
 pub listed_sleeps : (r : Recording) (n : ℕ) (s : Sleeper) → WellFormed (world_at r n) → Contains (sleepers r n) s → SleepsOn (world_at r n) s.goroutine s.descriptor s.side s.reason × (s.position ≡ n)
 listed_sleeps r n s fits at =
     let w = world_at r n in
@@ -127,7 +128,7 @@ word_within : {X : Type 0} (xs : List DescriptorRow) (f : DescriptorRow → X) (
 word_within xs f d x None at is = absurd (none-some _ is)
 word_within xs f d x (Some row) at is = slice_get_within xs d row at
 
--- each goroutine that sleeps on is listed
+-- each goroutine that sleeps although it should have been woken is listed
 pub sleeper_is_listed : (r : Recording) (n g d : ℕ) (side : Side) (why : Reason) → WellFormed (world_at r n) → SleepsOn (world_at r n) g d side why
     → Contains (sleepers r n) (record { position = n; goroutine = g; descriptor = d; side = side; reason = why })
 sleeper_is_listed r n g d side why fits sleeps =
@@ -151,14 +152,14 @@ neither : (a b : Option Reason) → option_or a b ≡ None → (a ≡ None) × (
 neither None b e = (refl, e)
 neither (Some why) b e = absurd (none-some _ (sym e))
 
--- the code of a check, from its findings
+-- the code of a check, from the three conditions that it checks
 abbrev code_by : Bool → Bool → Bool → ℕ
 code_by closing passed error = if closing then 1 else (if passed then 2 else (if error then 3 else 0))
 
 some_none : {A : Type 0} (why : Reason) → Some why ≡ None → A
 some_none why e = absurd (none-some _ (sym e))
 
--- a check gives no reason only if its code is 0
+-- if a check is no reason to end a wait, its code is 0
 code_is_none : (closing passed error : Bool) → reason_of_code (code_by closing passed error) ≡ None → code_by closing passed error ≡ 0
 code_is_none true passed error e = some_none why.Closing e
 code_is_none false true error e = some_none why.Deadline e
@@ -197,7 +198,7 @@ none_if_none r n g d side row fits none parked at =
       λ socket there. has_nothing side socket (sym (ap (option_and_then (reason_of_socket side)) there) ∙ both.1),
     )
 
--- ---- what is kept shows the reasons
+-- ---- the reasons, from the notebook
 
 closing_of_info : (x : Descriptor) → (summary x % 2 == 1) ≡ x.closing
 closing_of_info x =
@@ -239,7 +240,8 @@ sockets_show : (w : World) (s : ℕ) (side : Side) (o : Option Socket) → slice
 sockets_show w s side None at = refl
 sockets_show w s side (Some socket) at = socket_shows w s side socket at
 
--- a descriptor with its account and the sockets' other ends gives the reasons of its row
+-- the reason computed from a descriptor's account and the sockets' other ends is the reason
+-- computed from its row
 account_shows : (w : World) (d : ℕ) (side : Side) (peers : ℕ → Option Peer) (a : Option Account) (o : Option DescriptorRow) → slice_get w.descriptors d ≡ o → ((s : ℕ) → peers s ≡ option_map peer_of (slice_get w.sockets s))
     → option_map (λ (y : Account). y.socket) a ≡ option_map (λ (row : DescriptorRow). row.descriptor.socket) o → option_and_then (reason_of_account w d side peers) a ≡ option_and_then (reason_of_row w side) o
 account_shows w d side peers None None at ends same = refl
@@ -259,7 +261,7 @@ pub kept_shows : (w : World) (kept : ℕ → Option Account) (peers : ℕ → Op
     → option_map (λ (y : Account). y.socket) (kept d) ≡ option_map (λ (row : DescriptorRow). row.descriptor.socket) (slice_get w.descriptors d) → reason_kept w kept peers d side ≡ reason w d side
 kept_shows w kept peers d side ends same = account_shows w d side peers (kept d) (slice_get w.descriptors d) refl ends same
 
--- equal reasons give equal lists
+-- equal reasons make equal lists
 pub sleepers_same : (n : ℕ) (w : World) (f g : ℕ → Side → Option Reason) (k : ℕ) → ((d : ℕ) (side : Side) → d < k → f d side ≡ g d side) → sleepers_below n w f k ≡ sleepers_below n w g k
 sleepers_same n w f g zero same = refl
 sleepers_same n w f g (suc k) same =

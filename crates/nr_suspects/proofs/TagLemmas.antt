@@ -43,7 +43,7 @@ event_at d tag mode error w row =
 event_is : (w : World) (d tag : ℕ) (mode : Mode) (error : Bool) (row : DescriptorRow) → slice_get w.descriptors d ≡ Some row → pollevent d tag mode error w ≡ event_at d tag mode error w row
 event_is w d tag mode error row at = ap (λ o. ◌>>=◌ (found_or o NoSuchDescriptor) (event_at d tag mode error w)) at
 
--- an event with the right tag takes effect: its change has no orders to timers
+-- an event with the right tag takes effect, since its change has no orders for timers
 event_done : (w : World) (d : ℕ) (mode : Mode) (error : Bool) (row : DescriptorRow) → (next : World) × (after_change d row (change_by_event mode error row.descriptor) w ≡ Ok next)
 event_done w d Mode.Read error row = (_, refl)
 event_done w d Mode.Write error row = (_, refl)
@@ -188,7 +188,7 @@ pollclose_rises t d w g e was =
     ComesTo-bind (closed_tag row.descriptor) λ descriptor more.
     ComesTo-ok (row_rises t d e w row (record row { descriptor = descriptor }) at (omega (arith, more)) was)
 
--- a close leaves a higher tag
+-- a close raises the tag
 close_raises : (w : World) (g d : ℕ) (row : DescriptorRow) → slice_get w.descriptors d ≡ Some row → ComesTo (λ (left : Answer × World). AtLeast (row.descriptor.fdseq + 1) d left.1) (pollclose g d w)
 close_raises w g d row there =
     ComesTo-then (ComesTo-any (idle g w)) λ _.

@@ -1,4 +1,4 @@
--- A try is answered `Again` if and only if its socket has nothing for which the side waits.
+-- A try is answered `Again` if and only if its socket doesn't have what the side waits for.
 use Rattle.std.proofs.Common.{◌≡◌, ℕ, ◌<◌, Bool, true, false, List, length, Some, None, Ok, refl, sym, ap, subst, ◌∙◌, arith}
 use Rattle.std.specs.Prelude.{◌↔◌, ◌==◌, if◌then◌else◌, min, nat_lt, slice_get}
 use Rattle.std.proofs.lemmas.Option.{none-some, same_Some}
@@ -23,7 +23,7 @@ positive n some = grind (arith, some)
 none_some : {A : Type 0} (why : Reason) → Some why ≡ None → A
 none_some why e = absurd (none-some _ (sym e))
 
--- the answer and the reason of a read, by the number of bytes it gets
+-- the answer to a read, and the reason to wake a reader, by the number of bytes that can be read
 got_or_again : (k bytes : ℕ) (a b closed : Bool) → nat_lt 0 k ≡ a → nat_lt 0 bytes ≡ b → a ≡ b → (read_answer k closed ≡ answers.Again) ↔ (reason_to_read bytes closed ≡ None)
 got_or_again k bytes true true closed got there same = (
   λ e. absurd (differ (sym (ap (λ x. if x then answers.Got k else (if closed then answers.Eof else answers.Again)) got) ∙ e)),
@@ -65,7 +65,8 @@ pub read_again : (w : World) (g s n : ℕ) (socket : Socket) (answer : Answer) (
     → (answer ≡ answers.Again) ↔ (reason_of_socket Read socket ≡ None)
 read_again w g s n socket answer next there is = (read_answers w g s n socket there).value (answer, next) is
 
--- the answer and the reason of a write, by the number of bytes it puts
+-- the answer to a write, and the reason to wake a writer, by the number of bytes that can be
+-- written
 put_or_again : (k room : ℕ) (a b shut : Bool) → nat_lt 0 k ≡ a → nat_lt 0 room ≡ b → (shut ≡ false → a ≡ b) → (write_answer k shut ≡ answers.Again) ↔ (reason_to_write shut room ≡ None)
 put_or_again k room a b true put there same = (λ e. cc, λ e. none_some why.Shut e)
 put_or_again k room true true false put there same = (

@@ -1,5 +1,5 @@
--- A goroutine that a deadline woke is recorded together with the setting of that deadline, so a
--- deadline that is taken back is listed.
+-- A goroutine that a deadline woke is recorded together with the setting of that deadline, so each
+-- deadline that is set again too soon is listed.
 use Rattle.std.proofs.Common.{◌≡◌, ◌≢◌, ℕ, zero, suc, ◌<◌, ◌++◌, [], Bool, true, false, ◌⊎◌, inl, inr, Option, Some, None, refl, sym, ap, subst, ◌∙◌}
 use Rattle.std.specs.Prelude.{Contains, ◌==◌, if◌then◌else◌}
 use Rattle.std.specs.Option.{option_map_or}
@@ -28,11 +28,11 @@ use Rattle.nr_suspects.specs.Settings.{after_passing, after_setting, looked_at, 
 use Rattle.nr_suspects.proofs.FindingLemmas.{listed_from, listed_if_set, passed_has_setting, within}
 use Rattle.nr_suspects.proofs.SettingLemmas.{IsSet, set_on}
 
--- the recorded woken goroutine of a side
+-- the goroutine recorded as woken at a side
 abbrev woken_in : Side → Sides Deadline → Option ℕ
 woken_in side deadlines = (of_side side deadlines).woken
 
--- a goroutine was recorded as woken before
+-- a goroutine was already recorded as woken at this side
 abbrev WasWoken : Side → Account → Type 0
 WasWoken side y = (h : ℕ) × (woken_in side y.deadlines ≡ Some h)
 
@@ -63,8 +63,8 @@ from_set : (n g : ℕ) (mode : Mode) (side : Side) (deadlines : Sides Deadline) 
 from_set n g mode Read deadlines h e = set_cases _ _ deadlines.read h (names_side mode Read) e
 from_set n g mode Write deadlines h e = set_cases _ _ deadlines.write h (names_side mode Write) e
 
--- A goroutine that is recorded after a notice was recorded before it, unless the deadline passed
--- now.
+-- The origin of the goroutine recorded as woken after a notice: the deadline passed with this
+-- notice, or a goroutine was recorded before.
 data WokenFrom (d : ℕ) (side : Side) (x : Notice) (a : Option Account) : Type 0 where
   Now : (passings : Sides (Option Passing)) (p : Passing) → x ≡ notices.PassedDeadline d passings → of_side side passings ≡ Some p → WokenFrom d side x a
   Before : (h : ℕ) → woken_of side a ≡ Some h → ((s : ℕ) → x ≢ notices.Opened d s) → WokenFrom d side x a
@@ -143,7 +143,7 @@ woken_is_set r d side (suc n) h at = go (woken_from (suc n) d side (notice_at r 
         differ s f = cc
     go (Before k was unopened) kept = set_on (suc n) d side (notice_at r n) (account r d n) (kept k was) unopened
 
--- each deadline that is taken back is listed
+-- a deadline that is set again before the goroutine that it woke has checked its side is listed
 pub taken_back_is_listed : (r : Recording) (n k d g : ℕ) (side : Side) → k < n → d < r.limits.descriptors → Comes r k d side (TakenBack g)
     → (found : DeadlineFinding) × Contains (deadline_findings r n) found × IsOf k d side (TakenBack g) found
 taken_back_is_listed r n k d g side below few comes = (

@@ -1,5 +1,5 @@
--- What became of deadlines: those that passed, the calls that ended with one, and those that were
--- set again before the goroutine that they woke had checked its side.
+-- What happened to deadlines: a deadline passed, it ended a call, or it was set again before the
+-- goroutine that it woke had checked its side.
 use Rattle.std.specs.Prelude.{◌≡◌, ◌≢◌, ℕ, zero, suc, ◌<◌, ◌==◌, nat_lt, if◌then◌else◌, List, [], ◌∷◌, ◌++◌, Option, Some, None, option_and_then, option_map, IsTrue, false, codes, decimal}
 use Rattle.std.specs.Option.{option_map_or}
 use Rattle.nr_rev.specs.declared.sides.Mode.{Mode}
@@ -36,8 +36,8 @@ side_setting side a = option_and_then (λ (x : Deadline). x.setting) (deadline_o
 abbrev pub woken_of : Side → Option Account → Option ℕ
 woken_of side a = option_and_then (λ (x : Deadline). x.woken) (deadline_of side a)
 
--- the finding that this happened at step n to the deadline of a side of descriptor d, if the
--- account says which step set it
+-- the finding that step n had this consequence for the deadline of a side of descriptor d, if the
+-- account says which step set the deadline
 abbrev pub finding : ℕ → ℕ → Side → Consequence → Option Account → List DeadlineFinding
 finding n d side consequence a =
     option_map_or (λ setting. record {
@@ -48,7 +48,7 @@ finding n d side consequence a =
       setting = setting;
     } ∷ []) (side_setting side a) []
 
--- the finding that the deadline passed, if there is a passing of this side
+-- the finding that the deadline passed, if the notice has a passing for this side
 abbrev pub passed_at : ℕ → ℕ → Side → Option Passing → Option Account → List DeadlineFinding
 passed_at n d side None a = []
 passed_at n d side (Some passing) a = finding n d side Passed a
@@ -61,7 +61,8 @@ taken_back_at n d mode side a =
     then option_map_or (λ woken. finding n d side (TakenBack woken) a) (woken_of side a) []
     else []
 
--- the findings about deadlines at a step of this number, from the descriptors' accounts before it
+-- the findings about deadlines at the step with this number, from the descriptors' accounts before
+-- it
 abbrev pub findings_at : ℕ → Notice → (ℕ → Option Account) → List DeadlineFinding
 findings_at n (PassedDeadline d passings) kept =
     passed_at n d Read passings.read (kept d) ++ passed_at n d Write passings.write (kept d)
@@ -84,26 +85,27 @@ deadline_findings r (suc n) =
 
 -- ---- in words
 
--- the step after position n is by goroutine g and sets the deadline of a side of descriptor d
+-- the step after position n is one of goroutine g and sets the deadline of a side of descriptor d
 abbrev pub IsSetting : Recording → ℕ → Side → ℕ → ℕ → Mode → Type 0
 IsSetting r d side n g mode =
     (notice_at r n ≡ SetDeadline g d mode) × IsTrue (names_side mode side)
 
--- the step after position n is by goroutine g and sets the deadline of the other side of descriptor
--- d alone
+-- the step after position n is one of goroutine g and sets only the deadline of the other side of
+-- descriptor d
 abbrev pub IsMove : Recording → ℕ → Side → ℕ → ℕ → Type 0
 IsMove r d side n g =
     (mode : Mode) × (notice_at r n ≡ SetDeadline g d mode) × (names_side mode side ≡ false)
 
--- `Some`: the first such step after position `start` and before position n; `None`: no such step
+-- `Some`: the first step after position `start` and before position n that moves only the other
+-- side's deadline; `None`: no step does
 abbrev pub IsFirstMove : Recording → ℕ → ℕ → ℕ → Side → Option StepBy → Type 0
 IsFirstMove r start n d side None = (k g : ℕ) → start < k → k < n → ¬ IsMove r d side k g
 IsFirstMove r start n d side (Some move) =
     (at : ℕ) × (start < at) × (at < n) × (move.step ≡ suc at) × IsMove r d side at move.goroutine
     × ((k g : ℕ) → start < k → k < at → ¬ IsMove r d side k g)
 
--- The deadline of a side of descriptor d at position n is the one that this step set: since then no
--- step set it, and none reopened the descriptor.
+-- This step set the deadline that a side of descriptor d has at position n: no later step set it,
+-- and no later step reopened the descriptor.
 pub record IsSetBy (r : Recording) (n d : ℕ) (side : Side) (setting : Setting) : Type 0 where
   pub at : ℕ
   pub before : at < n
@@ -113,9 +115,10 @@ pub record IsSetBy (r : Recording) (n d : ℕ) (side : Side) (setting : Setting)
   pub unopened : (k s : ℕ) → at < k → k < n → notice_at r k ≢ Opened d s
   pub moved : IsFirstMove r at n d side setting.moved
 
--- At the step after position n this happened to the deadline of a side of descriptor d: a timer was
--- run, and the deadline passed; a call checked the side and got the code of a deadline that has
--- passed; or the deadline was set, and the goroutine that it had woken hadn't checked its side.
+-- The step after position n has this consequence for the deadline of a side of descriptor d: a
+-- timer ran and the deadline passed; a call checked the side and got the code for a deadline that
+-- has passed; or the deadline was set again before the goroutine that it had woken checked its
+-- side.
 abbrev pub Comes : Recording → ℕ → ℕ → Side → Consequence → Type 0
 Comes r n d side Passed =
     (passings : Sides (Option Passing)) × (passing : Passing)
@@ -126,8 +129,8 @@ Comes r n d side (TakenBack woken) =
     (g : ℕ) × (mode : Mode) × IsSetting r d side n g mode
     × (woken_of side (account r d n) ≡ Some woken)
 
--- A finding is correct: this happened to the deadline at that step, and the named step had set the
--- deadline.
+-- A finding is correct: its step had that consequence for the deadline, and the step that it names
+-- had set the deadline.
 pub record IsFinding (r : Recording) (n : ℕ) (found : DeadlineFinding) : Type 0 where
   pub at : ℕ
   pub before : at < n
@@ -135,7 +138,7 @@ pub record IsFinding (r : Recording) (n : ℕ) (found : DeadlineFinding) : Type 
   pub comes : Comes r at found.descriptor found.side found.consequence
   pub set : IsSetBy r at found.descriptor found.side found.setting
 
--- a finding about the deadline of this side, which came at the step after position n
+-- the finding is about the deadline of this side, and about the step after position n
 pub record IsOf (n d : ℕ) (side : Side) (consequence : Consequence) (found : DeadlineFinding) :
     Type 0 where
   pub position : found.position ≡ suc n
@@ -157,7 +160,7 @@ goroutine_of Passed = None
 goroutine_of (EndedCall g) = Some g
 goroutine_of (TakenBack g) = Some g
 
--- ` gor 2`, or nothing without a goroutine
+-- the text ` gor 2`, or no text if the consequence has no goroutine
 abbrev pub goroutine_text : Option ℕ → List ℕ
 goroutine_text None = []
 goroutine_text (Some g) = codes " gor " ++ decimal g
@@ -172,20 +175,20 @@ mode_text Mode.Read = codes " r"
 mode_text Mode.Write = codes " w"
 mode_text Mode.Both = codes " rw"
 
--- ` moved 75 by 3`, or nothing if no step has set the other side alone since
+-- the text ` moved 75 by 3`, or no text if no later step has set only the other side's deadline
 abbrev pub moved_text : Option StepBy → List ℕ
 moved_text None = []
 moved_text (Some by) =
     codes " moved " ++ (decimal by.step ++ (codes " by " ++ decimal by.goroutine))
 
--- ` desc 0 r set 60 by 2 rw`
+-- the text ` desc 0 r set 60 by 2 rw`
 abbrev pub setting_text : DeadlineFinding → List ℕ
 setting_text found =
     codes " desc " ++ (decimal found.descriptor ++ (side_letter found.side
     ++ (codes " set " ++ (decimal found.setting.by.step
     ++ (codes " by " ++ (decimal found.setting.by.goroutine ++ mode_text found.setting.mode))))))
 
--- `at 91 timeout gor 2 desc 0 r set 60 by 2 rw moved 75 by 3`
+-- the line `at 91 timeout gor 2 desc 0 r set 60 by 2 rw moved 75 by 3`
 abbrev pub deadline_line : DeadlineFinding → List ℕ
 deadline_line found =
     consequence_text found ++ (goroutine_text (goroutine_of found.consequence)

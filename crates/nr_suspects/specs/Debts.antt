@@ -18,12 +18,12 @@ use Rattle.nr_suspects.specs.Settings.{never_set, looked_at, after_setting, afte
 abbrev pub newly_opened : ℕ → Account
 newly_opened s = record { socket = s; debts = twice None; deadlines = twice never_set }
 
--- the debt of a side after an event of step n, which adds one if its mode names the side
+-- the debt of a side after the event of step n: a new debt if the event's mode names the side
 abbrev pub owed_by_event : ℕ → Mode → Side → Option Debt → Option Debt
 owed_by_event n mode side debt =
     if names_side mode side then Some (record { event = n; taken = None }) else debt
 
--- the account after an event of step n for these sides
+-- the account after the event of step n for these sides
 abbrev pub with_event : ℕ → Mode → Account → Account
 with_event n mode a = record a {
   debts = record {
@@ -32,7 +32,7 @@ with_event n mode a = record a {
   };
 }
 
--- the debt after goroutine g took its readiness in step n
+-- the debt after goroutine g took the event's readiness in step n
 abbrev pub taken_by : ℕ → ℕ → Debt → Debt
 taken_by n g debt = record debt { taken = Some (record { step = n; goroutine = g }) }
 
@@ -49,7 +49,7 @@ with_taking n v a =
 abbrev pub with_look : Visit → Account → Account
 with_look v a = record a { deadlines = looked_at v.goroutine v.side a.deadlines }
 
--- the account of an open descriptor d after a step of this number
+-- the account of an open descriptor d after the step with this number
 abbrev pub noted : ℕ → ℕ → Notice → Account → Account
 noted n d (Event e mode) a = if d == e then with_event n mode a else a
 noted n d (Tried s side) a =
@@ -88,15 +88,15 @@ IsEvent r d side n =
 abbrev pub socket_at : Recording → ℕ → ℕ → Option ℕ
 socket_at r d n = option_map (λ (a : Account). a.socket) (account r d n)
 
--- The step after position n pays the debt of a side of descriptor d: the descriptor was opened
--- again, or its socket was tried at that side and the answer was `Again`.
+-- The step after position n settles the debt of a side of descriptor d: it reopened the descriptor,
+-- or it tried the descriptor's socket at that side and was answered `Again`.
 abbrev pub IsPayment : Recording → ℕ → Side → ℕ → Type 0
 IsPayment r d side n =
     ((s : ℕ) × (notice_at r n ≡ Opened d s))
     ⊎ ((s : ℕ) × (notice_at r n ≡ Tried s side) × (socket_at r d n ≡ Some s))
 
--- A try is owed to a side of descriptor d at position n: an event came for the side, and nothing
--- has paid since.
+-- A side of descriptor d owes a try at position n: an event came for the side, and no step has
+-- settled the debt since.
 pub record Owed (r : Recording) (n d : ℕ) (side : Side) : Type 0 where
   pub event : ℕ
   pub before : event < n

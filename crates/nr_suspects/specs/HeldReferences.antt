@@ -1,4 +1,4 @@
--- Held references of closed sockets: such a socket can't be freed.
+-- References to closed sockets that goroutines still hold, so that the sockets can't be freed.
 use Rattle.std.specs.Prelude.{◌≡◌, ℕ, zero, suc, ◌+◌, ◌-◌, ◌<◌, Bool, true, false, ◌&&◌, nat_lt, if◌then◌else◌, List, [], ◌∷◌, ◌++◌, slice_get, IsTrue, codes, decimal}
 use Rattle.std.specs.Option.{option_map_or}
 use Rattle.nr_rev.specs.declared.cell.Cell.{Cell}
@@ -24,7 +24,7 @@ abbrev pub is_gone : CellValue → Bool
 is_gone (CellValue.Status Gone) = true
 is_gone _ = false
 
--- the references of socket s that goroutine g holds, if it took more than it returned
+-- the references to socket s that goroutine g holds, if it took more than it returned
 abbrev pub held_of_one : ℕ → ℕ → ℕ → CellValue → Holding → List HeldReference
 held_of_one n s g status h =
     if nat_lt h.given h.taken then record {
@@ -36,13 +36,13 @@ held_of_one n s g status h =
       is_gone = is_gone status;
     } ∷ [] else []
 
--- the references of socket s that the goroutines below k hold, from each one's holding
+-- the references to socket s that the goroutines below k hold, from the holding of each goroutine
 abbrev pub held_of_goroutines : ℕ → World → ℕ → (ℕ → Holding) → ℕ → List HeldReference
 held_of_goroutines n w s held zero = []
 held_of_goroutines n w s held (suc k) =
     held_of_goroutines n w s held k ++ held_of_one n s k (cell w (Cell.Goroutine k)) (held k)
 
--- the held references of the sockets below k that are closed and not freed, among this many
+-- the held references to the sockets below k that are closed and not freed, among this many
 -- goroutines
 abbrev pub held_of_sockets : ℕ → World → (ℕ → ℕ → Holding) → ℕ → ℕ → List HeldReference
 held_of_sockets n w held goroutines zero = []
@@ -50,7 +50,7 @@ held_of_sockets n w held goroutines (suc k) =
     held_of_sockets n w held goroutines k
     ++ (if is_unfreed w k then held_of_goroutines n w k (held k) goroutines else [])
 
--- All held references of closed sockets at position n of a recording, sorted by socket and then by
+-- All held references to closed sockets at position n of a recording, sorted by socket and then by
 -- goroutine.
 abbrev pub held_references : Recording → ℕ → List HeldReference
 held_references r n =
@@ -58,14 +58,14 @@ held_references r n =
 
 -- ---- in words
 
--- Goroutine g holds references of socket s at position n: the socket is closed and not freed, and
--- the goroutine took more of its references than it returned.
+-- Goroutine g holds references to socket s at position n: the socket is closed and not freed, and
+-- the goroutine took more references to it than it returned.
 pub record IsHeld (r : Recording) (n s g : ℕ) : Type 0 where
   pub unfreed : IsTrue (is_unfreed (world_at r n) s)
   pub more : (holding r g s n).given < (holding r g s n).taken
 
--- the line of such a goroutine is correct: how many references it holds, and which step took the
--- last one
+-- the entry is correct: it says how many references its goroutine holds, and which step took the
+-- last of them
 pub record IsListed (r : Recording) (n : ℕ) (held : HeldReference) : Type 0 where
   pub position : held.position ≡ n
   pub count : held.count + (holding r held.goroutine held.socket n).given
@@ -74,7 +74,7 @@ pub record IsListed (r : Recording) (n : ℕ) (held : HeldReference) : Type 0 wh
 
 -- ---- their lines
 
--- the suffix for a goroutine that has ended
+-- the suffix ` gone` if the goroutine has ended
 abbrev pub gone_text : Bool → List ℕ
 gone_text true = codes " gone"
 gone_text false = []

@@ -1,4 +1,4 @@
--- The ledger of references: how many references of each socket each goroutine took and returned.
+-- The ledger of references: how many references to each socket each goroutine took and returned.
 use Rattle.std.specs.Prelude.{◌≡◌, ◌≢◌, ◌⊎◌, ℕ, zero, suc, ◌+◌, ◌-◌, ◌^◌, ◌<◌, ◌&&◌, ◌==◌, if◌then◌else◌, List, slice_get, Option, Some, option_and_then, option_map}
 use Rattle.std.specs.Option.{option_map_or}
 use Rattle.nr_rev.specs.Run.{Recording}
@@ -11,7 +11,7 @@ use Rattle.nr_suspects.specs.Notices.{notice_at}
 abbrev pub none_held : Holding
 none_held = record { taken = 0; given = 0; since = 0 }
 
--- the holding after one more reference was taken, by the step of this number
+-- the holding after the step with this number took one more reference
 abbrev pub one_taken : ℕ → Holding → Holding
 one_taken n h = record h { taken = h.taken + 1; since = n }
 
@@ -19,7 +19,7 @@ one_taken n h = record h { taken = h.taken + 1; since = n }
 abbrev pub one_given : Holding → Holding
 one_given h = record h { given = h.given + 1 }
 
--- the holding of goroutine g at socket s after a step of this number
+-- the holding of goroutine g at socket s after the step with this number
 abbrev pub holding_after : ℕ → ℕ → ℕ → Notice → Holding → Holding
 holding_after n g s (TookReference h k) held =
     if (g == h) && (s == k) then one_taken n held else held
@@ -27,19 +27,19 @@ holding_after n g s (GaveReference h k) held =
     if (g == h) && (s == k) then one_given held else held
 holding_after n g s _ held = held
 
--- How many references of socket s goroutine g took and returned in the first n steps of a
--- recording, and which step took the last one.
+-- How many references to socket s goroutine g took and returned in the first n steps of a
+-- recording, and which step took the last of them.
 abbrev pub holding : Recording → ℕ → ℕ → ℕ → Holding
 holding r g s zero = none_held
 holding r g s (suc n) = holding_after (suc n) g s (notice_at r n) (holding r g s n)
 
 -- ---- the ledger
 
--- the place of goroutine g at socket s
+-- the holding of goroutine g at socket s, if the ledger has a place for it
 abbrev pub place : List (List Holding) → ℕ → ℕ → Option Holding
 place rows s g = option_and_then (λ row. slice_get row g) (slice_get rows s)
 
--- the holding at that place, or the empty one if there is no such place
+-- the holding of goroutine g at socket s, which is empty if the ledger has no place for it
 abbrev pub holding_of : List (List Holding) → ℕ → ℕ → Holding
 holding_of rows s g = option_map_or (λ h. h) (place rows s g) none_held
 

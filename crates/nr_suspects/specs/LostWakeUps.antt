@@ -1,4 +1,4 @@
--- Lost wake-ups: a goroutine sleeps at a side to which a try is owed.
+-- Lost wake-ups: a goroutine sleeps at a side that owes a try.
 use Rattle.std.specs.Prelude.{◌≡◌, ◌⊎◌, ℕ, zero, suc, ◌<◌, List, [], ◌∷◌, ◌++◌, Option, Some, None, option_and_then, codes, decimal}
 use Rattle.nr_rev.specs.declared.answer.Answer.{Answer}
 use Rattle.nr_rev.specs.declared.cell_value.CellValue.{CellValue}
@@ -22,8 +22,8 @@ use Rattle.nr_suspects.specs.Debts.{account, Owed}
 use Rattle.nr_suspects.specs.declared.notice.Notice.TheVariants.{Opened, TookReadiness}
 use Rattle.nr_suspects.specs.Notices.{notice, notice_at, word_cell}
 
--- Goroutine g has lost a wake-up at position n: it is parked at a side of descriptor d to which a
--- try is owed.
+-- Goroutine g has lost a wake-up at position n: it is parked at a side of descriptor d, and the
+-- side owes a try.
 pub record HasLost (r : Recording) (n g d : ℕ) (side : Side) : Type 0 where
   pub parked : HasView parked_of (world_at r n).goroutines g (d, side)
   pub owed : Owed r n d side
@@ -50,10 +50,10 @@ pub record IsTaking (r : Recording) (n d : ℕ) (side : Side) (event : ℕ) (tak
   pub took : notice_at r at
       ≡ TookReadiness (record { goroutine = taken.goroutine; descriptor = d; side = side })
 
--- ---- all of them
+-- ---- all lost wake-ups
 
--- the lost wake-up of the goroutine in a word with this value, if there is such a goroutine and
--- this debt
+-- the lost wake-up of the goroutine that a word with this value holds, if it holds one and the side
+-- has a debt
 abbrev pub lost_by : ℕ → ℕ → Side → CellValue → Option Debt → List LostWakeUp
 lost_by n d side (CellValue.WaitWord (Held g)) (Some debt) =
     record {
@@ -66,7 +66,7 @@ lost_by n d side (CellValue.WaitWord (Held g)) (Some debt) =
     } ∷ []
 lost_by n d side word debt = []
 
--- the lost wake-up of a side of descriptor d with this account
+-- the lost wake-up at a side of descriptor d, which has this account
 abbrev pub lost_at : ℕ → World → ℕ → Option Account → Side → List LostWakeUp
 lost_at n w d a side =
     lost_by n d side (cell w (word_cell d side))
@@ -78,7 +78,7 @@ lost_below n w kept zero = []
 lost_below n w kept (suc k) =
     lost_below n w kept k ++ (lost_at n w k (kept k) Read ++ lost_at n w k (kept k) Write)
 
--- All lost wake-ups at position n of a recording, sorted by descriptor, reading before writing.
+-- All lost wake-ups at position n of a recording, sorted by descriptor, with the read side first.
 abbrev pub lost_wake_ups : Recording → ℕ → List LostWakeUp
 lost_wake_ups r n =
     lost_below n (world_at r n) (λ d. account r d n) r.limits.descriptors
@@ -89,7 +89,7 @@ abbrev pub side_letter : Side → List ℕ
 side_letter Read = codes " r"
 side_letter Write = codes " w"
 
--- `at 71 lost-wakeup gor 2 desc 0 r event 60`
+-- the text `at 71 lost-wakeup gor 2 desc 0 r event 60`
 abbrev pub event_text : LostWakeUp → List ℕ
 event_text lost =
     codes "at " ++ (decimal lost.position
@@ -97,13 +97,13 @@ event_text lost =
     ++ (codes " desc " ++ (decimal lost.descriptor ++ (side_letter lost.side
     ++ (codes " event " ++ decimal lost.event)))))))
 
--- ` taken 66 by 2`, or nothing if no step took the readiness
+-- the text ` taken 66 by 2`, or no text if no step took the readiness
 abbrev pub taken_text : Option StepBy → List ℕ
 taken_text None = []
 taken_text (Some taken) =
     codes " taken " ++ (decimal taken.step ++ (codes " by " ++ decimal taken.goroutine))
 
--- `at 71 lost-wakeup gor 2 desc 0 r event 60 taken 66 by 2`
+-- the line `at 71 lost-wakeup gor 2 desc 0 r event 60 taken 66 by 2`
 abbrev pub lost_line : LostWakeUp → List ℕ
 lost_line lost = event_text lost ++ (taken_text lost.taken ++ codes "\n")
 

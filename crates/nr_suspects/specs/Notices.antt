@@ -21,7 +21,7 @@ use Rattle.nr_suspects.specs.declared.notice.Notice.TheVariants.{Opened, Event, 
 use Rattle.nr_suspects.specs.declared.notice.Passing.{Passing}
 use Rattle.nr_suspects.specs.declared.notice.Visit.{Visit}
 
--- the cell with the word of a side of descriptor d
+-- the cell of the wait word of a side of descriptor d
 abbrev pub word_cell : ℕ → Side → Cell
 word_cell d Read = Cell.ReadWord d
 word_cell d Write = Cell.WriteWord d
@@ -41,11 +41,11 @@ abbrev pub wait_place : CellValue → Option (ℕ × Side)
 wait_place (CellValue.Status status) = wait_of status
 wait_place _ = None
 
--- the visit of goroutine g at the side of its own wait
+-- the visit of goroutine g to this side
 abbrev pub visit_at : ℕ → Option (ℕ × Side) → Option Visit
 visit_at g = option_map (λ place. record { goroutine = g; descriptor = place.0; side = place.1 })
 
--- the visit of goroutine g at the side at which it waits, if it waits
+-- the visit of goroutine g to the side at which it waits, if it waits
 abbrev pub visit_of : World → ℕ → Option Visit
 visit_of w g = visit_at g (wait_place (cell w (Cell.Goroutine g)))
 
@@ -75,12 +75,12 @@ abbrev pub visiting : World → World → Answer → Option Visit → Notice
 visiting w next answer None = Nothing
 visiting w next answer (Some v) = if is_taken w next v then TookReadiness v else checking v answer
 
--- the cell with the deadline of a side of descriptor d
+-- the cell of the deadline of a side of descriptor d
 abbrev pub deadline_cell : ℕ → Side → Cell
 deadline_cell d Read = Cell.ReadDeadline d
 deadline_cell d Write = Cell.WriteDeadline d
 
--- true if a value is a time before 0, which marks a deadline that has passed
+-- true if a value is a negative time, which marks a deadline that has passed
 abbrev pub is_past : CellValue → Bool
 is_past (CellValue.Time t) = is_negative t
 is_past _ = false
@@ -94,8 +94,8 @@ abbrev pub held_goroutine : CellValue → Option ℕ
 held_goroutine (CellValue.WaitWord (Held g)) = Some g
 held_goroutine _ = None
 
--- the passing of a side's deadline, if it has passed now and hadn't before; the goroutine in the
--- word is woken
+-- the passing of a side's deadline, if it hadn't passed before the step and has passed after it;
+-- the goroutine in the word is woken
 abbrev pub passing : World → World → ℕ → Side → Option Passing
 passing w next d side =
     if not (has_passed w d side) && has_passed next d side
@@ -107,14 +107,14 @@ fired_descriptor w (Step.Fire i) =
     option_map (λ (entry : Entry). entry.descriptor) (slice_get w.firings i)
 fired_descriptor w _ = None
 
--- the notice of a step that runs a timer for this descriptor; the other notice, if the step runs
--- none
+-- the notice of a step that runs a timer for this descriptor, or the other notice if the step runs
+-- no timer
 abbrev pub running : World → World → Option ℕ → Notice → Notice
 running w next None other = other
 running w next (Some d) other =
     PassedDeadline d (record { read = passing w next d Read; write = passing w next d Write })
 
--- the notice if the answer is the wanted one, otherwise none
+-- the notice if the answer is the wanted one, and otherwise `Nothing`
 abbrev pub if_answered : Answer → Answer → Notice → Notice
 if_answered wanted answer n = if (answer_eq.ghosts).eq answer wanted then n else Nothing
 
@@ -136,7 +136,8 @@ seen w step answer next =
 
 -- The notice of a step with this answer: a socket or a descriptor was opened, a peer closed, an
 -- event came for a descriptor, a read or a write was answered `Again`, a deadline was set, or a
--- reference was taken or returned. The last argument is the notice for timers and visits.
+-- reference was taken or returned. The last argument is the notice of a step that runs a timer or
+-- visits a side.
 abbrev pub noticed : Step → Answer → Notice → Notice
 noticed (Step.SockOpen rc wc) answer other = notice_of_socket wc answer
 noticed (Step.PeerClose s) answer other = PeerClosed s
@@ -152,7 +153,7 @@ noticed (Step.RwUnlock g s side) answer other = GaveReference g s
 noticed (Step.SetDeadline g d mode t) answer other = SetDeadline g d mode
 noticed step answer other = other
 
--- The notice of a step with this answer, which leads from one world to the next.
+-- The notice of a step that gets this answer and turns the first world into the second.
 abbrev pub notice : World → Step → Answer → World → Notice
 notice w step answer next = noticed step answer (seen w step answer next)
 

@@ -1,4 +1,4 @@
--- The other end of each socket: how many bytes can be written before it reads some, and whether it
+-- The other end of each socket: how many bytes can be written before it reads any, and whether it
 -- has closed.
 use Rattle.std.specs.Prelude.{◌≡◌, ◌≢◌, ℕ, zero, suc, ◌<◌, ◌==◌, if◌then◌else◌, false, true, List, length, slice_get, Option, Some, None, option_map, option_and_then}
 use Rattle.nr_rev.specs.Run.{Recording}

@@ -15,14 +15,13 @@ use Rattle.nr_suspects.specs.declared.setting.StepBy.{StepBy}
 abbrev pub never_set : Deadline
 never_set = record { setting = None; woken = None }
 
--- the setting after a step set the other side's deadline alone; only the first such step is
--- recorded
+-- the setting after a step set only the other side's deadline; the first such step is recorded
 abbrev pub moved_since : StepBy → Setting → Setting
 moved_since by setting =
     record setting { moved = Some (option_map_or (λ first. first) setting.moved by) }
 
--- the deadline of a side after a step set the deadlines that the mode names: a new setting for a
--- named side, a moved one for the other
+-- the deadline of a side after a step set the deadlines that the mode names: a new setting if the
+-- mode names the side, and otherwise the old setting with this move
 abbrev pub set_by : StepBy → Mode → Side → Deadline → Deadline
 set_by by mode side old =
     if names_side mode side then record {

@@ -39,7 +39,7 @@ abbrev pub reason_to_write : Bool → ℕ → Option Reason
 reason_to_write is_shut room =
     if is_shut then Some why.Shut else (if nat_lt 0 room then Some why.Room else None)
 
--- the reason that a socket gives a side to stop waiting
+-- why a goroutine that waits at this side of the socket should stop waiting
 abbrev pub reason_of_socket : Side → Socket → Option Reason
 reason_of_socket Read socket =
     reason_to_read (length socket.buffers.read.bytes) socket.peer_closed
@@ -64,14 +64,15 @@ pub record SleepsOn (w : World) (g d : ℕ) (side : Side) (why : Reason) : Type 
   pub parked : HasView parked_of w.goroutines g (d, side)
   pub has_reason : reason w d side ≡ Some why
 
--- a socket has nothing for which a side waits
+-- a socket doesn't have what the side waits for
 abbrev pub HasNothing : Side → Socket → Type 0
 HasNothing Read socket = (socket.buffers.read.bytes ≡ []) × (socket.peer_closed ≡ false)
 HasNothing Write socket = (socket.shut ≡ false) × (room_of socket.buffers.write ≡ 0)
 
--- ---- all of them
+-- ---- all sleepers
 
--- the goroutine in a word with this value, if there is this reason to wake it
+-- the sleeper entry of the goroutine that a word with this value holds, if there is a reason to
+-- wake it
 abbrev pub sleeper_by : ℕ → ℕ → Side → CellValue → Option Reason → List Sleeper
 sleeper_by n d side (CellValue.WaitWord (Held g)) (Some why) =
     record {
@@ -87,19 +88,18 @@ sleeper_by n d side word reason = []
 abbrev pub sleeper_at : ℕ → World → ℕ → Side → Option Reason → List Sleeper
 sleeper_at n w d side reason = sleeper_by n d side (cell w (word_cell d side)) reason
 
--- the sleepers at the descriptors below k, from the reason of each side
+-- the sleepers at the descriptors below k, from the reasons of their sides
 abbrev pub sleepers_below : ℕ → World → (ℕ → Side → Option Reason) → ℕ → List Sleeper
 sleepers_below n w reasons zero = []
 sleepers_below n w reasons (suc k) =
     sleepers_below n w reasons k
     ++ (sleeper_at n w k Read (reasons k Read) ++ sleeper_at n w k Write (reasons k Write))
 
--- All goroutines that sleep on at position n of a recording, sorted by descriptor, reading before
--- writing.
+-- All sleepers at position n of a recording, sorted by descriptor, with the read side first.
 abbrev pub sleepers : Recording → ℕ → List Sleeper
 sleepers r n = sleepers_below n (world_at r n) (reason (world_at r n)) r.limits.descriptors
 
--- ---- by cells, and by what is kept
+-- ---- the reasons, from cells and from the notebook
 
 -- the number in a cell's value; 0 if it isn't a number
 abbrev pub number_or_zero : CellValue → ℕ
@@ -112,7 +112,8 @@ code_of_info side info passed =
     if info % 2 == 1 then 1 else (if passed then 2
     else (if is_read side && (info / 2 % 2 == 1) then 3 else 0))
 
--- the reason that socket s gives a side to stop waiting, from the socket's cells and its other end
+-- why a goroutine that waits at this side of socket s should stop waiting, from the socket's cells
+-- and its other end
 abbrev pub reason_by_cells : World → ℕ → Side → Peer → Option Reason
 reason_by_cells w s Read p = reason_to_read (number_or_zero (cell w (Cell.Input s))) p.is_closed
 reason_by_cells w s Write p =
@@ -145,7 +146,7 @@ reason_text why.End = codes "end"
 reason_text why.Shut = codes "shut"
 reason_text why.Room = codes "room"
 
--- `at 71 asleep gor 2 desc 0 r because bytes`
+-- the line `at 71 asleep gor 2 desc 0 r because bytes`
 abbrev pub sleeper_line : Sleeper → List ℕ
 sleeper_line s =
     codes "at " ++ (decimal s.position

@@ -16,9 +16,8 @@ use Rattle.nr_suspects.specs.Peers.{ArePeers, peer_in}
 use Rattle.nr_suspects.specs.Sleepers.{reason_kept, sleeper_lines, sleepers, sleepers_below}
 use Rattle.nr_suspects.specs.declared.peer.Peer.{Peer}
 
--- The lines for a recording: what became of its deadlines, step by step; then, at its last
--- position, its lost wake-ups, the goroutines that sleep on, and the held references of closed
--- sockets.
+-- The lines for a recording: first the findings about deadlines, step by step; then, for its last
+-- position, the lost wake-ups, the sleepers, and the held references to closed sockets.
 abbrev pub suspect_lines : Recording → List ℕ
 suspect_lines r =
     let n : ℕ = length r.steps in
@@ -36,7 +35,7 @@ pub record Notes : Type 0 where
   pub rows : List (List Holding)
   pub deadlines : List DeadlineFinding
 
--- the notes are those of a recording at position n
+-- the notebook has the contents for position n of a recording
 pub record AreNotes (r : Recording) (n : ℕ) (notes : Notes) : Type 0 where
   pub accounts : AreAccounts r n notes.accounts
   pub peers : ArePeers r n notes.peers
@@ -50,7 +49,7 @@ found_lines found =
     ++ (lost_lines found.lost.items
     ++ (sleeper_lines found.asleep.items ++ held_lines found.held.items))
 
--- these are the findings in a world at position n with these notes
+-- these are the findings in a world at position n, given a notebook with these contents
 pub record AreFound (n : ℕ) (w : World) (limits : Limits) (notes : Notes) (found : Suspects) :
     Type 0 where
   pub deadlines : found.deadlines.items ≡ notes.deadlines

@@ -8,7 +8,7 @@ use crate::notice::{Notice, Visit};
 use crate::setting::{Deadline, StepBy, after_passing, after_setting, looked_at};
 use nr_rev::{Mode, Side, Sides};
 
-/// The debt of an event: a try of the socket, at the side that the event named.
+/// The debt that an event leaves: the socket must be tried at the side that the event named.
 #[derive(Clone, Copy, Debug, PartialEq, Eq)]
 pub struct Debt {
     /// The number of the event's step, counted from 1.
@@ -40,7 +40,7 @@ impl Account {
         }
     }
 
-    // Returns the account after an event of the step for these sides.
+    // Returns the account after the step's event for these sides.
     fn with_event(self, step: usize, mode: Mode) -> Account
         ensures { result ≡ with_event step mode self }
     {
@@ -54,7 +54,7 @@ impl Account {
         }
     }
 
-    // Returns the account with another debt of a side.
+    // Returns the account with this debt of the side in place of the old one.
     fn with_debt(self, side: Side, debt: Option<Debt>) -> Account
         ensures { result ≡ record self { debts = with_side side debt self.debts } }
     {
@@ -65,7 +65,7 @@ impl Account {
         }
     }
 
-    // Returns the account with other deadlines.
+    // Returns the account with these deadlines in place of the old ones.
     fn with_deadlines(self, deadlines: Sides<Deadline>) -> Account
         ensures { result ≡ record self { deadlines = deadlines } }
     {
@@ -120,7 +120,7 @@ impl Account {
     }
 }
 
-// Returns the debt of a side after an event of the step.
+// Returns the debt of a side after the step's event.
 fn owed_by_event(step: usize, mode: Mode, side: Side, debt: Option<Debt>) -> Option<Debt>
     ensures { result ≡ owed_by_event step mode side debt }
 {
@@ -134,7 +134,7 @@ fn owed_by_event(step: usize, mode: Mode, side: Side, debt: Option<Debt>) -> Opt
     }
 }
 
-// Returns the debt, if any, after the goroutine took its readiness in the step.
+// Returns the debt, if any, after the goroutine took the event's readiness in the step.
 fn taken_by(step: usize, goroutine: u32, debt: Option<Debt>) -> Option<Debt>
     ensures { result ≡ option_map (taken_by step goroutine) debt }
 {

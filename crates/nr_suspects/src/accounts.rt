@@ -75,7 +75,7 @@ impl Accounts {
         }
     }
 
-    // Updates each account with a try of the socket at this side, which was answered `Again`.
+    // Updates each account with a try of the socket, made at this side and answered `Again`.
     fn note_try(&mut self, socket: u32, side: Side)
         ensures { IsTryNoted socket side self.old self.new }
     {

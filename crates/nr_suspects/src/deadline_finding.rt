@@ -1,5 +1,5 @@
-//! What became of deadlines: those that passed, the calls that ended with one, and those that were set again before the
-//! goroutine that they woke had checked its side.
+//! What happened to deadlines: a deadline passed, it ended a call, or it was set again before the
+//! goroutine that it woke had checked its side.
 
 ghost use Rattle.std.specs.Prelude.{◌≡◌, ◌++◌, IfOk};
 ghost use Rattle.nr_text.specs.Buffered.{Writes};
@@ -15,18 +15,18 @@ use nr_rev::{Memory, Mode, Side};
 use nr_text::{Buffered, Text, Token, WriteFailed, send_all};
 use std::io::Write;
 
-/// What became of a deadline.
+/// What happened to a deadline.
 #[derive(Clone, Copy, Debug, PartialEq, Eq)]
 pub enum Consequence {
-    /// Its timer was run, and the deadline passed.
+    /// The deadline's timer ran, and the deadline passed.
     Passed,
-    /// A call of this goroutine ended with the deadline.
+    /// The deadline ended a call of this goroutine.
     EndedCall(u32),
     /// The deadline was set again before this goroutine, which it had woken, checked its side.
     TakenBack(u32),
 }
 
-/// What became of a deadline, and the step that set it.
+/// What happened to a deadline, and which step had set it.
 #[derive(Clone, Copy, Debug, PartialEq, Eq)]
 pub struct DeadlineFinding {
     /// The number of the step at which this happened, counted from 1.
@@ -83,7 +83,7 @@ fn send_goroutine<W: Write>(goroutine: Option<u32>, w: &mut Buffered<W>) -> Resu
     }
 }
 
-// Writes the step that set the other side alone, if one did.
+// Writes the step that set only the other side's deadline, if there was one.
 fn send_moved<W: Write>(moved: Option<StepBy>, w: &mut Buffered<W>) -> Result<(), WriteFailed>
     ensures { Writes w.old w.new (moved_text moved) result }
 {
@@ -184,7 +184,7 @@ fn add(
     Ok(())
 }
 
-// Appends the finding that the deadline passed, if there is a passing of this side.
+// Appends the finding that the deadline passed, if the notice has a passing for this side.
 fn add_passed(
     step: usize,
     descriptor: u32,
@@ -232,8 +232,8 @@ fn add_taken_back(
     )
 }
 
-/// Appends the findings about deadlines at the step of this number, from the descriptors' accounts before it. Fails
-/// with `Memory` if memory runs out.
+/// Appends the findings about deadlines at the step with this number, from the descriptors'
+/// accounts before it. Fails with `Memory` if memory runs out.
 pub(crate) fn add_findings(
     step: usize,
     notice: Notice,

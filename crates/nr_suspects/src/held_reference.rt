@@ -1,4 +1,4 @@
-//! Held references of closed sockets: such a socket can't be freed.
+//! References to closed sockets that goroutines still hold, so that the sockets can't be freed.
 
 ghost use Rattle.std.specs.Prelude.{◌≡◌, ◌++◌, ◌≤◌, IfOk, length};
 ghost use Rattle.nr_rev.specs.Cell.{cell};
@@ -12,7 +12,7 @@ use nr_rev::{Cell, CellValue, Memory, Status, Worlds};
 use nr_text::{Buffered, Text, Token, WriteFailed, send_all};
 use std::io::Write;
 
-/// The references of a closed socket that a goroutine took and didn't return.
+/// The references to a closed socket that a goroutine took and didn't return.
 #[derive(Clone, Copy, Debug, PartialEq, Eq)]
 pub struct HeldReference {
     /// The position at which the goroutine holds them.
@@ -23,7 +23,7 @@ pub struct HeldReference {
     pub goroutine: u32,
     /// The number of references that it holds.
     pub count: u64,
-    /// The number of the step that took the last one, counted from 1.
+    /// The number of the step that took the last of them, counted from 1.
     pub since: usize,
     /// True if the goroutine has ended.
     pub is_gone: bool,
@@ -73,7 +73,7 @@ fn is_unfreed<W: Worlds>(world: &W, socket: u32) -> bool
     }
 }
 
-// Appends the references of a socket that a goroutine holds, if it holds any.
+// Appends the references to a socket that a goroutine holds, if it holds any.
 fn add_held<W: Worlds>(
     world: &W,
     position: usize,
@@ -103,7 +103,7 @@ fn add_held<W: Worlds>(
     Ok(())
 }
 
-// Appends the references of a socket that the goroutines below this number hold.
+// Appends the references to a socket that the goroutines below this number hold.
 fn add_holders<W: Worlds>(
     world: &W,
     position: usize,
@@ -123,8 +123,9 @@ fn add_holders<W: Worlds>(
     Ok(())
 }
 
-/// Appends the held references of closed sockets in a world at this position, among this many sockets and goroutines,
-/// sorted by socket and then by goroutine. Fails with `Memory` if memory runs out.
+/// Appends the held references to closed sockets in a world at this position, among this many
+/// sockets and goroutines, sorted by socket and then by goroutine. Fails with `Memory` if memory
+/// runs out.
 pub fn list_held_references<W: Worlds>(
     world: &W,
     position: usize,

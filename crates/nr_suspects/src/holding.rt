@@ -1,18 +1,19 @@
-//! How many references of a socket a goroutine holds.
+//! How many references to a socket a goroutine holds.
 
 ghost use Rattle.std.specs.Prelude.{◌≡◌, ◌-◌, ◌^◌, ◌<◌};
 ghost use Rattle.nr_suspects.specs.Holdings.{holding_after, none_held};
 
 use crate::notice::Notice;
 
-/// The references of a socket that a goroutine took and returned.
+/// The references to a socket that a goroutine took and returned.
 #[derive(Clone, Copy, Debug, PartialEq, Eq)]
 pub struct Holding {
     /// The number of references taken.
     pub taken: u64,
     /// The number of references returned.
     pub given: u64,
-    /// The number of the step that took the last one, counted from 1; 0 if it took none.
+    /// The number of the step that took the last of them, counted from 1, or 0 if the goroutine
+    /// took none.
     pub since: usize,
 }
 

@@ -38,8 +38,8 @@ ghost use Rattle.nr_suspects.specs.declared.held_reference.HeldReference.{HeldRe
 ghost use Rattle.nr_suspects.specs.declared.lost_wake_up.LostWakeUp.{LostWakeUp};
 ghost use Rattle.nr_suspects.specs.References.{given, references_at, taken};
 
-/// The list of lost wake-ups is exact: each listed one is a lost wake-up of the event that it names, and each lost
-/// wake-up is listed.
+/// The list of lost wake-ups is exact: each entry is a lost wake-up of the event that it names, and
+/// each lost wake-up is listed.
 pub fn just_lost_wake_ups_are_listed()
     ensures listed { (r : Recording) (n : ℕ) (lost : LostWakeUp) → WellFormed (world_at r n)
         → Contains (lost_wake_ups r n) lost
@@ -89,9 +89,9 @@ pub fn just_sleepers_are_listed()
         (record { position = n; goroutine = g; descriptor = d; side = side; reason = why }) }
 {}
 
-/// If no sleeper is listed, every parked goroutine waits for something that hasn't come. A check of its side has the
-/// code 0: the descriptor isn't closing, the side's deadline hasn't passed, and no event reported an error. And its
-/// socket has nothing for which the side waits.
+/// If no sleeper is listed, every parked goroutine waits for something that hasn't come. A check of
+/// its side has the code 0: the descriptor isn't closing, the side's deadline hasn't passed, and no
+/// event reported an error. Nor does its socket have what the side waits for.
 pub fn if_no_sleeper_is_listed_no_side_has_to_be_answered()
     ensures { (r : Recording) (n g d : ℕ) (side : Side) (row : DescriptorRow) → WellFormed (world_at r n)
         → sleepers r n ≡ [] → HasView parked_of (world_at r n).goroutines g (d, side)
@@ -101,8 +101,8 @@ pub fn if_no_sleeper_is_listed_no_side_has_to_be_answered()
         → HasNothing side socket) }
 {}
 
-/// A socket has something for which a side waits if and only if a try at that side wouldn't be answered `Again`, for
-/// any goroutine and any number of bytes.
+/// A socket has what a side waits for if and only if a try at that side wouldn't be answered
+/// `Again`, for any goroutine and any number of bytes.
 pub fn a_socket_has_nothing_just_if_a_try_is_answered_again()
     ensures read { (w : World) (g s n : ℕ) (socket : Socket) (answer : Answer) (next : World)
         → slice_get w.sockets s ≡ Some socket → outcome w (Step.SysRead g s n) ≡ Ok (answer, next)
@@ -112,8 +112,9 @@ pub fn a_socket_has_nothing_just_if_a_try_is_answered_again()
         → (answer ≡ Again) ↔ (reason_of_socket sides.Write socket ≡ None) }
 {}
 
-/// The notebook agrees with the machine at each position: for each socket, on how much may be written and whether its
-/// peer has closed; for each descriptor, on the socket for which it was last opened.
+/// At each position, the notebook agrees with the machine on how much may be written to each
+/// socket, on whether the socket's peer has closed, and on the socket for which each descriptor was
+/// last opened.
 pub fn what_is_kept_is_what_the_machine_has()
     ensures peers { (r : Recording) (s n : ℕ)
         → peer r s n ≡ option_map peer_of (slice_get (world_at r n).sockets s) }
@@ -122,9 +123,9 @@ pub fn what_is_kept_is_what_the_machine_has()
         ≡ option_map (λ (row : DescriptorRow). row.descriptor.socket) (slice_get (world_at r n).descriptors d) }
 {}
 
-/// No replaced deadline ever takes effect, and no timeout comes early: if a firing is answered `Done`, its timer was
-/// armed for the very deadlines that its sides have now, and their time has come. A firing that is answered `Stale`
-/// changes nothing but the number of firings.
+/// No replaced deadline ever takes effect, and no timeout comes early: if a firing is answered
+/// `Done`, its timer was armed for the deadlines that its sides have now, and their time has come.
+/// A firing that is answered `Stale` changes nothing but the number of firings.
 pub fn deadlines_pass_in_time()
     ensures done { (w : World) (i : ℕ) (next : World) → WellFormed w
         → outcome w (Step.Fire i) ≡ Ok (Done, next)
@@ -134,9 +135,10 @@ pub fn deadlines_pass_in_time()
         → outcome w (Step.Fire i) ≡ Ok (Stale, next) → c ≢ Cell.Firings → cell next c ≡ cell w c }
 {}
 
-/// The list of findings about deadlines is exact. Each finding happened to the deadline at that step, and the step that
-/// it names had set the deadline. Each deadline that passes, each call that ends with one (so each timeout), and each
-/// deadline that is taken back is listed.
+/// The list of findings about deadlines is exact. Each finding is correct about its deadline, its
+/// step, and the step that had set the deadline. The list has each deadline that passes, each call
+/// that a deadline ends (so each timeout), and each deadline that is set again before the goroutine
+/// that it woke has checked its side.
 pub fn just_what_came_of_deadlines_is_listed()
     ensures listed { (r : Recording) (n : ℕ) (found : DeadlineFinding)
         → Contains (deadline_findings r n) found → IsFinding r n found }
@@ -151,13 +153,15 @@ pub fn just_what_came_of_deadlines_is_listed()
         → (found : DeadlineFinding) × Contains (deadline_findings r n) found × IsOf k d side (TakenBack g) found }
 {}
 
-/// After any steps a socket's lock counts as many references as before, plus those taken, minus those returned.
+/// After any steps, the reference count in a socket's lock is the count before, plus the references
+/// taken, minus the references returned.
 pub fn references_are_counted()
     ensures { (w : World) (steps : List Step) (s : ℕ) → WellFormed w → All IsTimely steps
         → references_at (world_after w steps) s + given s w steps ≡ references_at w s + taken s w steps }
 {}
 
-/// Only its last reference frees a socket: the answer `Last` leaves none.
+/// Only the return of its last reference frees a socket: after the answer `Last`, no reference is
+/// left.
 pub fn a_socket_is_freed_without_references()
     ensures decref { (w : World) (g s : ℕ) (next : World)
         → outcome w (Step.Decref g s) ≡ Ok (Last, next) → references_at next s ≡ 0 }
@@ -165,8 +169,9 @@ pub fn a_socket_is_freed_without_references()
         → outcome w (Step.RwUnlock g s side) ≡ Ok (Last, next) → references_at next s ≡ 0 }
 {}
 
-/// The list of held references is exact: each listed one is held, with its count and the last step that took one, and
-/// each held one is listed.
+/// The list of held references is exact: each entry names references that are held, their count,
+/// and the step that took the last of them; and each goroutine that holds references to a closed
+/// socket has an entry.
 pub fn just_held_references_are_listed()
     ensures listed { (r : Recording) (n : ℕ) (held : HeldReference) → Contains (held_references r n) held
         → IsHeld r n held.socket held.goroutine × IsListed r n held }
@@ -175,7 +180,7 @@ pub fn just_held_references_are_listed()
         × (held.socket ≡ s) × (held.goroutine ≡ g) }
 {}
 
-/// A closed socket that isn't listed has no reference: it has been freed, or it never had one.
+/// A closed socket without an entry has no references: it has been freed, or it never had any.
 pub fn a_closed_socket_that_is_not_listed_has_no_reference()
     ensures { (r : Recording) (n s : ℕ) (socket : Socket) → 0 < r.limits.goroutines → All IsTimely r.steps
         → slice_get (world_at r n).sockets s ≡ Some socket → socket.lock.closed ≡ true
@@ -183,18 +188,20 @@ pub fn a_closed_socket_that_is_not_listed_has_no_reference()
         → references_at (world_at r n) s ≡ 0 }
 {}
 
-/// A leak is permanent. If k references of a socket are never returned, that is, if all others return no more than they
-/// have and take, the socket has at least k references after any steps, so it is never freed.
+/// A leak is permanent. If k references to a socket are never returned, that is, if the steps
+/// return at least k fewer than the socket had and they took, it has at least k references after
+/// them, so it is never freed.
 pub fn a_leaked_reference_keeps_the_socket()
     ensures { (w : World) (steps : List Step) (s k : ℕ) → WellFormed w → All IsTimely steps
         → given s w steps + k ≤ references_at w s + taken s w steps
         → k ≤ references_at (world_after w steps) s }
 {}
 
-/// An event of an earlier opening changes nothing. An event for a descriptor that was ever opened is answered `Stale`,
-/// and leaves the world as it was, if and only if the descriptor is closed or has another tag; it is answered `Done` if
-/// and only if the descriptor is open and has its tag. No step lowers a tag, and a close raises it. So an event with
-/// the tag that a descriptor had when it was closed, or with a lesser one, is answered `Stale` after any steps.
+/// An event of an earlier opening changes nothing. An event for a descriptor that was ever opened
+/// is answered `Stale`, and leaves the world as it was, if and only if the descriptor is closed or
+/// has another tag; it is answered `Done` if and only if the descriptor is open and has its tag. No
+/// step lowers a tag, and a close raises it. So an event with the tag that a descriptor had when it
+/// was closed, or with a lower tag, is answered `Stale` after any steps.
 pub fn events_of_an_earlier_opening_change_nothing()
     ensures stale { (w : World) (d tag : ℕ) (mode : Mode) (error : Bool) (row : DescriptorRow)
         → slice_get w.descriptors d ≡ Some row
@@ -210,9 +217,10 @@ pub fn events_of_an_earlier_opening_change_nothing()
         → outcome (world_after next steps) (Step.PollEvent d tag mode error) ≡ Ok (Stale, world_after next steps) }
 {}
 
-/// A write is answered `Pipe` if and only if its socket's write side is shut, and then it changes nothing. A write side
-/// is shut after a step if and only if it was before, or if the step is a `closewrite` of it. So after a `closewrite`
-/// each write is answered `Pipe`, after any steps.
+/// A write is answered `Pipe` if and only if its socket's write side is shut, and such a write
+/// changes nothing. A write side is shut after a step if and only if it was shut before or the step
+/// is a `closewrite` of it. So each write after a `closewrite` is answered `Pipe`, whatever steps
+/// come between.
 pub fn a_write_is_answered_pipe_just_if_its_side_is_shut()
     ensures pipe { (w : World) (g s : ℕ) (bytes : List ℕ) (answer : Answer) (next : World)
         → outcome w (Step.SysWrite g s bytes) ≡ Ok (answer, next)
@@ -228,10 +236,11 @@ pub fn a_write_is_answered_pipe_just_if_its_side_is_shut()
         → outcome (world_after next steps) (Step.SysWrite h s bytes) ≡ Ok (answer, last) → answer ≡ Pipe }
 {}
 
-/// One goroutine at a time holds a side of a socket's lock. An `rwlock` is answered `Yes` if and only if the lock isn't
-/// closed and the side isn't locked, and it leaves the side locked. No other step locks a side. If an `rwlock` is
-/// answered `Wait`, the side was locked, and the socket stays as it was except for one more waiter. Between two
-/// `rwlock`s that are answered `Yes` at one side, an `rwunlock` of that side was applied.
+/// One goroutine at a time holds a side of a socket's lock. An `rwlock` is answered `Yes` if and
+/// only if the lock isn't closed and the side isn't locked, and it leaves the side locked. No other
+/// step locks a side. If an `rwlock` is answered `Wait`, the side was locked, and one more waiter
+/// is the only change to the socket. Between two `rwlock`s of the same side that are answered
+/// `Yes`, an `rwunlock` of that side was applied.
 pub fn one_goroutine_at_a_time_has_a_side()
     ensures answered { (w : World) (g s : ℕ) (side : Side) (socket : Socket) (answer : Answer) (next : World)
         → slice_get w.sockets s ≡ Some socket → outcome w (Step.RwLock g s side) ≡ Ok (answer, next)
@@ -258,9 +267,9 @@ pub fn one_goroutine_at_a_time_has_a_side()
         × IsOk (outcome (world_after next (take n steps)) (Step.RwUnlock k s side)) }
 {}
 
-/// An `rwunlock` unlocks a side of a socket's lock: the side was locked before and is unlocked after, and no other step
-/// unlocks a side. The side isn't handed to any goroutine: one waiter of the side, if it has any, is removed, and the
-/// goroutine owes the side one release.
+/// An `rwunlock` unlocks a side of a socket's lock: the side was locked before and is unlocked
+/// after, and no other step unlocks a side. The side isn't handed to another goroutine: if it has
+/// waiters, one is removed, and the goroutine that unlocked it owes the side one release.
 pub fn an_rwunlock_gives_a_side_back()
     ensures back { (w : World) (g s : ℕ) (side : Side) (answer : Answer) (next : World)
         → outcome w (Step.RwUnlock g s side) ≡ Ok (answer, next)

@@ -9,7 +9,7 @@ use nr_rev::Memory;
 use std::alloc::Global;
 use std::marker::Model;
 
-/// The references of each socket that each goroutine took and returned.
+/// The references to each socket that each goroutine took and returned.
 #[derive(Drop)]
 pub struct Ledger {
     rows: Vec<Vec<Holding>>,
@@ -25,8 +25,8 @@ impl Model for Ledger {
 }
 
 impl Ledger {
-    /// Makes a ledger of this many sockets and goroutines, none of which holds anything. Fails with `Memory` if memory
-    /// runs out.
+    /// Makes a ledger for this many sockets and goroutines, in which no goroutine holds a
+    /// reference. Fails with `Memory` if memory runs out.
     pub fn new(alloc: Global, sockets: u32, goroutines: u32) -> Result<Ledger, Memory>
         ensures { IfOk result (λ ledger. ledger ≡ replicate sockets (replicate goroutines none_held)) }
     {
@@ -37,7 +37,8 @@ impl Ledger {
         Ok(Ledger { rows })
     }
 
-    /// Returns the goroutine's holding of the socket, which is empty if it has no place.
+    /// Returns the goroutine's holding of the socket, which is empty if the ledger has no place for
+    /// it.
     pub fn holding_of(&self, socket: u32, goroutine: u32) -> Holding
         ensures { result ≡ holding_of self.now socket goroutine }
     {

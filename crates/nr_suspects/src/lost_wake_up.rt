@@ -1,4 +1,4 @@
-//! Lost wake-ups: a goroutine sleeps at a side to which a try is owed.
+//! Lost wake-ups: a goroutine sleeps at a side that owes a try.
 
 ghost use Rattle.std.specs.Prelude.{◌≡◌, ◌++◌, ◌≤◌, ◌<◌, ◌+◌, length, option_and_then};
 ghost use Rattle.nr_rev.specs.Sides.{of_side};
@@ -60,7 +60,7 @@ pub(crate) fn side_name(side: Side) -> &'static [u8]
     }
 }
 
-// Writes which step took the readiness, if one did.
+// Writes which step took the readiness, if a step took it.
 fn send_taken<W: Write>(taken: Option<StepBy>, w: &mut Buffered<W>) -> Result<(), WriteFailed>
     ensures { Writes w.old w.new (taken_text taken) result }
 {
@@ -114,7 +114,7 @@ impl Text for LostWakeUp {
 /// A list of lost wake-ups that allocates no memory.
 pub type LostWakeUps = ArrayVec<LostWakeUp, MOST_LOST>;
 
-// Appends the lost wake-up at the side of a descriptor with this account, if there is one.
+// Appends the lost wake-up at the side of the descriptor, which has this account, if there is one.
 fn add_lost<W: Worlds>(
     world: &W,
     position: usize,
@@ -148,8 +148,8 @@ fn add_lost<W: Worlds>(
     }
 }
 
-/// Replaces the list's contents with the lost wake-ups of a world at this position, sorted by descriptor, reading
-/// before writing.
+/// Replaces the list's contents with the lost wake-ups in a world at this position, sorted by
+/// descriptor, with the read side first.
 pub fn list_lost_wake_ups<W: Worlds>(
     world: &W,
     position: usize,

@@ -1,4 +1,5 @@
-//! The notes that the hunts take while the steps of a recording are applied, and the findings at its end.
+//! The notes that the hunts take while the steps of a recording are applied, and the findings at
+//! the recording's end.
 
 ghost use Rattle.std.specs.Prelude.{◌≡◌, ◌++◌, ◌≤◌, [], IfOk, OnOk, length, replicate, None};
 ghost use Rattle.nr_suspects.specs.Accounts.{IsNoted, kept_of};

@@ -27,7 +27,7 @@ pub struct Passing {
     pub woken: Option<u32>,
 }
 
-/// The effect of a step, as far as the hunts use it.
+/// The part of a step's effect that the hunts use.
 #[derive(Clone, Copy, Debug, PartialEq, Eq)]
 pub enum Notice {
     /// The descriptor was opened for the socket.
@@ -45,7 +45,7 @@ pub enum Notice {
         socket: u32,
         side: Side,
     },
-    /// The word was `ready`, and the goroutine took the readiness.
+    /// The side's word was `ready`, and the goroutine took the readiness.
     TookReadiness(Visit),
     /// The goroutine checked the side and got this code.
     Checked {
@@ -58,17 +58,17 @@ pub enum Notice {
         descriptor: u32,
         mode: Mode,
     },
-    /// A timer was run, so that deadlines of the descriptor's sides may have passed.
+    /// A timer ran, so deadlines of the descriptor's sides may have passed.
     PassedDeadline {
         descriptor: u32,
         passings: Sides<Option<Passing>>,
     },
-    /// The goroutine took a reference of the socket.
+    /// The goroutine took a reference to the socket.
     TookReference {
         goroutine: u32,
         socket: u32,
     },
-    /// The goroutine returned a reference of the socket.
+    /// The goroutine returned a reference to the socket.
     GaveReference {
         goroutine: u32,
         socket: u32,
@@ -104,7 +104,7 @@ fn wait_place(value: CellValue) -> Option<(u32, Side)>
     }
 }
 
-// Returns the visit of the goroutine at the side at which it waits, if it waits.
+// Returns the visit of the goroutine to the side at which it waits, if it waits.
 fn visit_of<W: Worlds>(world: &W, goroutine: u32) -> Option<Visit>
     requires { W.is_well_formed world.now }
     ensures { result ≡ visit_of (W.world world.now) goroutine }
@@ -144,7 +144,7 @@ fn visited<W: Worlds>(world: &W, step: &Step) -> Option<Visit>
     }
 }
 
-/// Returns the cell with the word of a descriptor's side.
+/// Returns the cell of the wait word of a descriptor's side.
 pub(crate) fn word_cell(descriptor: u32, side: Side) -> Cell
     ensures { result ≡ word_cell descriptor side }
 {
@@ -154,7 +154,7 @@ pub(crate) fn word_cell(descriptor: u32, side: Side) -> Cell
     }
 }
 
-// Returns the cell with the deadline of a descriptor's side.
+// Returns the cell of the deadline of a descriptor's side.
 fn deadline_cell(descriptor: u32, side: Side) -> Cell
     ensures { result ≡ deadline_cell descriptor side }
 {
@@ -260,7 +260,8 @@ impl SideBefore {
         }
     }
 
-    // Returns the passing of the side's deadline, if it has passed in this next world and hadn't before.
+    // Returns the passing of the side's deadline, if it has passed in this world and hadn't before
+    // the step.
     fn passing<W: Worlds>(self, world: &W, descriptor: u32, side: Side) -> Option<Passing>
         requires { W.is_well_formed world.now }
         ensures { result ≡ (if not self.has_passed && has_passed (W.world world.now) descriptor side
@@ -274,7 +275,7 @@ impl SideBefore {
     }
 }
 
-// Returns the descriptor of the timer that the step runs, if it runs one.
+// Returns the descriptor of the timer that the step runs, or `None` if it runs no timer.
 fn fired_descriptor<W: TouchesCells>(world: &W, step: &Step) -> Option<u32>
     requires { W.is_well_formed world.now }
     ensures { result ≡ fired_descriptor (W.world world.now) step.now }
@@ -285,7 +286,8 @@ fn fired_descriptor<W: TouchesCells>(world: &W, step: &Step) -> Option<u32>
     }
 }
 
-// Runs a timer for the descriptor, and returns the answer and the deadlines that it made pass.
+// Runs a timer for the descriptor, and returns the answer and the notice of the deadlines that
+// passed.
 fn run_timer<W: Worlds>(
     world: &mut W,
     step: &Step,
@@ -340,7 +342,8 @@ fn visit_side<W: Worlds>(world: &mut W, step: &Step) -> Result<(Answer, Notice),
     }
 }
 
-// Returns the notice of a step with this answer; `other` is the notice for timers and visits.
+// Returns the notice of a step with this answer. `other` is the notice of a step that runs a timer
+// or visits a side.
 fn noticed(step: &Step, answer: Answer, other: Notice) -> Notice
     ensures { result ≡ noticed step.now answer other }
 {

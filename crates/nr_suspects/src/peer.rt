@@ -8,7 +8,7 @@ use crate::notice::Notice;
 /// The other end of a socket.
 #[derive(Clone, Copy, Debug, PartialEq, Eq)]
 pub struct Peer {
-    /// The number of bytes that can be written before it reads some.
+    /// The number of bytes that can be written before it reads any.
     pub capacity: u32,
     /// True if it has closed.
     pub is_closed: bool,

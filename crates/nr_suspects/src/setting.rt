@@ -22,7 +22,7 @@ pub struct Setting {
     pub by: StepBy,
     /// The sides whose deadlines it set.
     pub mode: Mode,
-    /// The first later step that set the other side's deadline alone.
+    /// The first later step that set only the other side's deadline.
     pub moved: Option<StepBy>,
 }
 
@@ -66,7 +66,7 @@ impl Deadline {
         }
     }
 
-    // Returns the deadline after this passing, if any.
+    // Returns the deadline after this passing, or the deadline unchanged if there is no passing.
     fn passed_with(self, passing: Option<Passing>) -> Deadline
         ensures { result ≡ passed_with passing self }
     {
@@ -81,7 +81,7 @@ impl Deadline {
 }
 
 impl Setting {
-    // Returns the setting after this step set the other side's deadline alone.
+    // Returns the setting after this step set only the other side's deadline.
     fn moved_since(self, by: StepBy) -> Setting
         ensures { result ≡ moved_since by self }
     {
@@ -93,7 +93,8 @@ impl Setting {
     }
 }
 
-// Returns the goroutine that was woken, or `None` if it is this one.
+// Returns the goroutine that was woken, or `None` if that is this goroutine, which has now checked
+// its side.
 fn woken_but(goroutine: u32, woken: Option<u32>) -> Option<u32>
     ensures { result ≡ woken_but goroutine woken }
 {
@@ -103,7 +104,8 @@ fn woken_but(goroutine: u32, woken: Option<u32>) -> Option<u32>
     }
 }
 
-/// Returns both sides' deadlines after the goroutine set those that the mode names, in the step of this number.
+/// Returns both sides' deadlines after the goroutine set those that the mode names, in the step
+/// with this number.
 pub(crate) fn after_setting(
     step: usize,
     goroutine: u32,

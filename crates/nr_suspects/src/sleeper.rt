@@ -150,7 +150,7 @@ fn reason_of_code(code: u32) -> Option<Reason>
     }
 }
 
-// Returns why a read would be answered with bytes or the end.
+// Returns why a read would be answered with bytes or with the end of the input.
 fn reason_to_read(bytes: u64, is_closed: bool) -> Option<Reason>
     ensures { result ≡ reason_to_read bytes is_closed }
 {
@@ -176,7 +176,8 @@ fn reason_to_write(is_shut: bool, room: u64) -> Option<Reason>
     }
 }
 
-// Returns the reason that the socket, with this other end, gives the side to stop waiting.
+// Returns why a goroutine that waits at this side of the socket, which has this other end, should
+// stop waiting.
 fn reason_of_socket<W: Worlds>(world: &W, socket: u32, side: Side, peer: Peer) -> Option<Reason>
     requires { W.is_well_formed world.now }
     ensures { result ≡ reason_by_cells (W.world world.now) socket side peer }
@@ -249,8 +250,8 @@ fn add_sleeper<W: Worlds>(
     }
 }
 
-/// Replaces the list's contents with the goroutines that sleep on in a world at this position, sorted by descriptor,
-/// reading before writing.
+/// Replaces the list's contents with the sleepers in a world at this position, sorted by
+/// descriptor, with the read side first.
 pub fn list_sleepers<W: Worlds>(
     world: &W,
     position: usize,

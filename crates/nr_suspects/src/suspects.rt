@@ -10,21 +10,22 @@ use crate::sleeper::Sleepers;
 use nr_text::{Buffered, Parts, Text, WriteFailed};
 use std::io::Write;
 
-/// The findings about deadlines, the lost wake-ups, the goroutines that sleep on, and the held references of closed
+/// The findings about deadlines, the lost wake-ups, the sleepers, and the held references to closed
 /// sockets.
 #[derive(Drop)]
 pub struct Suspects {
-    /// What became of deadlines, step by step.
+    /// What happened to deadlines, step by step.
     pub deadlines: Vec<DeadlineFinding>,
     /// The lost wake-ups.
     pub lost: LostWakeUps,
     /// The goroutines that sleep although they should have been woken.
     pub asleep: Sleepers,
-    /// The held references of closed sockets.
+    /// The held references to closed sockets.
     pub held: Vec<HeldReference>,
 }
 
-/// Prints one line for each finding: deadlines, lost wake-ups, goroutines that sleep on, and references.
+/// Prints one line for each finding: first deadlines, then lost wake-ups, sleepers, and held
+/// references.
 impl Text for Suspects {
     ghost text = { found_lines };
 

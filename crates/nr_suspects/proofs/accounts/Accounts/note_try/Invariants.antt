@@ -1,4 +1,4 @@
--- The places so far are updated, and the others are unchanged.
+-- The places below the loop's index are updated, and the other places are unchanged.
 use Rattle.std.proofs.Common.{◌≡◌, ◌<◌, ◌≤◌, ℕ, Option, Some, length}
 use Rattle.std.specs.Prelude.{slice_get}
 use Rattle.nr_suspects.specs.declared.account.Account.{Account}

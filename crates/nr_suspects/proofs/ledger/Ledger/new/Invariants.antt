@@ -1,4 +1,4 @@
--- This many rows are made.
+-- The ledger has as many rows as the loop's index says.
 use Rattle.std.proofs.Common.{◌≡◌, replicate}
 use Rattle.std.specs.Prelude.{map}
 use Rattle.nr_suspects.specs.Holdings.{none_held}

@@ -17,7 +17,7 @@ returns-in_err-send_taken g c =
     writes_then c.args.w.now c.send_event.new.w c.send_taken.new.w (event_text lost) (taken_text lost.taken ++ codes "\n") result c.in_ok-send_event.ensures
     (writes_cut c.send_event.new.w c.send_taken.new.w (taken_text lost.taken) (codes "\n") c.in_err-send_taken.field-0.0 result c.from_residual-in_err-send_taken.ensures.0 c.in_err-send_taken.ensures)
 
--- the end of the line is written last
+-- the line feed is written last
 pub returns : goal.returns
 returns g c =
     let lost = c.args.self.now in
