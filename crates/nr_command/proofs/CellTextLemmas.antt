@@ -15,7 +15,7 @@ use Rattle.nr_command.specs.declared.command.LineFault.TheVariants.{BadArgument}
 use Rattle.nr_command.specs.Command.{◌>>=◌, cell_of, number_of, words}
 use Rattle.nr_command.specs.Value.{cell_text, text_with}
 
--- digits contain no space, so they are one part
+-- digits contain no space, so a number is one part of a line
 digits-split : (ds : List ℕ) → AllDigits 10 ds → slice_split (λ b. nat_eq b 32) ds ≡ ds ∷ []
 digits-split [] all = refl
 digits-split (d ∷ ds) all =
@@ -28,7 +28,7 @@ digits_pass (d ∷ ds) all =
     let digit = digit_from_value d all.0 in
     ap₂ (λ (a b : Bool). a && b) (ap₂ (λ (a b : Bool). a && b) (le-leb 48 d digit.0) (le-leb d 57 digit.1)) (digits_pass ds all.1)
 
--- a number is one word, and is read as that number
+-- the digits of a number are one word, which is read as that number
 words-decimal : (n : ℕ) → n < 2 ^ 32 → words (decimal n) ≡ decimal n ∷ []
 words-decimal n small =
     let numeral = decimal_is_IsNumeral n (omega (arith, small)) in
@@ -44,7 +44,7 @@ number_of-decimal n small =
     ∙ ap (λ value. cond (nat_lt value (2 ^ 32)) (Ok value) (Err BadArgument)) numeral.1
     ∙ ap (λ (fits : Bool). cond fits (Ok n) (Err BadArgument)) (lt-ltb n (2 ^ 32) small)
 
--- the words of a text that begins with a cell's name
+-- the words of a text that begins with the name of a cell
 name_word : (cell : Cell) (rest : List ℕ) → words (cell_name cell ++ codes " " ++ rest) ≡ cell_name cell ∷ words rest
 name_word Cell.Clock rest = refl
 name_word _ rest = refl

@@ -1,4 +1,5 @@
--- The first words of a line determine its meaning, and the digits of a number its value.
+-- The first four words of a line determine its meaning, and more digits don't make a number
+-- smaller.
 use Rattle.std.proofs.Common.{◌≡◌, ℕ, ◌+◌, ◌*◌, ◌^◌, ◌≤◌, Bool, false, cond, List, [], ◌∷◌, arith, length, take, refl, sym, ap, ◌∙◌, nat_lt, ◌&&◌, Ok, Err}
 use Rattle.std.proofs.Math.Bool.{and-false}
 use Rattle.std.proofs.lemmas.Bool.{le-ltb}
@@ -9,7 +10,7 @@ use Rattle.nr_command.specs.declared.command.LineFault.TheVariants.{BadArgument,
 use Rattle.nr_command.specs.declared.parsing.TheConstants.{MAX_LINE}
 use Rattle.nr_command.specs.Command.{meaning_of, break_of, cell_of, meaning_of_words, number_of, without_return, words}
 
--- no request has more than three words
+-- no request has more than three words, so words after the fourth don't matter
 meaning_of_words-take : (ws : List (List ℕ)) → meaning_of_words (take 4 ws) ≡ meaning_of_words ws
 meaning_of_words-take [] = refl
 meaning_of_words-take (a ∷ []) = refl
@@ -17,12 +18,12 @@ meaning_of_words-take (a ∷ b ∷ []) = refl
 meaning_of_words-take (a ∷ b ∷ c ∷ []) = refl
 meaning_of_words-take (a ∷ b ∷ c ∷ d ∷ ws) = refl
 
--- the first words of a line determine its request
+-- the first four words of a line determine its request
 pub meaning_of-first : (line : List ℕ) (first : List (List ℕ)) → nat_lt MAX_LINE (length line) ≡ false → first ≡ take 4 (words (without_return line)) → meaning_of_words first ≡ meaning_of line
 meaning_of-first line first short is =
     ap meaning_of_words is ∙ meaning_of_words-take (words (without_return line)) ∙ sym (ap (λ long. cond long (Err TooLong) (meaning_of_words (words (without_return line)))) short)
 
--- a number with more digits is not smaller
+-- appending digits to a number doesn't make it smaller
 pub value_grows : (n : ℕ) (ds : List ℕ) → n ≤ digits_value_after 10 n ds
 value_grows n [] = omega arith
 value_grows n (d ∷ ds) = let next = value_grows (n * 10 + digit_value d) ds in omega (arith, next)
@@ -33,13 +34,13 @@ number_big ds big =
     ap (λ (small : Bool). cond (t && small) (Ok (digits_value 10 ds)) (Err BadArgument)) (le-ltb _ _ big)
     ∙ ap (λ (b : Bool). cond b (Ok (digits_value 10 ds)) (Err BadArgument)) (and-false t)
 
--- a break takes one word
+-- a break is one word, so more words are a bad argument
 pub break_of-more : (ws : List (List ℕ)) → 2 ≤ length ws → break_of ws ≡ Err BadArgument
 break_of-more [] more = refl
 break_of-more (a ∷ []) more = absurd (omega (arith, more))
 break_of-more (a ∷ b ∷ ws) more = refl
 
--- a cell takes at most two words
+-- a cell is at most two words, so more words are a bad argument
 pub cell_of-more : (ws : List (List ℕ)) → 3 ≤ length ws → cell_of ws ≡ Err BadArgument
 cell_of-more [] more = absurd (omega (arith, more))
 cell_of-more (a ∷ []) more = absurd (omega (arith, more))

@@ -1,4 +1,4 @@
--- Numbers from 1 on differ by their values.
+-- Numbers that are at least 1 are equal if their values are equal.
 use Rattle.std.proofs.Common.{◌≡◌, ℕ, zero, suc, ◌<◌, Option, Some, None, arith, refl, sym, ap, subst}
 use Rattle.std.proofs.Math.Bridge.{le_prop}
 use Rattle.std.specs.Prelude.{MatchOption}
@@ -15,7 +15,7 @@ same_count a b e =
     subst (λ (n : ℕ). (some : 0 < n) → count a.value a.ok ≡ count n some) e (λ some. ap (count a.value) (le_prop a.ok some)) in
     along b.ok
 
--- a number from 1 on is read from its value
+-- a number that is at least 1 can be read back from its value
 pub from_one_is : (n : ℕ) (count : NonZeroU32) → count.value ≡ n → Some count ≡ from_one n
 from_one_is zero count e = absurd (omega (arith, e, count.ok))
 from_one_is (suc n) count e = ap Some (same_count count _ e)

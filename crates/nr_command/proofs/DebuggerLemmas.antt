@@ -11,7 +11,7 @@ use Rattle.nr_search.specs.declared.found.Found.{Found}
 use Rattle.nr_search.specs.declared.found.Found.TheVariants.{Hit, Nothing}
 use Rattle.nr_search.proofs.FinderLemmas.{backward-is, forward-is}
 
--- true if a found position, if any, isn't after the last
+-- true if the search found no hit, or a hit at a position that isn't after the last
 abbrev pub LiesWithin : ℕ → Found → Type 0
 LiesWithin last (Hit h) = h.position ≤ last
 LiesWithin last Nothing = Unit {0}

@@ -1,4 +1,4 @@
--- Each command leaves the debugger in its recording.
+-- Each command leaves the debugger's position and its checkpoints in the recording.
 use Rattle.std.proofs.Common.{◌≡◌, ℕ, ◌+◌, ◌-◌, ◌≤◌, ◌==◌, Bool, true, false, cond, not, List, [], ◌∷◌, length, find, Option, Some, None, Result, Ok, Err, nat_lt, refl, sym, ap, subst, arith}
 use Rattle.std.specs.Prelude.{All, IfOk, OnErr, option_map}
 use Rattle.std.proofs.lemmas.Bool.{ltb-false}
@@ -28,7 +28,7 @@ use Rattle.nr_command.specs.declared.reply.Reply.{Reply}
 use Rattle.nr_command.specs.declared.reply.Reply.TheVariants as replies
 use Rattle.nr_command.proofs.DebuggerLemmas.{found_within}
 
--- a property of all checkpoints is one of the checkpoint that is found
+-- a property of all checkpoints holds for the checkpoint that is found
 found_kept : (P : Checkpoint → Type 0) (test : Checkpoint → Bool) (xs : List Checkpoint) (c : Checkpoint) → All P xs → find test xs ≡ Some c → P c
 found_kept P test [] c all e = cc
 found_kept P test (x ∷ xs) c all e =
@@ -101,7 +101,7 @@ module _ (r : Recording) (d : Debugger) (w : IsWithin (length r.steps) d) where
       (λ other. restarted-within (length r.steps) d w number (find (λ c. c.number == number) d.checkpoints.present) refl)
   run-within (commands.DeleteCheckpoint number) = unkept-within (length r.steps) d w number (checkpoints.checkpoint_deletion number d.checkpoints)
 
--- after a command that was run, or that ran out of memory
+-- a debugger is within its recording after a command, even if the command ran out of memory
 pub exec-within : {E : Type 0} (r : Recording) (command : Command) (old new : Debugger) (result : Result Reply E) → IsWithin (length r.steps) old
     → IfOk result (λ reply. (reply, new) ≡ run r command old) → OnErr result (new ≡ old) → IsWithin (length r.steps) new
 exec-within r command old new (Ok reply) w ran same = subst (IsWithin (length r.steps)) (sym (ap (λ (x : Ran). x.1) ran)) (run-within r old w command)
@@ -118,6 +118,6 @@ words-within : (r : Recording) (d : Debugger) (words : List ℕ) → IsWithin (l
 words-within r d [] w = w
 words-within r d (word ∷ words) w = words-within r (after_tagged r d (command_of word)) words (tagged-within r d (command_of word) w)
 
--- the debugger after any history
+-- the debugger is within its recording after any history
 pub history-within : (r : Recording) (words : List ℕ) → IsWithin (length r.steps) (after_words r opening words)
 history-within r words = words-within r opening words (opening-within (length r.steps))

@@ -1,4 +1,4 @@
--- Commands are read from their words, and from no other numbers.
+-- Each command can be read back from its word, and no other number is read as a command.
 use Rattle.std.proofs.Common.{◌≡◌, ℕ, zero, suc, ◌+◌, ◌*◌, ◌/◌, ◌%◌, ◌^◌, ◌<◌, ◌≤◌, Bool, true, false, cond, Option, Some, None, nat_eq, nat_lt, refl, sym, ap, subst, ◌∙◌, arith}
 use Rattle.std.specs.Prelude.{IfSome}
 use Rattle.std.specs.Option.{option_map, option_or}
@@ -21,7 +21,7 @@ use Rattle.nr_command.specs.Word.{◌>>=◌, argument_of, break_number, break_nu
 use Rattle.nr_command.specs.Auxiliary.Word.{HasTypedNumbers, HasTypedStep}
 use Rattle.nr_command.proofs.CountLemmas.{from_one_is}
 
--- the lowest byte of a word, its next byte, and the rest
+-- the lowest byte of a word is its opcode, the next byte its tag, and the rest its argument
 opcode_again : (o t a : ℕ) → o < 256 → (o + 256 * t + 65536 * a) % 256 ≡ o
 opcode_again o t a h = omega (arith, h)
 
@@ -59,7 +59,7 @@ kind_number_small : (kind : Kind) → kind_number kind < 256
 kind_number_small Kind.Spawn = omega arith
 kind_number_small _ = omega arith
 
--- a number that isn't a byte isn't that of a kind
+-- a number that isn't a byte isn't the number of a kind
 pub no_kind : (n : ℕ) → 256 ≤ n → kind_numbered n ≡ None
 no_kind n big = read_back (kind_numbered n) refl
   where
@@ -108,7 +108,7 @@ watch_again cell h =
     ∙ ap (λ o. o >>= cell_at n) (small_again i (index_small cell h))
     ∙ cell_at_again cell
 
--- a command can be made from its opcode and its argument
+-- each command can be made again from its opcode and its argument
 made_again : (command : Command) → HasTypedNumbers command → command_with (opcode_of command) (argument_of command) ≡ Some command
 made_again (Step count) h = ap (option_map Step) (count_again count h)
 made_again (ReverseStep count) h = ap (option_map ReverseStep) (count_again count h)
@@ -134,7 +134,7 @@ read_again tag command fits typed =
     ∙ ap (λ k. option_map (λ c. (tag, c)) (command_with o k)) (argument_again o tag a low fits)
     ∙ ap (option_map (λ c. (tag, c))) (made_again command typed)
 
--- true if a command was read from this opcode and argument
+-- true if this opcode and this argument are those of the command
 abbrev Reads : ℕ → ℕ → Command → Type 0
 Reads o a command = (o ≡ opcode_of command) × (a ≡ argument_of command) × HasTypedNumbers command
 
@@ -204,7 +204,7 @@ either_read : {A : Type 0} (x y : Option A) (c : A) (P : Type 0) → (x ≡ Some
 either_read None y c P first second e = second e
 either_read (Some x) y c P first second e = first e
 
--- a cell that is read from a number and an index
+-- if a cell is read from a number and an index, they are the cell's number and index
 numbered_read : (n : ℕ) (index : Option ℕ) (cell : Cell) → IfSome index (λ i. i < 2 ^ 32) → cell_numbered n index ≡ Some cell
     → (n + 256 * index_or_0 index ≡ argument_of (Watch cell)) × HasTypedNumbers (Watch cell)
 numbered_read n index cell fits e =
@@ -229,7 +229,7 @@ watch_read a cell e =
 nothing_read : (a : ℕ) (command c : Command) → only_without a command ≡ Some c → (a ≡ 0) × (command ≡ c)
 nothing_read a command c = branch (nat_eq a 0) (Some command) None c _ (λ is e. (eqb-true a 0 is, cc)) (λ e. cc)
 
--- a command with a number is read from its opcode and that number
+-- a command that is read from an opcode and a number has this opcode and this number
 module _ (o a : ℕ) (c : Command) where
   count_with : (f : NonZeroU32 → Command) → ((n : NonZeroU32) → n.value < 2 ^ 32 → Reads o n.value (f n)) → option_map f (from_one_below a) ≡ Some c → Reads o a c
   count_with f reads e =

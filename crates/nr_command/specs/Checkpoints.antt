@@ -1,4 +1,4 @@
--- The checkpoints, and the results of making and deleting one.
+-- The checkpoints, and the results of making and deleting a checkpoint.
 use Rattle.std.specs.Prelude.{ℕ, Result, Ok, Err, if◌then◌else◌}
 use Rattle.nr_marks.specs.Numbered.{NumberedItems, is_full, newest, is_present}
 use Rattle.nr_marks.specs.declared.numbered.Numbered.{Numbered}
@@ -9,11 +9,11 @@ use Rattle.nr_command.specs.declared.checkpoint.CheckpointFault.TheVariants.{NoS
 abbrev pub Checkpoint : Type 0
 Checkpoint = Numbered ℕ
 
--- the checkpoints, and the number of those ever made
+-- the checkpoints, and how many were ever made
 abbrev pub CheckpointList : Type 0
 CheckpointList = NumberedItems ℕ
 
--- the result of keeping a position: the checkpoint, under the next number
+-- the result of keeping a position: a checkpoint with the next number
 abbrev pub next_checkpoint : ℕ → CheckpointList → Result Checkpoint CheckpointFault
 next_checkpoint position table =
     if is_full table then Err CheckpointsFull else Ok (newest position table)

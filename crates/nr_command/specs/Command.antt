@@ -26,17 +26,17 @@ use Rattle.nr_command.specs.declared.command.LineFault.{LineFault}
 use Rattle.nr_command.specs.declared.command.LineFault.TheVariants.{UnknownCommand, BadArgument, TooLong}
 
 infixl 10 ◌>>=◌
--- goes on with a value, or stops at the fault
+-- passes a value on to the next function, or stops at the fault
 abbrev pub ◌>>=◌ : {A B : Type 0} → Result A LineFault → (A → Result B LineFault)
     → Result B LineFault
 (Ok x) >>= f = f x
 (Err e) >>= f = Err e
 
--- a line without the one carriage return that may end it
+-- a line without its final carriage return, if it has one
 abbrev pub without_return : List ℕ → List ℕ
 without_return line = strip_carriage_return line
 
--- the words of a text: the parts between spaces that aren't empty
+-- the words of a text: its nonempty parts between spaces
 abbrev pub words : List ℕ → List (List ℕ)
 words bs = filter (λ word. nat_lt 0 (length word)) (slice_split (λ b. b == 32) bs)
 
@@ -51,7 +51,7 @@ number_of ds =
 abbrev pub at_least_one : ℕ → Result NonZeroU32 LineFault
 at_least_one n = ok_or (from_one n) BadArgument
 
--- a count, which is 1 if no word follows, and never 0
+-- a count of at least 1; without a word, the count is 1
 abbrev pub count_of : List (List ℕ) → Result NonZeroU32 LineFault
 count_of [] = at_least_one 1
 count_of (word ∷ []) = number_of word >>= at_least_one
@@ -62,14 +62,14 @@ abbrev pub only_number : List (List ℕ) → Result ℕ LineFault
 only_number (word ∷ []) = number_of word
 only_number _ = Err BadArgument
 
--- the direction of commands
+-- the direction that this word names
 abbrev pub direction_of : List ℕ → Result Direction LineFault
 direction_of way =
     if bytes_eq way (codes "forward") then Ok Forward
     else if bytes_eq way (codes "reverse") then Ok Backward
     else Err BadArgument
 
--- the value of a setting: the direction is the only one
+-- the value of a setting; the only setting is the direction
 abbrev pub way_of : List ℕ → List ℕ → Result Direction LineFault
 way_of what way =
     if bytes_eq what (codes "exec-direction") then direction_of way else Err BadArgument
@@ -79,7 +79,7 @@ abbrev pub setting_of : List (List ℕ) → Result Direction LineFault
 setting_of (what ∷ way ∷ []) = way_of what way
 setting_of _ = Err BadArgument
 
--- the steps before which a break hits: the step with a number, given after @, or each step of a
+-- the steps before which a break hits: the step whose number follows @, or each step of the named
 -- kind
 abbrev pub break_at : List ℕ → Result Break LineFault
 break_at [] = Err BadArgument
@@ -87,7 +87,7 @@ break_at (b ∷ bs) =
     if b == 64 then (number_of bs >>= λ n. at_least_one n >>= λ step. Ok (breaks.Step step))
     else ok_or (option_map breaks.Kind (kind_named (b ∷ bs))) BadArgument
 
--- the steps before which a `break` or a `tbreak` hits, in one word
+-- the steps before which a `break` or a `tbreak` hits, named by one word
 abbrev pub break_of : List (List ℕ) → Result Break LineFault
 break_of (word ∷ []) = break_at word
 break_of _ = Err BadArgument
@@ -98,7 +98,7 @@ cell_of (name ∷ []) = ok_or (cell_named name None) BadArgument
 cell_of (name ∷ word ∷ []) = number_of word >>= λ n. ok_or (cell_named name (Some n)) BadArgument
 cell_of _ = Err BadArgument
 
--- the deletion of a mark, or, after the word `checkpoint`, of a checkpoint
+-- the command that deletes a mark, or a checkpoint if the word `checkpoint` comes first
 abbrev pub deletion_of : List (List ℕ) → Result Command LineFault
 deletion_of (word ∷ []) = number_of word >>= λ n. Ok (commands.Delete n)
 deletion_of (what ∷ word ∷ []) =
@@ -115,7 +115,7 @@ buffer_or_queue kind s =
     else if bytes_eq kind (codes "wq") then Ok (queries.DumpQueue Write s)
     else Err BadArgument
 
--- the query of a `dump`: one word and a socket's number
+-- the query of a `dump`, which is followed by one word and a socket's number
 abbrev pub dump_of : List (List ℕ) → Result Query LineFault
 dump_of (kind ∷ word ∷ []) = number_of word >>= λ s. buffer_or_queue kind s
 dump_of _ = Err BadArgument
@@ -128,7 +128,7 @@ topic_of topic =
     else if bytes_eq topic (codes "checkpoints") then Ok queries.Checkpoints
     else Err BadArgument
 
--- the query of an `info`, in one word
+-- the query of an `info`, which is followed by one word
 abbrev pub info_of : List (List ℕ) → Result Query LineFault
 info_of (topic ∷ []) = topic_of topic
 info_of _ = Err BadArgument
@@ -169,7 +169,7 @@ meaning_of_words (verb ∷ rest) =
     else if bytes_eq verb (codes "quit") || bytes_eq verb (codes "q") then alone Quit rest
     else Err UnknownCommand
 
--- the request that a line makes; the line has no line feed
+-- the request that a line makes; the line is given without its line feed
 abbrev pub meaning_of : List ℕ → Result Line LineFault
 meaning_of bytes = if nat_lt MAX_LINE (length bytes) then Err TooLong
     else meaning_of_words (words (without_return bytes))

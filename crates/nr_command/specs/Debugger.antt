@@ -38,12 +38,12 @@ Ran = Reply × Debugger
 abbrev pub moved_to : ℕ → Debugger → Debugger
 moved_to p d = record d { position = p }
 
--- goes to the end of the recording in that direction, and replies so
+-- goes to the end of the recording in that direction, and replies that it is there
 abbrev pub to_end : Direction → ℕ → Debugger → Ran
 to_end Forward last d = (replies.AtEnd last, moved_to last d)
 to_end Backward last d = (replies.AtStart, moved_to 0 d)
 
--- goes this many steps in that direction, but not beyond the end there
+-- goes this many steps in that direction, but not beyond the end of the recording
 abbrev pub step : Direction → ℕ → ℕ → Debugger → Ran
 step Forward n last d = if nat_lt last (d.position + n) then to_end Forward last d
     else (replies.At (d.position + n), moved_to (d.position + n) d)
@@ -93,7 +93,7 @@ position_kept d (Err fault) = (replies.Fault (faults.Checkpoint fault), d)
 abbrev pub keep_position : Debugger → Ran
 keep_position d = position_kept d (next_checkpoint d.position d.checkpoints)
 
--- goes to a kept position
+-- goes to the position of a checkpoint, or replies that no such checkpoint exists
 abbrev pub restarted : Debugger → Option ℕ → Ran
 restarted d (Some p) = (replies.At p, moved_to p d)
 restarted d None = (replies.Fault (faults.Checkpoint NoSuchCheckpoint), d)
@@ -130,18 +130,19 @@ run r commands.Checkpoint d = keep_position d
 run r (commands.Restart number) d = restart number d
 run r (commands.DeleteCheckpoint number) d = delete_checkpoint number d
 
--- true if a search in this direction needs worlds: there is a watch, and the search leads a copy
+-- true if a search in this direction needs worlds: there is a watch, and the search visits a
+-- position other than the start
 abbrev pub NeedsWorlds : Direction → Recording → Debugger → Type 0
 NeedsWorlds way r d = (any_watch d.marks.present ≡ true) × NeedsCopy way r d.position
 
--- True if the command searches the recording with copies of its worlds: it continues, there is a
--- watch, and its way has a position other than the start.
+-- True if the command searches the recording with copies of its worlds: the command is `continue`
+-- or `reverse-continue`, there is a watch, and the search visits a position other than the start.
 abbrev pub Searches : Recording → Command → Debugger → Type 0
 Searches r commands.Continue d = NeedsWorlds d.direction r d
 Searches r commands.ReverseContinue d = NeedsWorlds Backward r d
 Searches r _ d = ⊥
 
--- the debugger after a word: a word that isn't a command's changes nothing
+-- the debugger after a word; a word that isn't the word of a command changes nothing
 abbrev pub after_tagged : Recording → Debugger → Option (ℕ × Command) → Debugger
 after_tagged r d None = d
 after_tagged r d (Some tagged) = (run r tagged.1 d).1

@@ -1,4 +1,4 @@
--- what the laws of THEOREM.md rest on, whole files
+-- definitions that the laws in THEOREM.md use
 pub mod Checkpoints
 pub mod Command
 pub mod Count
@@ -7,7 +7,7 @@ pub mod Reply
 pub mod Value
 pub mod Word
 pub mod Debugger
--- what callers need besides
+-- more for callers
 pub mod Looking
--- what goes on with the files that the laws rest on
+-- helpers for those definitions
 pub mod Auxiliary

@@ -3,7 +3,7 @@ use Rattle.std.specs.Prelude.{Bool, true, false}
 use Rattle.nr_command.specs.declared.command.Query.{Query}
 use Rattle.nr_command.specs.declared.command.Query.TheVariants as queries
 
--- true if the query is about the world; the others are about the debugger itself
+-- true if the query is about the world, and false if it is about the debugger itself
 abbrev pub is_at_world : Query → Bool
 is_at_world (queries.Print c) = true
 is_at_world (queries.DumpBytes side s) = true

@@ -15,7 +15,7 @@ use Rattle.nr_command.specs.declared.reply.Fault.TheVariants as faults
 use Rattle.nr_command.specs.declared.reply.Reply.{Reply}
 use Rattle.nr_command.specs.declared.reply.Reply.TheVariants as replies
 
--- the reason why a line did nothing: a number and its meaning
+-- the text of a fault: its number and its meaning
 abbrev pub reply_fault_text : Fault → List ℕ
 reply_fault_text (faults.Line UnknownCommand) = codes "fault 201 unknown command\n"
 reply_fault_text (faults.Line BadArgument) = codes "fault 202 bad argument\n"

@@ -12,7 +12,7 @@ use Rattle.nr_rev.specs.declared.status.Status.TheVariants.{Idle, Acquiring, Que
 use Rattle.nr_rev.specs.declared.sides.Side.{Side}
 use Rattle.nr_rev.specs.declared.sides.Side.TheVariants.{Read, Write}
 
--- a name, and a number after it if there is one
+-- a name, followed by a number if there is one
 abbrev pub text_with : List ℕ → Option ℕ → List ℕ
 text_with name None = name
 text_with name (Some n) = name ++ codes " " ++ decimal n
@@ -21,19 +21,19 @@ text_with name (Some n) = name ++ codes " " ++ decimal n
 abbrev pub cell_text : Cell → List ℕ
 cell_text cell = text_with (cell_name cell) (cell_index cell)
 
--- a word of a descriptor
+-- the text of a wait word of a descriptor
 abbrev pub wait_word_text : WaitWord → List ℕ
 wait_word_text Nil = codes "nil"
 wait_word_text Ready = codes "ready"
 wait_word_text Wait = codes "wait"
 wait_word_text (Held g) = codes "g" ++ decimal g
 
--- a side, after the text that it qualifies
+-- the text of a side, with a space before it
 abbrev pub side_text : Side → List ℕ
 side_text Read = codes " r"
 side_text Write = codes " w"
 
--- a status, with the socket or descriptor that it concerns
+-- the text of a status, with the socket or descriptor that it concerns
 abbrev pub status_text : Status → List ℕ
 status_text Idle = codes "idle"
 status_text (Acquiring s side) = codes "acquiring " ++ decimal s ++ side_text side
@@ -49,7 +49,7 @@ status_text (Swapping d side) = codes "swapping " ++ decimal d ++ side_text side
 status_text (Checking d side) = codes "checking " ++ decimal d ++ side_text side
 status_text Gone = codes "gone"
 
--- the value of a cell
+-- the text of a cell's value
 abbrev pub value_text : CellValue → List ℕ
 value_text values.Absent = codes "absent"
 value_text (values.Number n) = decimal n

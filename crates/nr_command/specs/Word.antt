@@ -34,7 +34,8 @@ abbrev pub index_or_0 : Option ℕ → ℕ
 index_or_0 None = 0
 index_or_0 (Some index) = index
 
--- a break as a number: its low byte gives the sort, the rest the kind or the step
+-- a break as a number: its low byte says whether the break names a kind or a step, and the rest is
+-- the number of that kind or step
 abbrev pub break_number : Break → ℕ
 break_number (breaks.Kind kind) = 256 * kind_number kind
 break_number (breaks.Step step) = 1 + 256 * step.value
@@ -58,20 +59,20 @@ abbrev pub word_of : ℕ → Command → ℕ
 word_of tag command = opcode_of command + 256 * tag + 65536 * argument_of command
 
 infixl 10 ◌>>=◌
--- goes on with a value, if there is one
+-- passes a value, if there is one, on to the next function
 abbrev pub ◌>>=◌ : {A B : Type 0} → Option A → (A → Option B) → Option B
 None >>= f = None
 (Some x) >>= f = f x
 
--- a number of 32 bits
+-- a number, if it has at most 32 bits
 abbrev pub small : ℕ → Option ℕ
 small n = if nat_lt n (2 ^ 32) then Some n else None
 
--- a number of 32 bits that is not 0
+-- a number, if it has at most 32 bits and isn't 0
 abbrev pub from_one_below : ℕ → Option NonZeroU32
 from_one_below n = small n >>= from_one
 
--- a command that has no argument
+-- a command that has no argument, if the argument is 0
 abbrev pub only_without : ℕ → Command → Option Command
 only_without argument command = if argument == 0 then Some command else None
 
@@ -80,20 +81,21 @@ abbrev pub direction_numbered : ℕ → Option Direction
 direction_numbered argument =
     if argument == 0 then Some Forward else if argument == 1 then Some Backward else None
 
--- the break that a number stands for
+-- the break that this number represents
 abbrev pub break_numbered : ℕ → Option Break
 break_numbered argument =
     if argument % 256 == 0 then option_map breaks.Kind (kind_numbered (argument / 256))
     else if argument % 256 == 1 then option_map breaks.Step (from_one_below (argument / 256))
     else None
 
--- the cell with a number and an index, which is 0 if there is only one such cell
+-- the cell with this number and index; the index 0 also stands for no index
 abbrev pub cell_at : ℕ → ℕ → Option Cell
 cell_at number index =
     if index == 0 then option_or (cell_numbered number None) (cell_numbered number (Some index))
     else cell_numbered number (Some index)
 
--- the cell that a word's argument names: its low byte gives the sort, the rest the index
+-- the cell that a word's argument names: its low byte is the cell's number, and the rest is the
+-- index
 abbrev pub watch_at : ℕ → Option Cell
 watch_at argument = small (argument / 256) >>= cell_at (argument % 256)
 
@@ -114,7 +116,7 @@ command_with opcode argument =
     else if opcode == 12 then option_map TemporaryBreak (break_numbered argument)
     else None
 
--- the tag and the command of a word, if it is the word of a command
+-- the tag and the command of a word, or `None` if no command has this word
 abbrev pub command_of : ℕ → Option (ℕ × Command)
 command_of word =
     option_map (λ command. (word / 256 % 256, command)) (command_with (word % 256) (word / 65536))

@@ -8,13 +8,13 @@ ghost use Rattle.nr_command.specs.declared.checkpoint.TheConstants.{MOST_CHECKPO
 use nr_marks::{MOST_NUMBERED, Numbered, NumberedList};
 use std::marker::Model;
 
-/// The most checkpoints at once.
+/// The maximum number of checkpoints at a time.
 pub const MOST_CHECKPOINTS: usize = MOST_NUMBERED;
 
 /// A kept position and its number.
 pub type Checkpoint = Numbered<usize>;
 
-/// The reason why a call has left the checkpoints as they were.
+/// Why a call left the checkpoints unchanged.
 #[derive(Clone, Copy, Debug, PartialEq, Eq)]
 pub enum CheckpointFault {
     /// No checkpoint has this number.

@@ -5,21 +5,23 @@ use nr_rev::{Cell, Side};
 use nr_search::Direction;
 use std::num::NonZeroU32;
 
-/// A command that moves the debugger or changes its state. Each is named after GDB's command of that name; what is an
-/// instruction there is a recorded step here.
+/// A command that moves the debugger or changes its state. Each is named after a GDB command, with
+/// recorded steps in place of GDB's instructions.
 #[derive(Clone, Copy, Debug, PartialEq, Eq)]
 pub enum Command {
-    /// Goes this many steps in the current direction, but not beyond the end of the recording there.
+    /// Goes this many steps in the current direction, but not beyond the end of the recording.
     Step(NonZeroU32),
     /// Goes this many steps backwards, but not beyond the start.
     ReverseStep(NonZeroU32),
-    /// Goes in the current direction to the nearest position at which a mark hits, or else to the end there.
+    /// Goes in the current direction to the nearest position at which a mark hits, or to the end of
+    /// the recording if no mark hits.
     Continue,
-    /// Goes backwards to the nearest position at which a mark hits, or else to the start.
+    /// Goes backwards to the nearest position at which a mark hits, or to the start if no mark
+    /// hits.
     ReverseContinue,
     /// Sets the direction of `Step` and `Continue`.
     SetDirection(Direction),
-    /// Marks the positions before some steps.
+    /// Marks the positions before these steps.
     Break(Break),
     /// Marks the positions at which a cell has changed.
     Watch(Cell),
@@ -31,8 +33,8 @@ pub enum Command {
     Restart(u32),
     /// Deletes the checkpoint with this number.
     DeleteCheckpoint(u32),
-    /// Marks the positions before some steps, as `Break` does. The mark is deleted at the first stop of `Continue` or
-    /// `ReverseContinue` at which it hits.
+    /// Marks the positions before these steps, as `Break` does. The mark is deleted at the first
+    /// stop of `Continue` or `ReverseContinue` at which it hits.
     TemporaryBreak(Break),
 }
 
@@ -41,7 +43,7 @@ pub enum Command {
 pub enum Query {
     /// The value of a cell.
     Print(Cell),
-    /// The bytes in a socket's buffer. For the read side, that is the input.
+    /// The bytes in a socket's buffer; the buffer of the read side is the input.
     DumpBytes { side: Side, socket: u32 },
     /// The goroutines queued at a socket's semaphore.
     DumpQueue { side: Side, socket: u32 },
@@ -65,7 +67,7 @@ pub enum Line {
     Empty,
 }
 
-/// The reason why a line isn't a request.
+/// Why a line isn't a request.
 #[derive(Clone, Copy, Debug, PartialEq, Eq)]
 pub enum LineFault {
     UnknownCommand,

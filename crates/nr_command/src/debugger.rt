@@ -1,4 +1,5 @@
-//! The debugger, a state machine: its position in a film, its marks and checkpoints, and its replies.
+//! The debugger, a state machine with a position in a film, marks and checkpoints, which replies to
+//! commands.
 
 ghost use Rattle.std.specs.Prelude.{◌≡◌, ◌<◌, ◌≤◌, ◌^◌, length, false, IfOk, OnErr};
 ghost use Rattle.nr_command.specs.Debugger.{NeedsWorlds, Searches, stop_at, continue, delete_checkpoint, delete_mark, keep_position, make_mark, opening, restart, run, step, to_end};
@@ -24,7 +25,7 @@ pub struct Debugger {
 }
 
 impl Debugger {
-    /// Makes a debugger at position 0 that goes forwards, without marks and checkpoints.
+    /// Makes a debugger at position 0 that goes forwards and has no marks and no checkpoints.
     pub fn new() -> Debugger
         ensures { result ≡ opening }
     {
@@ -64,10 +65,12 @@ impl Debugger {
         &self.checkpoints
     }
 
-    /// Runs a command: returns the reply and leaves the state that `run` in the definitions computes.
+    /// Runs a command. Returns the reply and leaves the state that `run` in `specs/Debugger.antt`
+    /// computes.
     ///
-    /// Only `continue` and `reverse-continue` take memory, for copies of the film's worlds, and only if there is a
-    /// watch and the way has a position other than the start. If memory runs out, nothing has changed.
+    /// Only `continue` and `reverse-continue` take memory, for copies of the film's worlds, and
+    /// only if there is a watch and the search visits a position other than the start. If memory
+    /// runs out, nothing changes.
     pub fn exec<W: Worlds + Drop + Sync, F: Finder>(
         &mut self,
         film: &Film<W>,
@@ -86,7 +89,7 @@ impl Debugger {
         self.dispatch(film, finder, command)
     }
 
-    /// Runs a command, by the function for its kind, from any position in the recording.
+    /// Runs a command with the function for its kind, from any position in the recording.
     fn dispatch<W: Worlds + Drop + Sync, F: Finder>(
         &mut self,
         film: &Film<W>,
@@ -151,7 +154,7 @@ impl Debugger {
         }
     }
 
-    /// Goes this many steps in that direction, but not beyond the end there.
+    /// Goes this many steps in that direction, but not beyond the end of the film.
     fn step(&mut self, direction: Direction, count: u32, last: usize) -> Reply
         requires within { self.old.position ≤ last }
         requires last { last < 2 ^ 63 }
@@ -172,8 +175,8 @@ impl Debugger {
         }
     }
 
-    /// Goes to the nearest hit in that direction and deletes the temporary marks that hit, or else goes to the end
-    /// there.
+    /// Goes to the nearest hit in that direction and deletes the temporary marks that hit there. If
+    /// there is no hit, goes to the end of the film in that direction.
     fn continue_in<W: Worlds + Drop + Sync, F: Finder>(
         &mut self,
         film: &Film<W>,

@@ -23,20 +23,20 @@ pub fn commands_are_read_from_their_words()
         → (n ≡ word_of tag command) × (tag < 256) × HasTypedNumbers command }
 {}
 
-/// The printed form of a cell is read as that cell.
+/// The printed form of a cell is read back as that cell.
 pub fn printed_cells_are_read()
     ensures { (cell : Cell) → IfSome (cell_index cell) (λ n. n < 2 ^ 32)
         → cell_of (words (cell_text cell)) ≡ Ok cell }
 {}
 
-/// After any history, the debugger's position and its checkpoints are in the recording. The words of the history need
-/// not be those of commands.
+/// After any history, the debugger's position and its checkpoints are in the recording. The history
+/// may contain words of no command.
 pub fn histories_stay_in_the_recording()
     ensures { (r : Recording) (words : List ℕ)
         → IsWithin (length r.steps) (after_words r opening words) }
 {}
 
-/// A line of commands has at most 256 bytes, and there are at most 64 checkpoints at once.
+/// A command line has at most 256 bytes, and there are at most 64 checkpoints at a time.
 pub fn the_numbers()
     ensures line { MAX_LINE ≡ 256 }
     ensures checkpoints { MOST_CHECKPOINTS ≡ 64 }

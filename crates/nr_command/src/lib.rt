@@ -1,4 +1,5 @@
-//! The debugger's front end: the meanings of lines, commands as words of a journal, replies and their texts.
+//! The debugger's front end: it parses lines, runs commands, encodes them as words of a journal,
+//! and prints replies.
 #![tactic(auto)]
 
 mod checkpoint;

@@ -21,7 +21,7 @@ trait Listed {
         ensures { Writes w.old w.new (line self.now) result };
 }
 
-/// A mark's line has its number, and the command that makes such a mark.
+/// The line of a mark has its number and the command that makes such a mark.
 impl Listed for NumberedMark {
     ghost line = { mark_line };
 
@@ -68,7 +68,7 @@ fn send_break<W: Write>(
     }
 }
 
-/// A checkpoint's line has its number and its position.
+/// The line of a checkpoint has its number and its position.
 impl Listed for Checkpoint {
     ghost line = { checkpoint_line };
 
@@ -86,7 +86,7 @@ impl Listed for Checkpoint {
 /// A part of a list.
 #[derive(Clone, Copy)]
 enum Listing<'a> {
-    /// The kind of the items, and their number.
+    /// A word for the items, and their number.
     Heading(&'static [u8], usize),
     /// The marks, one on each line.
     Marks(&'a [NumberedMark]),
@@ -119,7 +119,7 @@ fn send_lines<T: Listed, W: Write>(items: &[T], w: &mut Buffered<W>) -> Result<(
     Ok(())
 }
 
-/// Writes the number of marks, and a line for each.
+/// Writes the number of marks, and a line for each mark.
 pub(crate) fn send_marks<W: Write>(
     marks: &[NumberedMark],
     w: &mut Buffered<W>,
@@ -130,7 +130,7 @@ pub(crate) fn send_marks<W: Write>(
     send_all(&[heading, Listing::Marks(marks)], w)
 }
 
-/// Writes the number of checkpoints, and a line for each.
+/// Writes the number of checkpoints, and a line for each checkpoint.
 pub(crate) fn send_checkpoints<W: Write>(
     checkpoints: &[Checkpoint],
     w: &mut Buffered<W>,

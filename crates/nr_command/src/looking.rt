@@ -15,8 +15,8 @@ use nr_rev::{Memory, Side, Worlds};
 use nr_snaps::Film;
 
 impl Query {
-    /// Returns whether the query is about the world, as those for a value and for dumps are. The others are about the
-    /// debugger.
+    /// Returns whether the query is about the world, as `print` and `dump` are. The other queries
+    /// are about the debugger.
     pub fn is_at_world(self) -> bool
         ensures { result ≡ is_at_world self }
     {
@@ -27,13 +27,14 @@ impl Query {
     }
 }
 
-// A reply has room for 64 marks, and a function clears all its locals on entry. So each kind of query has a function of
-// its own.
+// A reply has room for 64 marks, and a function clears all its locals on entry. So each kind of
+// query has its own function.
 impl Debugger {
     /// Returns the reply to a query about the world at the debugger's position, or about the debugger itself. It
     /// changes nothing.
     ///
-    /// Only a dump takes memory, for the bytes or goroutines that it prints. A dump that prints none takes no memory.
+    /// Only a dump takes memory, for the bytes or goroutines that it prints; a dump without any
+    /// takes no memory.
     pub fn look<W: Worlds + Drop>(
         &self,
         film: &Film<W>,
@@ -52,7 +53,8 @@ impl Debugger {
         Ok(self.look_within(film, query))
     }
 
-    /// Returns the reply to a query about the world. It fails as `look` does.
+    /// Returns the reply to a query about the world. Fails with `Memory` if memory runs out for a
+    /// dump.
     pub fn look_at_world<W: Worlds + Drop>(
         &self,
         film: &Film<W>,

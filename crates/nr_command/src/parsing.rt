@@ -15,21 +15,22 @@ use std::num::NonZeroU32;
 /// The length of the longest valid line, in bytes.
 pub const MAX_LINE: usize = 256;
 
-/// One word more than the longest request has.
+/// One more than the number of words in the longest request.
 const MAX_WORDS: usize = 4;
 
 impl Command {
     /// Returns the request that a line makes. The line is given without its line feed. Takes no memory.
     ///
-    /// The words are those of GDB's manual, chapters "Running Programs Backward" and "Setting a Bookmark to Return to
-    /// Later". The commands are `stepi` and `reverse-stepi` with a count, `continue`, `reverse-continue`, `set
-    /// exec-direction`, `break` and `tbreak` with a kind of step or `@` and a step's number, `watch` with a cell,
-    /// `delete` and `delete checkpoint`, `checkpoint`, and `restart`. The queries are `print`, `dump` and `info`.
-    /// Further requests are `resume` and `quit`.
+    /// The words are those of GDB's manual, chapters "Running Programs Backward" and "Setting a
+    /// Bookmark to Return to Later". The commands are `stepi` and `reverse-stepi` with a count,
+    /// `continue`, `reverse-continue`, `set exec-direction`, `break` and `tbreak` with a kind of
+    /// step or `@` and a step's number, `watch` with a cell, `delete` and `delete checkpoint`,
+    /// `checkpoint`, and `restart`. The queries are `print`, `dump` and `info`. The other requests
+    /// are `resume` and `quit`.
     ///
-    /// Words are separated by spaces. One carriage return at the end of the line is ignored. A line of more than 256
-    /// bytes is too long, whatever it contains. If the first word is none of these, the fault is an unknown command;
-    /// any other mistake is a bad argument.
+    /// Words are separated by spaces. One carriage return at the end of the line is ignored. A line
+    /// of more than 256 bytes is too long, whatever it contains. The fault is an unknown command if
+    /// the first word isn't one of these words, and otherwise a bad argument.
     pub fn parse(line: &[u8]) -> Result<Line, LineFault>
         ensures { result ≡ meaning_of line.now }
     {
@@ -44,7 +45,7 @@ impl Command {
     }
 }
 
-/// Returns the request of a first word and the words after it.
+/// Returns the request that a first word and the words after it make.
 fn request(verb: &[u8], rest: &[&[u8]]) -> Result<Line, LineFault>
     ensures { result ≡ meaning_of_words (verb.now ∷ map (λ word. word.now) rest.now) }
 {
@@ -87,7 +88,7 @@ fn trim_return(line: &[u8]) -> &[u8]
     }
 }
 
-/// Returns the first words of a line, as many as determine its request.
+/// Returns the first words of a line, which are enough to determine its request.
 fn first_words(line: &[u8]) -> ArrayVec<&[u8], MAX_WORDS>
     ensures { map (λ word. word.now) result.items ≡ take MAX_WORDS (words line.now) }
 {
@@ -117,7 +118,7 @@ fn alone(line: Line, rest: &[&[u8]]) -> Result<Line, LineFault>
     }
 }
 
-/// Reads a count from 1 on, which is 1 if no word follows.
+/// Reads a count of at least 1. Without a word, the count is 1.
 fn count(words: &[&[u8]]) -> Result<NonZeroU32, LineFault>
     ensures { result ≡ count_of (map (λ word. word.now) words.now) }
 {
@@ -138,7 +139,7 @@ fn only_number(words: &[&[u8]]) -> Result<u32, LineFault>
     }
 }
 
-/// Reads the direction that `set` gives.
+/// Reads the direction in the words after `set`.
 fn setting(words: &[&[u8]]) -> Result<Direction, LineFault>
     ensures { result ≡ setting_of (map (λ word. word.now) words.now) }
 {
@@ -204,7 +205,7 @@ fn cell(words: &[&[u8]]) -> Result<Cell, LineFault>
     }
 }
 
-/// Reads which mark or checkpoint to delete.
+/// Reads the command that deletes a mark or a checkpoint.
 fn deletion(words: &[&[u8]]) -> Result<Command, LineFault>
     ensures { result ≡ deletion_of (map (λ word. word.now) words.now) }
 {
@@ -215,7 +216,7 @@ fn deletion(words: &[&[u8]]) -> Result<Command, LineFault>
     }
 }
 
-/// Reads which buffer or queue to dump: a word and a socket's number.
+/// Reads which buffer or queue to dump, from a word and a socket's number.
 fn dump(words: &[&[u8]]) -> Result<Query, LineFault>
     ensures { result ≡ dump_of (map (λ word. word.now) words.now) }
 {
@@ -273,8 +274,8 @@ fn at_least_one(number: u32) -> Result<NonZeroU32, LineFault>
     from_one(number).ok_or(LineFault::BadArgument)
 }
 
-/// Reads a number below 2^32 in decimal digits, with or without leading zeros. Fails with `BadArgument` if the word
-/// isn't one.
+/// Reads a number below 2^32 in decimal digits, with or without leading zeros. Fails with
+/// `BadArgument` if the word isn't such a number.
 pub fn number(word: &[u8]) -> Result<u32, LineFault>
     ensures { result ≡ number_of word.now }
 {

@@ -59,7 +59,7 @@ pub enum Reply {
         socket: u32,
         queue: Option<Queue>,
     },
-    /// The debugger's position, the last position, and the direction.
+    /// The position of the debugger, the last position of the recording, and the direction.
     Position {
         position: usize,
         last: usize,
@@ -77,7 +77,7 @@ pub enum Reply {
     Fault(Fault),
 }
 
-/// The reason why a line did nothing.
+/// Why a line did nothing.
 #[derive(Clone, Copy, Debug, PartialEq, Eq)]
 pub enum Fault {
     /// The line isn't a request.
@@ -95,8 +95,8 @@ pub enum Fault {
 impl Reply {
     ghost use Rattle.nr_text.specs.Auxiliary.Streams.{Prints};
 
-    /// Writes the reply's text. If a write fails or takes nothing, writes no more, and `Part(k)` says that exactly the
-    /// first k bytes are out. It takes no memory.
+    /// Writes the reply's text. If a write fails or accepts no bytes, it stops, and `Part(k)` says
+    /// that exactly the first k bytes were written. It takes no memory.
     pub fn print<W: Write>(&self, out: &mut Sink<W>) -> Result<(), Part>
         ensures { Prints out.old out.new (text_of self.now) result }
     {
@@ -104,7 +104,8 @@ impl Reply {
     }
 }
 
-/// The text: one line, or for a list, a line for the number of items and one for each.
+/// The text of a reply is one line; for a list, it is a line with the number of items and then a
+/// line for each item.
 impl Text for Reply {
     ghost text = { text_of };
 

@@ -1,4 +1,4 @@
-//! Sends cells and their values.
+//! Writes cells and their values.
 
 ghost use Rattle.std.specs.Prelude.{◌++◌, decimal};
 ghost use Rattle.nr_rev.specs.declared.status.Status.TheVariants.{Owing};

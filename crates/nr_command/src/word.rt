@@ -1,4 +1,5 @@
-//! Commands as words: each command with a tag is one number of 64 bits, and is read from it.
+//! Commands as words: a command and its tag are encoded as one number of 64 bits and decoded from
+//! it.
 
 ghost use Rattle.std.specs.Prelude.{◌≡◌, ◌<◌, ◌/◌, ◌%◌, ◌^◌, Some};
 ghost use Rattle.nr_rev.specs.Kind.{kind_numbered};
@@ -14,8 +15,8 @@ use nr_search::Direction;
 use std::num::NonZeroU32;
 
 impl Command {
-    /// Returns the command and the tag as one number: the command's opcode, plus 256 times the tag, plus 65,536 times
-    /// the command's argument. The opcode is one of those for words of a journal.
+    /// Returns the command and the tag as one number: the command's opcode, plus 256 times the tag,
+    /// plus 65,536 times the command's argument. The opcode is one that the journal accepts.
     pub fn to_word(&self, tag: u8) -> u64
         ensures word { result ≡ word_of tag self.now }
         ensures back { command_of result ≡ Some (tag, self.now) }
@@ -25,7 +26,8 @@ impl Command {
         u64::from(self.opcode()) + 256 * u64::from(tag) + 65536 * self.argument()
     }
 
-    /// Returns the tag and the command of a word, or `None` for a number that isn't the word of a command with any tag.
+    /// Returns the tag and the command of a word, or `None` for a number that isn't the word of any
+    /// command.
     pub fn of_word(word: u64) -> Option<(u8, Command)>
         ensures { result ≡ command_of word }
     {
@@ -75,7 +77,7 @@ impl Command {
     }
 }
 
-/// Returns a break as a number. Its lowest byte says whether the break names a kind or a step.
+/// Returns a break as a number, whose lowest byte says whether the break names a kind or a step.
 fn break_number(wanted: Break) -> u64
     ensures value { result ≡ break_number wanted }
     ensures fits { result < 2 ^ 48 }
@@ -108,7 +110,7 @@ fn with_argument(opcode: u64, argument: u64) -> Option<Command>
     }
 }
 
-/// Returns a command that has no argument.
+/// Returns a command that has no argument, if the argument is 0.
 fn only_without(argument: u64, command: Command) -> Option<Command>
     ensures { result ≡ only_without argument command }
 {
@@ -139,7 +141,7 @@ fn direction_numbered(argument: u64) -> Option<Direction>
     }
 }
 
-/// Returns the break that a number stands for.
+/// Returns the break that this number represents.
 fn break_numbered(argument: u64) -> Option<Break>
     ensures { result ≡ break_numbered argument }
 {
@@ -159,7 +161,7 @@ fn kind_numbered(number: u64) -> Option<Kind>
     }
 }
 
-/// Returns the cell that a word's argument stands for.
+/// Returns the cell that a word's argument represents.
 fn watch_at(argument: u64) -> Option<Cell>
     ensures { result ≡ watch_at argument }
 {
@@ -168,7 +170,7 @@ fn watch_at(argument: u64) -> Option<Cell>
     cell_at(number, index)
 }
 
-/// Returns the cell with this number and index. The index is 0 if there is only one such cell.
+/// Returns the cell with this number and index. The index 0 also stands for no index.
 fn cell_at(number: u8, index: u32) -> Option<Cell>
     ensures { result ≡ cell_at number index }
 {

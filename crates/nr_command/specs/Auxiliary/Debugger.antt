@@ -1,4 +1,4 @@
--- Definitions that contracts and proofs cite beside `Debugger`. No law of THEOREM.md rests on them.
+-- Helper definitions for `Debugger`. The laws in THEOREM.md don't use them.
 use Rattle.std.specs.Prelude.{ℕ, ◌≤◌, Bool, true, false, All, List}
 use Rattle.nr_rev.specs.Cell.{bytes_of, queue_of}
 use Rattle.nr_rev.specs.Run.{Recording, world_at}
@@ -17,7 +17,7 @@ pub record IsWithin (last : ℕ) (d : Debugger) : Type 0 where
   pub position : d.position ≤ last
   pub kept : All (λ c. c.item ≤ last) d.checkpoints.present
 
--- true if the command is `continue` or `reverse-continue`: no other command searches
+-- true if the command is `continue` or `reverse-continue`, which are the only commands that search
 abbrev pub continues : Command → Bool
 continues commands.Continue = true
 continues commands.ReverseContinue = true
@@ -27,7 +27,7 @@ continues command = false
 abbrev pub reply_behind : Recording → List ℕ → Command → Reply
 reply_behind r words command = (run r command (after_words r opening words)).0
 
--- true if the query copies a part of the world: a dump does, if there are bytes or goroutines to
+-- true if the query copies a part of the world, as a dump does if it has bytes or goroutines to
 -- show
 abbrev pub Copies : Recording → Debugger → Query → Type 0
 Copies r d (queries.DumpBytes side s) = HasItems (bytes_of (world_at r d.position) s side)

@@ -1,4 +1,4 @@
--- Definitions that contracts and proofs cite beside `Listing`. No law of THEOREM.md rests on them.
+-- Helper definitions for `Listing`. The laws in THEOREM.md don't use them.
 use Rattle.std.specs.Prelude.{ℕ, List, ◌++◌, flat_map, codes, decimal}
 use Rattle.nr_marks.specs.declared.mark.Mark.TheVariants as marks
 use Rattle.nr_command.specs.declared.listing.Listing.{Listing}

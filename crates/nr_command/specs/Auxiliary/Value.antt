@@ -1,4 +1,4 @@
--- Definitions that contracts and proofs cite beside `Value`. No law of THEOREM.md rests on them.
+-- Helper definitions for `Value`. The laws in THEOREM.md don't use them.
 use Rattle.std.specs.Prelude.{ℕ, List, decimal}
 use Rattle.nr_rev.specs.declared.cell.Cell.{Cell}
 use Rattle.nr_command.specs.declared.value.Piece.{Piece}

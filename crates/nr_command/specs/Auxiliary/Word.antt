@@ -1,4 +1,4 @@
--- Definitions that contracts and proofs cite beside `Word`. No law of THEOREM.md rests on them.
+-- Helper definitions for `Word`. The laws in THEOREM.md don't use them.
 use Rattle.std.specs.Prelude.{◌^◌, ◌<◌, IfSome, ⊤}
 use Rattle.nr_rev.specs.CellName.{cell_index}
 use Rattle.nr_marks.specs.declared.mark.Break.{Break}
@@ -7,12 +7,12 @@ use Rattle.nr_command.specs.declared.command.Command.{Command}
 use Rattle.nr_command.specs.declared.command.Command.TheVariants.{Step, ReverseStep, Watch, Delete, Restart, DeleteCheckpoint, TemporaryBreak}
 use Rattle.nr_command.specs.declared.command.Command.TheVariants as commands
 
--- true if the number of the step that a break names, if any, has 32 bits, as its type says
+-- true if the break names no step, or the step's number has at most 32 bits, as its type says
 abbrev pub HasTypedStep : Break → Type 0
 HasTypedStep (breaks.Kind kind) = ⊤
 HasTypedStep (breaks.Step step) = step.value < 2 ^ 32
 
--- true if the numbers in a command have 32 bits, as their types say
+-- true if the numbers in a command have at most 32 bits, as their types say
 abbrev pub HasTypedNumbers : Command → Type 0
 HasTypedNumbers (Step count) = count.value < 2 ^ 32
 HasTypedNumbers (ReverseStep count) = count.value < 2 ^ 32
