@@ -1,4 +1,4 @@
--- The effects of offering a command after a front has read all other words.
+-- The effects of `exec`, from the effect of offering the command after the front has caught up.
 use Rattle.std.proofs.Common.{◌≡◌, ℕ, refl, sym, ap, ◌∙◌, subst, inl, Ok, Err}
 use Rattle.nr_journal.specs.Rule.{journal_room}
 use Rattle.nr_command.specs.declared.command.Command.{Command}
@@ -40,7 +40,7 @@ exec_answers a b d e command reply x y is replies =
       run = refl;
     })
 
--- the command was placed, and its reply is owed
+-- the command was placed and ran out of memory, so its reply is owed
 pub exec_late : (a b d e : FrontState) (command : Command) (place : ℕ) → CatchesAll a b → Placing command b d (Ok tt) → e ≡ d → SearchIsPending d → place ≡ last_place e
     → Executes command a e (Err (Placed place))
 exec_late a b d e command place x y is wanted at =

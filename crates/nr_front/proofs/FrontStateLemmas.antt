@@ -1,4 +1,4 @@
--- The debugger of a growing history.
+-- The debugger after a history that grows by words.
 use Rattle.std.proofs.Common.{◌≡◌, ◌≢◌, ℕ, List, [], ◌∷◌, ◌++◌, refl, sym, ap, subst, ◌∙◌, ◌/◌, ◌%◌, Option, Some, None}
 use Rattle.std.specs.Prelude.{option_map}
 use Rattle.nr_rev.specs.Run.{Recording}
@@ -20,11 +20,11 @@ pub after_words-append : (r : Recording) (d : Debugger) (xs ys : List ℕ) → a
 after_words-append r d [] ys = refl
 after_words-append r d (x ∷ xs) ys = after_words-append r (after_tagged r d (command_of x)) xs ys
 
--- after one more word
+-- the debugger after one more word
 pub after_words-more : (r : Recording) (words : List ℕ) (word : ℕ) → after_words r opening (words ++ word ∷ []) ≡ after_tagged r (after_words r opening words) (command_of word)
 after_words-more r words word = after_words-append r opening words (word ∷ [])
 
--- the command of the last word is run
+-- after the command of the last word was run, the debugger is the one after all words
 pub run_last : (r : Recording) (words : List ℕ) (command : Command) (d d' : Debugger) → IsBehind r words command d → d' ≡ (run r command d).1 → d' ≡ after_words r opening words
 run_last r words command d d' b ran =
     ran ∙ ap (λ (x : Debugger). (run r command x).1) b.behind
@@ -32,7 +32,7 @@ run_last r words command d d' b ran =
     ∙ sym (after_words-more r b.before b.word)
     ∙ sym (ap (λ (ws : List ℕ). after_words r opening ws) b.last)
 
--- a word was read whose command isn't run yet
+-- a word was read, and its command isn't run yet
 pub is_at_more : (r : Recording) (words : List ℕ) (word : ℕ) (d : Debugger) → d ≡ after_words r opening words → IsAt r (words ++ word ∷ []) (pending_command (pending_after (command_of word))) d
 is_at_more r words word d at =
     elim (command_with (word % 256) (word / 65536)) as (λ c. command_with (word % 256) (word / 65536) ≡ c
@@ -42,7 +42,7 @@ is_at_more r words word d at =
       | Some command ↦ λ is. record { before = words; word = word; last = refl; meaning = ap (λ (c : Option Command). option_map (λ (command : Command). (tag_of word, command)) c) is; behind = at }
     ] refl
 
--- the last word read has the pending command
+-- the pending command is the command of the last word read
 pub due_behind : (view front_state : FrontState) (command : Command) (debugger : Debugger) → view ≡ front_state → pending_command front_state.pending ≡ Some command
     → IsAt view.recording view.pass_state.seen (pending_command view.pending) debugger → IsBehind view.recording view.pass_state.seen command debugger
 due_behind view front_state command debugger is pending at =

@@ -1,4 +1,4 @@
--- The effects of reading a word, offering one and running a command, one after the other.
+-- The effects of reading words, offering a command and running it, one after the other.
 use Rattle.std.proofs.Common.{◌≡◌, ◌≢◌, ℕ, ◌+◌, ◌<◌, ◌≤◌, List, [], ◌∷◌, ◌++◌, arith, length, refl, sym, ap, ◌∙◌, subst, append_assoc, append-nil, Option, Some, None, false, inl, inr}
 use Rattle.std.specs.List.{All}
 use Rattle.std.proofs.lemmas.List.Elements.{All-append, All-cons, All-nil}
@@ -33,7 +33,7 @@ sees_word word view old new journal is at same pass_state others company room pe
   unowed = ap own_pending pending ∙ own_pending-others (command_of word);
 }
 
--- what stays if no word was read
+-- the parts of a pass's state that stay the same if no word was read
 record SeesNothing (old new : PassState) : Type 0 where
   pub seen : new.seen ≡ old.seen
   pub tag : new.tag ≡ old.tag
@@ -97,7 +97,7 @@ learns_none a b same none before after = record {
   unowed_still = after;
 }
 
--- one after the other
+-- two rounds of reading count as one
 pub learns_then : (a b d : FrontState) → Learns a b → Learns b d → Learns a d
 learns_then a b d x y = record {
   same = same_then a b d x.same y.same;
@@ -127,7 +127,7 @@ learns_run a b d x is = subst (λ (t : FrontState). Learns a t) (sym is) (record
   unowed_still = refl;
 })
 
--- what stays if no further word was found
+-- the parts of a pass's state that stay the same if no further word was found
 found_none : (a b : FrontState) → FindsNone a b → SeesNothing a.pass_state b.pass_state
 found_none a b none = elim none as (λ _. SeesNothing a.pass_state b.pass_state) [
   | inl p ↦ looked_once a.pass_state b.pass_state p.0
@@ -155,14 +155,14 @@ caught_all a b d l same s = record {
   run = s.1;
 }
 
--- all that the pass has learned of is read
+-- after catching up, a front has read all words that its pass has learned of
 pub seen_all_caught : (a b : FrontState) → CatchesAll a b → HasSeenAll b
 seen_all_caught a b c = elim c.caught_up as (λ _. HasSeenAll b) [
   | inl p ↦ inl (subst (λ (xs : List ℕ). StartsWith b.pass_state.seen xs) (sym c.learns.sees_others.4) p.1)
   | inr p ↦ inr (p.1 ∙ sym (ap journal_room c.learns.same.table))
 ]
 
--- the same with one more word
+-- after one more word, the front has still read all words that its pass has learned of
 pub seen_all_more : (word : ℕ) (a b : FrontState) → HasSeenAll a → SeesWord word a b → HasSeenAll b
 seen_all_more word a b all s = elim all as (λ _. HasSeenAll b) [
   | inl p ↦ inl (rw s.pass_state (p.0 ++ word ∷ [], ap (λ (l : List ℕ). l ++ word ∷ []) p.1 ∙ append_assoc a.pass_state.learned p.0 (word ∷ [])))
@@ -172,7 +172,7 @@ seen_all_more word a b all s = elim all as (λ _. HasSeenAll b) [
 pub seen_all_run : (a b : FrontState) → HasSeenAll a → b ≡ without_pending a → HasSeenAll b
 seen_all_run a b all is = subst HasSeenAll (sym is) all
 
--- all that the pass has learned of is read, if there is room
+-- if the journal has room, the front has read all words that its pass has learned of
 learned_seen : (a : FrontState) → HasSeenAll a → length a.pass_state.seen < journal_room a.table → StartsWith a.pass_state.seen a.pass_state.learned
 learned_seen a all room = elim all as (λ _. StartsWith a.pass_state.seen a.pass_state.learned) [
   | inl p ↦ p
@@ -195,7 +195,7 @@ places_one a b command unowed all o = record {
   unowed = unowed;
 }
 
--- the front's own word was placed after words of others were read
+-- the front's own word was placed after the front read words of other fronts
 pub places_then : (a b d : FrontState) (command : Command) → Learns a b → PlacesCommand command b d → PlacesCommand command a d
 places_then a b d command x y =
     let before : b.pass_state.seen ++ y.between ≡ a.pass_state.seen ++ (x.sees_others.0 ++ y.between) =
@@ -217,7 +217,7 @@ places_then a b d command x y =
       unowed = x.unowed;
     }
 
--- no offer was accepted, since all words are read
+-- the offer was rejected, since the journal is full and all its words were read
 pub learns_full : (a b : FrontState) (command : Command) → owed_command a ≡ None → OffersCommand command a b offered.Full → Learns a b
 learns_full a b command unowed o = learns_none a b o.0 (same_pass_state a.pass_state b.pass_state o.1) unowed (ap own_pending o.2)
 

@@ -1,4 +1,4 @@
--- The effects of a front's calls.
+-- The effects of the calls of a front.
 use Rattle.std.specs.Prelude.{◌≡◌, ◌≢◌, ℕ, ◌≤◌, ◌⊎◌, List, [], ◌∷◌, ◌++◌, length, Option, Some, None, Result, Ok, Err}
 use Rattle.std.specs.List.{All}
 use Rattle.nr_journal.specs.Pass.{SeesOthers, CatchesUp}
@@ -16,8 +16,9 @@ use Rattle.nr_front.specs.declared.pending.Pending.TheVariants.{Nothing}
 use Rattle.nr_front.specs.declared.fault.FrontFault.{FrontFault}
 use Rattle.nr_front.specs.declared.fault.FrontFault.TheVariants.{Memory, Placed, Full}
 
--- The journal, the recording, the number of steps between two copies, the number of workers, and
--- the most deltas kept are the same.
+-- The two states have the same journal, the same recording, the same number of workers, and the
+-- same settings of the walker: the number of steps between two copies and the maximum number of
+-- deltas.
 pub record IsSame (old new : FrontState) : Type 0 where
   pub table : new.table ≡ old.table
   pub recording : new.recording ≡ old.recording
@@ -25,14 +26,14 @@ pub record IsSame (old new : FrontState) : Type 0 where
   pub every : new.walker_state.every ≡ old.walker_state.every
   pub depth : new.walker_state.depth ≡ old.walker_state.depth
 
--- the journal, the recording and the number of workers are the same, and the walker hasn't moved
+-- the two states have the same journal, recording, number of workers, and state of the walker
 pub record IsUnmoved (old new : FrontState) : Type 0 where
   pub table : new.table ≡ old.table
   pub recording : new.recording ≡ old.recording
   pub workers : new.workers ≡ old.workers
   pub walker_state : new.walker_state ≡ old.walker_state
 
--- words of others were read, if there were any, and no reply is owed, before or after
+-- the front may have read words of other fronts, and it owes no reply, before or after
 pub record Learns (old new : FrontState) : Type 0 where
   pub same : IsUnmoved old new
   pub sees_others : SeesOthers old.pass_state new.pass_state
@@ -40,29 +41,29 @@ pub record Learns (old new : FrontState) : Type 0 where
   pub unowed : owed_command old ≡ None
   pub unowed_still : owed_command new ≡ None
 
--- words of others were read until no further word was found, or all words of the journal are read;
--- and all were run
+-- the front read words of other fronts until it found no further word or had read a full journal,
+-- and it ran all of them
 pub record CatchesAll (old new : FrontState) : Type 0 where
   pub learns : Learns old new
   pub caught_up : CatchesUp (journal_room old.table) old.pass_state new.pass_state
   pub run : new.pending ≡ Nothing
 
--- words of others were read, and one of them ran out of memory when it searched; so there are
--- others
+-- the front read words of other fronts, and the command of one of them ran out of memory when it
+-- searched; so the journal has more than one pass
 pub record IsRefusedMemory (old new : FrontState) : Type 0 where
   pub learns : Learns old new
   pub wanted : SearchIsPending new
   pub company : new.pass_state.passes ≢ 1
 
--- all words of the journal are read and run, so there is no room for another
+-- the front has read and run all words of a full journal, so there is no room for another word
 pub record FindsFull (old new : FrontState) : Type 0 where
   pub learns : Learns old new
   pub full : length new.pass_state.seen ≡ journal_room old.table
   pub run : new.pending ≡ Nothing
 
--- The command's word, with the front's tag, was placed once, after the words that were read, which
--- include all that the pass had learned of. The words that this call read before its own are those
--- of others, and there are none if the journal has one pass.
+-- The front placed the command's word once, with its own tag, after the words that it has read.
+-- These include all words that its pass had learned of. The words that this call read before its
+-- own word are words of other fronts; if the journal has one pass, it read no such words.
 pub record PlacesCommand (command : Command) (old new : FrontState) : Type 0 where
   pub between : List ℕ
   pub same : IsUnmoved old new
@@ -77,20 +78,20 @@ pub record PlacesCommand (command : Command) (old new : FrontState) : Type 0 whe
   pub looks : old.pass_state.looks ≤ new.pass_state.looks
   pub unowed : owed_command old ≡ None
 
--- the command is placed and run, and this is its reply
+-- the command was placed and run, and this is its reply
 pub record Answers (command : Command) (old new : FrontState) (reply : Reply) : Type 0 where
   pub places : PlacesCommand command old new
   pub replies : RepliesLast new command reply
   pub run : new.pending ≡ Nothing
 
--- the command is placed at this index, and its search ran out of memory: its reply is owed
+-- the command was placed at this index, and its search ran out of memory, so its reply is owed
 pub record IsLeftOwed (command : Command) (old new : FrontState) (place : ℕ) : Type 0 where
   pub places : PlacesCommand command old new
   pub now_owed : owed_command new ≡ Some command
   pub wanted : SearchIsPending new
   pub at : place ≡ last_place new
 
--- a reply was owed already, at this index, and nothing was done
+-- a reply was already owed, for the command at this index, and the call did nothing
 pub record StaysOwed (old new : FrontState) (place : ℕ) : Type 0 where
   pub command : Command
   pub still_owed : owed_command old ≡ Some command
@@ -109,24 +110,24 @@ Executes command old new (Err Full) = FindsFull old new
 abbrev pub with_walker_state : WalkerState → FrontState → FrontState
 with_walker_state walker_state front_state = record front_state { walker_state = walker_state }
 
--- All words are read and run. Then the walker goes to the debugger's position, if the query is
--- about the world. The reply is that of the debugger after the words.
+-- The front read and ran all words. Then the walker went to the debugger's position if the query is
+-- about the world. The reply is the reply of the debugger after these words.
 pub record RepliesToLook (query : Query) (old new : FrontState) (reply : Reply) : Type 0 where
   pub caught_up : FrontState
   pub catches_all : CatchesAll old caught_up
   pub led : new ≡ with_walker_state (after_look query (replica_of caught_up)) caught_up
   pub answer : reply ≡ query_reply caught_up.recording (replica_of caught_up).debugger query
 
--- all words are read and run; the query itself ran out of memory, and left the walker on the way or
--- at the position
+-- the front read and ran all words; then the query itself ran out of memory, and left the walker on
+-- the way to the debugger's position or at it
 pub record IsRefusedLook (query : Query) (old new : FrontState) : Type 0 where
   pub caught_up : FrontState
   pub catches_all : CatchesAll old caught_up
   pub moved : new ≡ with_walker_state new.walker_state caught_up
   pub wanted : LookIsRefused query (replica_of caught_up) new.walker_state
 
--- True if `look` may have this effect. It runs out of memory for another user's command that
--- searches, or for itself once all words are read and run.
+-- True if `look` may have this effect. If it runs out of memory, either another user's command did
+-- while searching, or the query did after all words were read and run.
 abbrev pub Looks : Query → FrontState → FrontState → Result Reply FrontFault → Type 0
 Looks query old new (Ok reply) = RepliesToLook query old new reply
 Looks query old new (Err (Memory refused)) = IsRefusedMemory old new ⊎ IsRefusedLook query old new
@@ -137,7 +138,7 @@ Looks query old new (Err Full) = ⊥
 abbrev pub without_pending : FrontState → FrontState
 without_pending front_state = record front_state { pending = Nothing }
 
--- the owed reply is returned, and no longer owed
+-- the owed reply was returned, and is no longer owed
 pub record AnswersOwed (old new : FrontState) (reply : Reply) : Type 0 where
   pub command : Command
   pub was_owed : owed_command old ≡ Some command

@@ -12,8 +12,8 @@ use Rattle.nr_command.specs.declared.debugger.Debugger.{Debugger}
 use Rattle.nr_front.specs.Replica.{WalkerState}
 use Rattle.nr_front.specs.declared.pending.Pending.{Pending}
 
--- The abstract value of a front: its journal, its recording, the number of workers, its walker,
--- what its pass knows, and the command of the last word read, if it isn't run yet.
+-- The abstract value of a front: its journal, its recording, the number of workers, the states of
+-- its walker and its pass, and the command of the last word read if that command isn't run yet.
 pub record FrontState : Type 0 where
   pub table : TableId
   pub recording : Recording
@@ -22,7 +22,7 @@ pub record FrontState : Type 0 where
   pub pass_state : PassState
   pub pending : Pending
 
--- the last of the words has this command, and the debugger is that of the words before it
+-- the last of the words has this command, and the debugger has run only the words before it
 pub record IsBehind (r : Recording) (words : List ℕ) (command : Command) (debugger : Debugger) :
     Type 0 where
   pub before : List ℕ
@@ -31,7 +31,7 @@ pub record IsBehind (r : Recording) (words : List ℕ) (command : Command) (debu
   pub meaning : command_of word ≡ Some (tag_of word, command)
   pub behind : debugger ≡ after_words r opening before
 
--- true if the debugger is that of the words, without the last if its command is pending
+-- true if the debugger has run the words, except the last word if its command is pending
 abbrev pub IsAt : Recording → List ℕ → Option Command → Debugger → Type 0
 IsAt r words None debugger = debugger ≡ after_words r opening words
 IsAt r words (Some command) debugger = IsBehind r words command debugger

@@ -1,9 +1,9 @@
--- what the laws of THEOREM.md rest on, whole files
+-- definitions that the laws in THEOREM.md use
 pub mod FrontState
 pub mod Replica
--- what callers need besides
+-- more for callers
 pub mod Front
--- inner: what only definitions and proofs of this crate use
+-- inner: used only within this crate
 pub mod Steps
--- what goes on with the files that the laws rest on
+-- helpers for those definitions
 pub mod Auxiliary

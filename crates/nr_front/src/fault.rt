@@ -1,4 +1,4 @@
-//! The reasons why a call has no reply.
+//! Why a call has no reply.
 
 ghost use Rattle.std.specs.Prelude.{◌≡◌};
 ghost use Rattle.nr_rev.specs.Refusing.{refused_memory};
@@ -6,11 +6,11 @@ ghost use Rattle.nr_front.specs.declared.fault.FrontFault.TheVariants as faults;
 
 use nr_rev::Memory;
 
-/// The reason why a call has no reply.
+/// Why a call has no reply.
 #[derive(Clone, Copy, Debug, PartialEq, Eq)]
 pub enum FrontFault {
-    /// Memory ran out for a command of another user that comes first, or for the query. The call's command isn't
-    /// placed.
+    /// Memory ran out for another user's command that is earlier in the journal, or for the query.
+    /// The call's command isn't placed.
     Memory(Memory),
     /// The command at this index of the journal, counted from 1, ran out of memory. Its reply is owed.
     Placed(usize),

@@ -17,9 +17,9 @@ use nr_snaps::Film;
 use std::alloc::Global;
 use std::marker::Model;
 
-/// One user's replica: a pass of the journal, and a machine that runs the words that the pass reads. Contracts see the
-/// journal, the recording, the number of workers, the machine's walker, what the pass knows, and what the machine
-/// hasn't run yet.
+/// One user's replica: a pass of the journal, and a machine that runs the words that the pass
+/// reads. Contracts describe it by its journal, its recording, the number of workers, the states of
+/// its walker and its pass, and the command that the machine hasn't run yet.
 #[derive(Drop)]
 pub struct Front<'f, W: Worlds + Drop + Sync, F: Finder>
 where
@@ -59,13 +59,14 @@ where
     W::Delta: Drop,
     W::Snapshot: Drop + Sync,
 {
-    /// Runs the commands of other users so far, places the command, and runs it at its index. Returns the reply of a
-    /// debugger that runs the words of the journal up to there.
+    /// Runs the commands that other users have placed so far, places this command, and runs it at
+    /// its index. Returns the reply of a debugger that has run the words of the journal up to that
+    /// index.
     ///
-    /// Fails with `Memory` if another user's command, which searches, runs out of memory; the own command isn't placed
-    /// then. Fails with `Placed` if the own command runs out of memory; it is in the journal then, and `resume` returns
-    /// the reply. While a reply is owed, it only fails with `Placed` again. Fails with `Full` if the journal is full,
-    /// after running all words.
+    /// Fails with `Memory` if another user's command runs out of memory while searching; this
+    /// command isn't placed. Fails with `Placed` if this command runs out of memory; it is in the
+    /// journal, and `resume` returns its reply. While a reply is owed, does nothing and fails with
+    /// `Placed`. Fails with `Full`, after running all words, if the journal is full.
     pub fn exec(&mut self, journal: &Journal, command: Command) -> Result<Reply, FrontFault>
         requires { self.old.table ≡ journal.now }
         ensures same { IsUnmoved self.old self.new }
@@ -75,7 +76,7 @@ where
             return Err(FrontFault::Placed(self.place()));
         }
         self.catch_up(journal)?;
-        // (With `?`, the prover would not know that the fault is the same.)
+        // (With `?`, the prover wouldn't know that the fault is unchanged.)
         if let Err(fault) = self.offer_until_placed(journal, command) {
             return Err(fault);
         }
@@ -85,13 +86,14 @@ where
         }
     }
 
-    /// Runs the commands of other users until the journal has no further word, and then answers the query. It places no
-    /// word.
+    /// Runs the commands of other users until the journal has no further word, and then answers the
+    /// query. Places no word.
     ///
-    /// A query about the world, for a value or a dump, leads the walker to the debugger's position. Fails with `Memory`
-    /// if another user's command, which searches, runs out of memory; if the walker does on its way, as described at
-    /// `Walker::goto`; or if a dump that isn't empty does. So a query about the debugger itself never runs out of
-    /// memory of its own. While a reply is owed, it does nothing and fails with `Placed`.
+    /// A query about the world, which is `print` or `dump`, moves the walker to the debugger's
+    /// position. Fails with `Memory` if another user's command runs out of memory while searching,
+    /// if the walker runs out of memory on its way (see `Walker::goto`), or if a dump that isn't
+    /// empty runs out of memory. So a query about the debugger itself runs out of memory only for
+    /// another user's command. While a reply is owed, does nothing and fails with `Placed`.
     pub fn look(&mut self, journal: &Journal, query: Query) -> Result<Reply, FrontFault>
         requires { self.old.table ≡ journal.now }
         ensures same { IsSame self.old self.new }
@@ -104,8 +106,9 @@ where
         Ok(self.look_here(query)?)
     }
 
-    /// Returns the owed reply, once; `None` if no reply is owed. If the command runs out of memory again, fails with
-    /// `Placed` and the same index, and the reply is still owed.
+    /// Returns the owed reply and stops owing it, or returns `None` if no reply is owed. If the
+    /// command runs out of memory again, fails with `Placed` and the same index, and the reply is
+    /// still owed.
     pub fn resume(&mut self) -> Result<Option<Reply>, FrontFault>
         ensures same { IsUnmoved self.old self.new }
         ensures resumes { Resumes self.old self.new result }
@@ -126,8 +129,9 @@ where
     W::Delta: Drop,
     W::Snapshot: Drop + Sync,
 {
-    /// Makes a front over a film, at its first position, with a walker that keeps the deltas of its last `depth` steps.
-    /// The pass has read no word. If memory runs out, returns the pass.
+    /// Makes a front over a film, at its first position, with a walker that keeps the deltas of its
+    /// last `depth` steps. The pass has read no word. If memory runs out, returns the pass with the
+    /// error.
     pub fn new(
         alloc: Global,
         pass: Pass,
@@ -153,7 +157,8 @@ where
         }
     }
 
-    /// Returns the pass. A reply that is still owed is dropped; its word stays in the journal.
+    /// Returns the pass. A reply that is still owed is dropped; the command's word stays in the
+    /// journal.
     pub fn end(self) -> Pass
         ensures { result ≡ pass_of self.entry }
     {

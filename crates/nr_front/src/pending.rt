@@ -7,7 +7,8 @@ ghost use Rattle.nr_front.specs.Steps.{pending_after};
 
 use nr_command::Command;
 
-/// The command that a front's machine hasn't run yet, which is that of the last word read; or none.
+/// The command that a front's machine hasn't run yet, if there is one; it is the command of the
+/// last word read.
 #[derive(Clone, Copy, Debug, PartialEq, Eq)]
 pub enum Pending {
     Nothing,

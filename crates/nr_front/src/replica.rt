@@ -13,8 +13,8 @@ use nr_walker::Walker;
 use std::alloc::Global;
 use std::marker::Model;
 
-/// A debugger over a film, with a walker of its own. Contracts see the film's recording, the number of workers, the
-/// debugger and the walker.
+/// A debugger over a film, with a walker of its own. Contracts describe it by the film's recording,
+/// the number of workers, the debugger and the state of the walker.
 #[derive(Drop)]
 pub struct Replica<'f, W: Worlds + Drop + Sync, F: Finder>
 where
@@ -83,8 +83,8 @@ where
     W::Delta: Drop,
     W::Snapshot: Drop + Sync,
 {
-    /// Runs a command, and leaves the walker where it is. Only a command that searches can run out of memory, and then
-    /// nothing has changed.
+    /// Runs a command. The walker doesn't move. Only a command that searches can run out of memory,
+    /// and such a failure changes nothing.
     pub(crate) fn exec(&mut self, command: Command) -> Result<Reply, Memory>
         ensures recording { self.new.recording ≡ self.old.recording }
         ensures workers { self.new.workers ≡ self.old.workers }
@@ -98,8 +98,9 @@ where
             .exec(self.walker.film(), &self.finder, command)
     }
 
-    /// Answers a query at the debugger's position. A query about the world leads the walker there first; it runs out of
-    /// memory on the way, or for a dump that isn't empty. Nothing else changes, even if it fails.
+    /// Answers a query at the debugger's position. For a query about the world, it first moves the
+    /// walker there. Fails with `Memory` if memory runs out on the way, or for a dump that isn't
+    /// empty. Nothing but the walker changes, even if it fails.
     pub(crate) fn look(&mut self, query: Query) -> Result<Reply, Memory>
         ensures recording { self.new.recording ≡ self.old.recording }
         ensures workers { self.new.workers ≡ self.old.workers }

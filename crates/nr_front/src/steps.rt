@@ -1,4 +1,4 @@
-//! The steps of a front's calls.
+//! The parts of a front's calls.
 
 ghost use Rattle.std.specs.Prelude.{◌≡◌, Some, None, IfOk, OnOk, OnErr};
 ghost use Rattle.nr_command.specs.Debugger.{query_reply};
@@ -35,7 +35,7 @@ where
         self.pass.seen()
     }
 
-    /// Runs the pending command. If memory runs out, nothing has changed.
+    /// Runs the pending command. If memory runs out, nothing changes.
     pub(crate) fn run(&mut self, command: Command) -> Result<Reply, Memory>
         requires { pending_command self.old.pending ≡ Some command }
         ensures without_pending { OnOk result (self.new ≡ without_pending self.old) }
@@ -49,7 +49,7 @@ where
         Ok(reply)
     }
 
-    /// Runs the pending command, if there is one. If memory runs out, nothing has changed.
+    /// Runs the pending command, if there is one. If memory runs out, nothing changes.
     fn run_pending(&mut self) -> Result<(), Memory>
         ensures without_pending { OnOk result (self.new ≡ without_pending self.old) }
         ensures unchanged { OnErr result (self.new ≡ self.old) }
@@ -62,7 +62,7 @@ where
         }
     }
 
-    /// Runs the pending command, and drops its reply. If memory runs out, nothing has changed.
+    /// Runs the pending command, and drops its reply. If memory runs out, nothing changes.
     fn run_unanswered(&mut self, command: Command) -> Result<(), Memory>
         requires { pending_command self.old.pending ≡ Some command }
         ensures without_pending { OnOk result (self.new ≡ without_pending self.old) }
@@ -74,8 +74,8 @@ where
         Ok(())
     }
 
-    /// Answers a query with the debugger of the words read so far. Only the walker moves, and only for a query about
-    /// the world.
+    /// Answers a query with the debugger, which has run the words read so far. Only the walker
+    /// moves, and only for a query about the world.
     pub(crate) fn look_here(&mut self, query: Query) -> Result<Reply, Memory>
         requires { self.old.pending ≡ Nothing }
         ensures moved { self.new ≡ with_walker_state self.new.walker_state self.old }
@@ -87,7 +87,8 @@ where
         self.replica.look(query)
     }
 
-    /// Reads one more word, if there is one, whose command is pending then. Returns whether there was one.
+    /// Reads one more word, if there is one, and makes its command pending. Returns whether there
+    /// was a word.
     fn see(&mut self, journal: &Journal) -> bool
         requires table { self.old.table ≡ journal.now }
         requires without_pending { self.old.pending ≡ Nothing }
@@ -102,7 +103,8 @@ where
         }
     }
 
-    /// Reads words and runs their commands, until no further word is found or all words of the journal are read.
+    /// Reads words and runs their commands until it finds no further word or has read a full
+    /// journal.
     pub(crate) fn catch_up(&mut self, journal: &Journal) -> Result<(), Memory>
         requires table { self.old.table ≡ journal.now }
         requires unowed { owed_command self.old ≡ None }
@@ -117,8 +119,8 @@ where
         }
     }
 
-    /// Offers the command's word once. Afterwards that command is pending, or the command of the word that took the
-    /// place.
+    /// Offers the command's word once. Afterwards, this command is pending, or the command of the
+    /// word that took its place.
     fn offer(&mut self, journal: &Journal, command: Command) -> Offered
         requires table { self.old.table ≡ journal.now }
         requires without_pending { self.old.pending ≡ Nothing }
@@ -134,7 +136,8 @@ where
         offered
     }
 
-    /// Offers the command's word until it is placed, and runs the commands of the words that took its place before.
+    /// Offers the command's word until it is placed, and runs the commands of the words that took
+    /// its place in the meantime.
     pub(crate) fn offer_until_placed(
         &mut self,
         journal: &Journal,

@@ -1,5 +1,4 @@
--- Definitions that contracts and proofs cite beside `FrontState`. No law of THEOREM.md rests on
--- them.
+-- Helper definitions for `FrontState`. The laws in THEOREM.md don't use them.
 use Rattle.std.specs.Prelude.{◌≡◌, ◌≢◌, ℕ, length, Option, Some, None}
 use Rattle.nr_rev.specs.Run.{Recording}
 use Rattle.nr_journal.specs.Pass.{Entered}
@@ -29,7 +28,7 @@ opened_front pass recording workers walker_state =
       pending = Nothing;
     }
 
--- the front's machine if no command is pending: its debugger is that of the words that the pass has
+-- the front's machine if no command is pending; its debugger has run the words that the pass has
 -- read
 abbrev pub replica_of : FrontState → ReplicaState
 replica_of front_state =
@@ -52,29 +51,29 @@ own_pending Nothing = None
 own_pending (Others command) = None
 own_pending (Own command) = Some command
 
--- true if a command of another user is pending only if the journal has more than one pass
+-- true unless a command of another user is pending and the journal has only one pass
 abbrev pub HasCompany : Pending → ℕ → Type 0
 HasCompany Nothing passes = Unit {0}
 HasCompany (Others command) passes = passes ≢ 1
 HasCompany (Own command) passes = Unit {0}
 
--- the command whose reply is owed: the front's own, placed and not yet run
+-- the command whose reply is owed: the front's own command, which is placed and not yet run
 abbrev pub owed_command : FrontState → Option Command
 owed_command front_state = own_pending front_state.pending
 
--- the index of the last word read, from 1
+-- the index of the last word read, counted from 1
 abbrev pub last_place : FrontState → ℕ
 last_place front_state = length front_state.pass_state.seen
 
--- true if the last word read has this command, and this is its reply: that of the debugger after
--- the words before it
+-- true if the last word read has this command, and the debugger after the words before it gives the
+-- command this reply
 pub record RepliesLast (front_state : FrontState) (command : Command) (reply : Reply) : Type 0 where
   pub debugger : Debugger
   pub behind : IsBehind front_state.recording front_state.pass_state.seen command debugger
   pub answer : reply ≡ (run front_state.recording command debugger).0
 
--- true if the pending command searches, starting after the words before its own, so that it may run
--- out of memory
+-- true if the pending command, run after the words before its own word, searches, so it may run out
+-- of memory
 pub record SearchIsPending (front_state : FrontState) : Type 0 where
   pub command : Command
   pub debugger : Debugger

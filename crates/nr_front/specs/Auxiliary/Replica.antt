@@ -1,4 +1,4 @@
--- Definitions that contracts and proofs cite beside `Replica`. No law of THEOREM.md rests on them.
+-- Helper definitions for `Replica`. The laws in THEOREM.md don't use them.
 use Rattle.std.specs.Prelude.{◌≡◌, ◌⊎◌, ℕ, true, if◌then◌else◌}
 use Rattle.nr_rev.specs.Run.{Recording}
 use Rattle.nr_walker.specs.Walk.{IsRefusedBy, Walk, route, walk_by}
@@ -21,7 +21,7 @@ abbrev pub walker_state_of : {State : Type 0} → Walk State → WalkerState
 walker_state_of w =
     record { position = w.position; kept = w.kept; depth = w.depth; every = w.film.every }
 
--- a walker over the recording with this state; the states of its film don't matter
+-- a walker with this state over the recording; the states in its film don't matter
 abbrev pub walk_of : Recording → WalkerState → Walk (Unit {0})
 walk_of r f =
     record {
@@ -35,24 +35,26 @@ walk_of r f =
 abbrev pub at_start : ℕ → ℕ → WalkerState
 at_start every depth = record { position = 0; kept = 0; depth = depth; every = every }
 
--- the state of a walker that has gone to position n, in the way that walkers do
+-- the state of a walker after it went to position n
 abbrev pub led_to : ℕ → Recording → WalkerState → WalkerState
 led_to n r f = walker_state_of (walk_by (route (walk_of r f) n) (walk_of r f) n)
 
--- the walker's state after a query: one about the world leads it to the debugger's position
+-- the walker's state after a query; a query about the world moves the walker to the debugger's
+-- position
 abbrev pub after_look : Query → ReplicaState → WalkerState
 after_look query m =
     if is_at_world query then led_to m.debugger.position m.recording m.walker_state
     else m.walker_state
 
--- True if the walker ran out of memory on the way to position n: at a copy, or forward at a step at
--- which bytes leave a buffer. Going back over deltas takes no memory.
+-- True if the walker ran out of memory on the way to position n, while it restored a copy or before
+-- a step at which bytes leave a buffer. Going back over deltas takes no memory.
 abbrev pub IsRefusedOnTheWay : ℕ → Recording → WalkerState → WalkerState → Type 0
 IsRefusedOnTheWay n r old new =
     IsRefusedBy (route (walk_of r old) n) (walk_of r old) n (walk_of r new)
 
--- True if a query may run out of memory: it is about the world, and the walker ran out of memory on
--- the way to the debugger's position, or is there and the query copies what it prints.
+-- True if a query may have run out of memory: it is about the world, and the walker either ran out
+-- of memory on the way to the debugger's position, or reached it and the query copies what it
+-- prints.
 pub record LookIsRefused (query : Query) (m : ReplicaState) (new : WalkerState) : Type 0 where
   pub at_world : is_at_world query ≡ true
   pub why :

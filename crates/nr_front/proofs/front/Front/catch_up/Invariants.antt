@@ -1,4 +1,4 @@
--- Words of others were read and run so far, and each time there was a further word.
+-- So far, each attempt to read found a word of another front, and its command was run.
 use Rattle.std.proofs.Common.{◌≡◌, ◌-◌, length}
 use Rattle.nr_journal.specs.Rule.{journal_room}
 use Rattle.nr_front.specs.Front.{Learns}

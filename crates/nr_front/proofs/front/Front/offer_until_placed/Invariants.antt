@@ -1,4 +1,4 @@
--- Each offer so far was lost to another user's word, which is read and run.
+-- Each offer so far lost its place to another user's word, which was read and run.
 use Rattle.std.proofs.Common.{◌≡◌, ◌-◌, length}
 use Rattle.nr_journal.specs.Rule.{journal_room}
 use Rattle.nr_front.specs.Front.{Learns}
