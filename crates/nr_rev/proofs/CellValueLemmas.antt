@@ -1,4 +1,4 @@
--- Values of cells that compare as equal are the same.
+-- Cell values that compare as equal are the same.
 use Rattle.std.proofs.Common.{◌≡◌, true, rules}
 use Rattle.nr_rev.specs.declared.cell_value.CellValue.{CellValue}
 use Rattle.nr_rev.specs.Cell.{same_value}

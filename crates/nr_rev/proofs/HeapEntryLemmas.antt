@@ -1,4 +1,4 @@
--- Heap entries: the least one is among them, and the entry of a side has its timer.
+-- Lemmas about heap entries: the least entry of a list is in it, and a side's entry has its timer.
 use Rattle.std.proofs.Common.{◌≡◌, ℕ, Bool, true, false, Some, None, ap, refl, sym, ◌∙◌, List, [], ◌∷◌, ◌++◌, Option, ◌⊎◌, inl, inr}
 use Rattle.std.proofs.lemmas.Option.{same_Some}
 use Rattle.std.specs.Prelude.{if◌then◌else◌}
@@ -7,7 +7,7 @@ use Rattle.nr_rev.specs.declared.timer.Timer.{Timer}
 use Rattle.nr_rev.specs.declared.timer.Entry.{Entry}
 use Rattle.nr_rev.specs.Timer.{earlier_of, entry_of, is_before, least_of}
 
--- true if an entry is among others
+-- true if a list contains an entry
 abbrev pub In : Entry → List Entry → Type 0
 In e [] = ⊥
 In e (x ∷ xs) = (x ≡ e) ⊎ In e xs
@@ -17,7 +17,7 @@ in_append e [] ys p = inr p
 in_append e (x ∷ xs) ys (inl p) = inl (inl p)
 in_append e (x ∷ xs) ys (inr p) = elim (in_append e xs ys p) [ inl q ↦ inl (inr q) | inr q ↦ inr q ]
 
--- the least entry is one of them
+-- the least entry of a list is in the list
 pub least_in : (es : List Entry) (e : Entry) → least_of es ≡ Some e → In e es
 least_in [] e is = cc
 least_in (x ∷ es) e is = go (least_of es) refl (same_Some _ _ is) (λ at. least_in es e at)

@@ -1,10 +1,11 @@
--- LeadsBack and Applied of a transaction: one operation more at the end, and undoing from there.
+-- Lemmas about `LeadsBack` and `Applied`: adding an operation at the end, and undoing it.
 use Rattle.std.proofs.Common.{◌≡◌, ℕ, suc, ◌+◌, ◌<◌, length, get_or, take, drop, List, [], ◌∷◌, ◌++◌, refl, sym, ap, ◌∙◌, subst, inr, take-append-drop, drop-cons}
 use Rattle.std.proofs.lemmas.List.{take_more}
 use Rattle.nr_rev.specs.Transaction.{Applied, LeadsBack, FirstRefused}
 
 module _ {State Delta : Type 0} (back : Delta → State → State → Type 0) where
-  -- one more delta leads back over one more step
+  -- if deltas undo some steps and one more delta undoes the next step, together they undo all of
+  -- them
   pub LeadsBack-push : (deltas : List Delta) (delta : Delta) (new mid old : State) → LeadsBack back deltas mid old → back delta new mid → LeadsBack back (deltas ++ delta ∷ []) new old
   LeadsBack-push [] delta new mid old rest last = (new, refl, subst (λ s. back delta new s) rest last)
   LeadsBack-push (first ∷ deltas) delta new mid old rest last =
@@ -31,17 +32,17 @@ module _ {State Op Answer Delta : Type 0} (steps : State → Op → Answer → S
   length-Applied [] deltas old new h = ap length h.0
   length-Applied (o ∷ ops) deltas old new h = ap length h.4 ∙ ap suc (length-Applied ops h.3 h.1 new h.8)
 
-  -- the deltas of the applied operations lead back
+  -- undoing the deltas of applied operations restores the old state
   pub LeadsBack-Applied : (ops : List Op) (deltas : List Delta) (old new : State) → Applied steps back light old ops deltas new → LeadsBack back deltas new old
   LeadsBack-Applied [] deltas old new h = subst (λ ds. LeadsBack back ds new old) (sym h.0) h.1
   LeadsBack-Applied (o ∷ ops) deltas old new h =
       subst (λ ds. LeadsBack back ds new old) (sym h.4) (h.1, LeadsBack-Applied ops h.3 h.1 new h.8, h.6)
 
-  -- the deltas also lead back from a state that was left unchanged
+  -- undoing the deltas also restores the old state from any state that equals the new one
   pub LeadsBack-unchanged : (ops : List Op) (deltas : List Delta) (old mid new : State) → Applied steps back light old ops deltas mid → new ≡ mid → LeadsBack back deltas new old
   LeadsBack-unchanged ops deltas old mid new h same = subst (λ s. LeadsBack back deltas s old) (sym same) (LeadsBack-Applied ops deltas old mid h)
 
-  -- a refusal after operations that apply is the first refusal of them all
+  -- if some operations apply, the first refusal after them is the first refusal of the whole list
   pub FirstRefused-after : {Reason : Type 0} (refuses : State → Op → Reason → Type 0) (ops : List Op) (deltas : List Delta) (rest : List Op) (reason : Reason) (old mid : State)
       → Applied steps back light old ops deltas mid → FirstRefused steps refuses mid rest reason → FirstRefused steps refuses old (ops ++ rest) reason
   FirstRefused-after refuses [] deltas rest reason old mid run h = subst (λ s. FirstRefused steps refuses s rest reason) run.1 h
@@ -49,7 +50,7 @@ module _ {State Op Answer Delta : Type 0} (steps : State → Op → Answer → S
       inr (run.0, run.1, run.5, FirstRefused-after refuses ops run.3 rest reason run.1 mid run.8 h)
 
 module _ {State Delta : Type 0} (back : Delta → State → State → Type 0) where
-  -- undoing the last delta leaves the state from which the others lead back
+  -- undoing the last delta gives a state from which undoing the others restores the old state
   pub LeadsBack-undone : (unique : (delta : Delta) (new a b : State) → back delta new a → back delta new b → a ≡ b) → (deltas rest : List Delta) (delta : Delta) (new mid old : State)
       → deltas ≡ rest ++ delta ∷ [] → back delta new mid → LeadsBack back deltas new old → LeadsBack back rest mid old
   LeadsBack-undone unique deltas rest delta new mid old last undone h =
@@ -57,16 +58,16 @@ module _ {State Delta : Type 0} (back : Delta → State → State → Type 0) wh
       subst (λ s. LeadsBack back rest s old) (unique delta new split.0 mid split.1 undone) split.2
 
 module _ {X : Type 0} where
-  -- the items so far and the next one
+  -- the first i + 1 items are the first i items and the next one
   pub take-next : (xs : List X) (i : ℕ) (x : X) → i < length xs → x ≡ get_or xs i x → take (i + 1) xs ≡ take i xs ++ x ∷ []
   take-next xs i x within read = take_more xs i x within ∙ ap (λ y. take i xs ++ y ∷ []) (sym read)
 
-  -- the items so far, the next one and the rest
+  -- the first i items, the next one and the rest are the whole list
   pub append-next : (xs : List X) (i : ℕ) (x : X) → i < length xs → x ≡ get_or xs i x → take i xs ++ (x ∷ drop (suc i) xs) ≡ xs
   append-next xs i x within read =
       ap (λ y. take i xs ++ (y ∷ drop (suc i) xs)) read ∙ ap (λ ys. take i xs ++ ys) (sym (drop-cons xs i x within)) ∙ take-append-drop i xs
 
--- deltas lead back to one state if each of them does
+-- if undoing a single delta restores only one state, so does undoing a list of deltas
 pub LeadsBack-unique : {State Delta : Type 0} (back : Delta → State → State → Type 0) → ((delta : Delta) (new a b : State) → back delta new a → back delta new b → a ≡ b)
     → (deltas : List Delta) (new a b : State) → LeadsBack back deltas new a → LeadsBack back deltas new b → a ≡ b
 LeadsBack-unique back unique [] new a b p q = sym p ∙ q

@@ -1,24 +1,24 @@
--- The contents of a list at a place after a push and after a write, through any view of the place.
+-- Lemmas about the element at a place of a list, or a view of it, after a push or a write.
 use Rattle.std.proofs.Common.{◌≡◌, ◌≢◌, ℕ, zero, suc, List, [], ◌∷◌, ◌++◌, length, get_or, set, ◌<◌, Option, Some, None, ◌⊎◌, inl, inr, refl, sym, ap, subst, ◌∙◌, arith}
 use Rattle.std.proofs.lemmas.List.{set-set, set-get_or}
 use Rattle.std.proofs.lemmas.Option.{same_Some, slice_get-get_or}
 use Rattle.std.specs.Prelude.{IfSome}
 use Rattle.std.specs.List.{slice_get}
 
--- a view that can't distinguish the pushed element from none doesn't change
+-- a view that shows the pushed element and a missing element alike doesn't change
 pub slice_get-push_unseen : {X B : Type 0} (f : Option X → B) (xs : List X) (x : X) (i : ℕ) → f None ≡ f (Some x) → f (slice_get (xs ++ x ∷ []) i) ≡ f (slice_get xs i)
 slice_get-push_unseen f [] x zero e = sym e
 slice_get-push_unseen f [] x (suc i) e = refl
 slice_get-push_unseen f (y ∷ xs) x zero e = refl
 slice_get-push_unseen f (y ∷ xs) x (suc i) e = slice_get-push_unseen f xs x i e
 
--- an element at its place stays
+-- a push keeps each old element in its place
 pub slice_get-push_kept : {X : Type 0} (xs : List X) (x y : X) (i : ℕ) → slice_get xs i ≡ Some y → slice_get (xs ++ x ∷ []) i ≡ Some y
 slice_get-push_kept [] x y i e = cc
 slice_get-push_kept (z ∷ xs) x y zero e = e
 slice_get-push_kept (z ∷ xs) x y (suc i) e = slice_get-push_kept xs x y i e
 
--- an element of the longer list is an old one, or the pushed one
+-- each element of the longer list is an old element or the pushed one
 pub slice_get-push_cases : {X : Type 0} (xs : List X) (x y : X) (i : ℕ) → slice_get (xs ++ x ∷ []) i ≡ Some y → (slice_get xs i ≡ Some y) ⊎ ((i ≡ length xs) × (x ≡ y))
 slice_get-push_cases [] x y zero e = inr (refl, cc)
 slice_get-push_cases [] x y (suc i) e = cc
@@ -32,7 +32,7 @@ slice_get-set_here [] i old new e = cc
 slice_get-set_here (x ∷ xs) zero old new e = refl
 slice_get-set_here (x ∷ xs) (suc i) old new e = slice_get-set_here xs i old new e
 
--- a view that can't distinguish the new element from the old one doesn't change
+-- a view that shows the new element and the old one alike doesn't change
 pub slice_get-set_unseen : {X B : Type 0} (f : Option X → B) (xs : List X) (i : ℕ) (old new : X) (j : ℕ) → slice_get xs i ≡ Some old → f (Some new) ≡ f (Some old)
     → f (slice_get (set xs i new) j) ≡ f (slice_get xs j)
 slice_get-set_unseen f [] i old new j at e = refl
@@ -41,7 +41,7 @@ slice_get-set_unseen f (x ∷ xs) zero old new (suc j) at e = refl
 slice_get-set_unseen f (x ∷ xs) (suc i) old new zero at e = refl
 slice_get-set_unseen f (x ∷ xs) (suc i) old new (suc j) at e = slice_get-set_unseen f xs i old new j at e
 
--- the written place has the new element, and each other place its old one
+-- the written place has the new element, and each other place keeps its element
 pub slice_get-set_cases : {X : Type 0} (xs : List X) (i : ℕ) (old new : X) (j : ℕ) → slice_get xs i ≡ Some old
     → ((j ≡ i) × (slice_get (set xs i new) j ≡ Some new)) ⊎ ((j ≢ i) × (slice_get (set xs i new) j ≡ slice_get xs j))
 slice_get-set_cases [] i old new j at = cc
@@ -54,7 +54,8 @@ slice_get-set_cases (x ∷ xs) (suc i) old new (suc j) at =
       | inr other ↦ inr ((λ e. other.0 (omega arith)), other.1)
     ]
 
--- a property of the new element and of the old ones holds for all, after a write and after a push
+-- if a property holds for the new element and all old ones, it holds for all after a write or a
+-- push
 pub slice_get-set_all : {X : Type 0} (P : X → Type 0) (xs : List X) (i : ℕ) (old new : X) → slice_get xs i ≡ Some old → P new → ((j : ℕ) (x : X) → slice_get xs j ≡ Some x → P x) → (j : ℕ) (x : X)
     → slice_get (set xs i new) j ≡ Some x → P x
 slice_get-set_all P xs i old new at p all j x is =
@@ -67,7 +68,7 @@ pub slice_get-push_all : {X : Type 0} (P : X → Type 0) (xs : List X) (new : X)
     → P x
 slice_get-push_all P xs new p all j x is = elim (slice_get-push_cases xs new x j is) [ inl old ↦ all j x old | inr here ↦ subst P here.1 p ]
 
--- an element found before is found after a write, or the new one is in its place
+-- if a place had an element with a property, it still has one after a write
 pub slice_get-set_found : {X : Type 0} (P : X → Type 0) (xs : List X) (i : ℕ) (old new : X) (j : ℕ) (x : X) → slice_get xs i ≡ Some old → (j ≡ i → P old → P new) → slice_get xs j ≡ Some x → P x
     → (y : X) × (slice_get (set xs i new) j ≡ Some y) × P y
 slice_get-set_found P xs i old new j x at next is p =
@@ -76,10 +77,10 @@ slice_get-set_found P xs i old new j x at next is p =
       | inr other ↦ (x, other.1 ∙ is, p)
     ]
 
--- an element that is overwritten and then written back
+-- overwriting an element and then writing it back restores the list
 pub set_read_back : {X : Type 0} (xs : List X) (i : ℕ) (x y : X) → x ≡ get_or xs i x → set (set xs i y) i x ≡ xs
 set_read_back xs i x y read = set-set xs i y x ∙ ap (set xs i) read ∙ set-get_or xs i x
 
--- an element that was read at an existing place is at that place
+-- the element that was read at an existing place is at that place
 pub read_is_there : {X : Type 0} (xs : List X) (i : ℕ) (x : X) → i < length xs → x ≡ get_or xs i x → IfSome (slice_get xs i) (λ y. y ≡ x)
 read_is_there xs i x within read = rw (slice_get-get_or xs i x within) (sym read)

@@ -1,4 +1,4 @@
--- Kinds and cells that are found by a name or a number have that name or number.
+-- Lemmas about lookups: a kind or cell found by a name or a number has that name or number.
 use Rattle.std.proofs.Common.{◌≡◌, ◌-◌, slice_get, slice_index_or, ℕ, Bool, true, false, cond, List, [], ◌∷◌, Option, Some, None, find, bytes_eq, nat_eq, ap, sym, subst, refl}
 use Rattle.std.specs.Prelude.{filter, length, map}
 use Rattle.std.proofs.lemmas.Bool.{eqb-true, eq-eqb}
@@ -18,7 +18,7 @@ found_passes {X} test (y ∷ ys) x e =
 pub found_named : {X : Type 0} (name : X → List ℕ) (xs : List X) (text : List ℕ) (x : X) → find (λ y. bytes_eq (name y) text) xs ≡ Some x → text ≡ name x
 found_named name xs text x e = sym ((bytes_eq-Decides (name x) text).0 (found_passes _ xs x e))
 
--- a property of all items is one of the found item
+-- if all items have a property, the found item has it
 pub found_such : {X : Type 0} (P : X → Type 0) (test : X → Bool) (xs : List X) (x : X) → AllByRecursion P xs → find test xs ≡ Some x → P x
 found_such P test [] x all e = cc
 found_such {X} P test (y ∷ ys) x all e =
@@ -36,7 +36,7 @@ found_at test index cell e = found_such (λ c. index ≡ cell_index c) test (cel
     indexed None = (refl, (refl, (refl, (refl, (refl, tt)))))
     indexed (Some i) = (refl, (refl, (refl, (refl, (refl, (refl, (refl, (refl, (refl, (refl, (refl, (refl, (refl, (refl, (refl, tt)))))))))))))))
 
--- an item found by its name is found among the items whose names have its length
+-- an item found by a name is also found among the items whose names have the same length
 pub found_by_length : {X : Type 0} (name : X → List ℕ) (text : List ℕ) (xs : List X) → find (λ x. bytes_eq (name x) text) (filter (λ x. nat_eq (length (name x)) (length text)) xs) ≡ find (λ x. bytes_eq (name x) text) xs
 found_by_length name text [] = refl
 found_by_length {X} name text (x ∷ xs) =
@@ -52,12 +52,12 @@ found_by_length {X} name text (x ∷ xs) =
     fits : X → Bool
     fits y = nat_eq (length (name y)) (length text)
 
--- a kind's name is read as that kind
+-- looking up a kind's name finds that kind
 pub kind_again : (kind : Kind) → kind_named (kind_name kind) ≡ Some kind
 kind_again Kind.Spawn = refl
 kind_again _ = refl
 
--- a kind's number is read as that kind
+-- looking up a kind's number finds that kind
 pub kind_counted : (kind : Kind) → kind_numbered (kind_number kind) ≡ Some kind
 kind_counted Kind.Spawn = refl
 kind_counted _ = refl
@@ -67,7 +67,7 @@ pub kind_placed : (kind : Kind) → slice_get kinds (kind_number kind - 1) ≡ S
 kind_placed Kind.Spawn = refl
 kind_placed _ = refl
 
--- the name at a kind's place is its name
+-- the name at a kind's place in the list is its name
 pub name_placed : (kind : Kind) (n : ℕ) → n ≡ kind_number kind → slice_index_or (map (λ (row : Kind × List ℕ). row.1) spelled_kinds) (n - 1) [] ≡ kind_name kind
 name_placed kind n e = subst (λ k. slice_index_or (map (λ (row : Kind × List ℕ). row.1) spelled_kinds) (k - 1) [] ≡ kind_name kind) (sym e) (is_at kind)
   where

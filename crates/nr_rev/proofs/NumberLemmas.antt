@@ -1,4 +1,4 @@
--- Numbers compared, lowered, and counted in a list.
+-- Lemmas about comparing numbers, decrementing them, and counting them in a list.
 use Rattle.std.proofs.Common.{◌≡◌, ◌≢◌, ℕ, ◌≤◌, ◌<◌, Bool, true, false, List, [], ◌∷◌, ◌++◌, refl, arith, ◌+◌, ◌-◌, cond}
 use Rattle.std.specs.Prelude.{◌==◌, nat_le, nat_lt, count_by}
 use Rattle.nr_rev.specs.Lock.{bit}

@@ -1,5 +1,5 @@
--- The parts of a step in a well-formed world: the properties of their values, and the reasons for which they may be
--- refused.
+-- Lemmas about the parts of a step's definition in a well-formed world: the properties of their
+-- values, and the reasons for which they may refuse the step.
 use Rattle.std.specs.Prelude.{◌+◌, ◌-◌, ◌^◌, nat_lt, if◌then◌else◌}
 use Rattle.std.proofs.Common.{◌≡◌, ℕ, ◌<◌, Bool, true, false, Option, Some, None, Result, Ok, Err, refl, sym, ap, subst, ◌∙◌, arith}
 use Rattle.nr_rev.specs.declared.answer.Answer.{Answer}
@@ -15,22 +15,23 @@ use Rattle.nr_rev.specs.Step.{Outcome}
 use Rattle.nr_rev.proofs.NumberLemmas.{below_of}
 use Rattle.nr_rev.proofs.SideLemmas.{each_side}
 
--- the reasons that no well-formed world gives: running out of memory, and a descriptor that contradicts itself
+-- the reasons that never occur in a well-formed world: running out of memory, and a corrupted
+-- descriptor
 abbrev pub is_never_given : Refusal → Bool
 is_never_given Refusal.CorruptedDescriptor = true
 is_never_given (Refusal.Memory _) = true
 is_never_given _ = false
 
--- true if the value has this property, or the reason is one that a well-formed world may give
+-- true if a value has this property, and a reason is one that may occur in a well-formed world
 pub record Ends {A : Type 0} (P : A → Type 0) (m : Result A Refusal) : Type 0 where
   pub value : (a : A) → m ≡ Ok a → P a
   pub given : (reason : Refusal) → m ≡ Err reason → is_never_given reason ≡ false
 
--- true if a step leaves a world well formed, under a premise
+-- true if a step leaves the world well formed, provided that `T` holds
 abbrev pub KeepsFor : Type 0 → Outcome → Type 0
 KeepsFor T o = Ends (λ (left : Answer × World). T → WellFormed left.1) o
 
--- true if a step leaves a world well formed
+-- true if a step leaves the world well formed
 abbrev pub Keeps : Outcome → Type 0
 Keeps o = Ends (λ (left : Answer × World). WellFormed left.1) o
 
@@ -46,7 +47,7 @@ Ends-ok {P = P} p = record { value = λ b e. subst P (same_ok _ b e) p; given = 
 pub Ends-refused : {A : Type 0} {P : A → Type 0} {reason : Refusal} → is_never_given reason ≡ false → Ends P (Err reason)
 Ends-refused {A = A} given = record { value = λ a e. cc; given = λ r e. ap is_never_given (sym (same_err {A = A} _ r e)) ∙ given }
 
--- a weaker property of the value
+-- the property of the value can be replaced by a weaker one
 pub Ends-map : {A : Type 0} {P Q : A → Type 0} {m : Result A Refusal} → Ends P m → ((a : A) → P a → Q a) → Ends Q m
 Ends-map first less = record { value = λ a e. less a (first.value a e); given = first.given }
 
@@ -70,7 +71,7 @@ pub Ends-refused_unless : (test : Bool) (reason : Refusal) → is_never_given re
 Ends-refused_unless true reason given = Ends-ok refl
 Ends-refused_unless false reason given = Ends-refused given
 
--- a test that holds doesn't refuse
+-- a test that holds never refuses the step
 pub Ends-certain : (test : Bool) (reason : Refusal) → test ≡ true → Ends (λ _. Unit {0}) (refused_unless test reason)
 Ends-certain true reason so = Ends-ok tt
 Ends-certain false reason so = cc

@@ -1,4 +1,4 @@
--- Steps that apply one after another, and the positions that they lead to.
+-- Lemmas about steps that apply one after another, and about the positions after them.
 use Rattle.std.proofs.Common.{◌≡◌, ℕ, zero, suc, ◌+◌, ◌<◌, ◌≤◌, List, [], ◌∷◌, length, take, Some, ◌⊎◌, inl, inr, sym, ap, ◌∙◌, subst, arith, ◌++◌, Ok, refl}
 use Rattle.std.specs.List.{slice_get}
 use Rattle.std.specs.Prelude.{IsOk}
@@ -28,14 +28,14 @@ slice_get-take (y ∷ xs) (suc n) (suc k) x e =
     let rest = slice_get-take xs n k x e in
     (omega (arith, rest.0), rest.1)
 
--- if the step after n applies, the step with the same number does
+-- if the step after position n applies, so does the step after a position equal to n
 same-place : (r : Recording) (n k : ℕ) (step : Step) → AppliesAt r n → k ≡ n → slice_get r.steps k ≡ Some step → IsOk (outcome (world_at r k) step)
 same-place r n k step here same read =
     let both : Some here.step ≡ Some step = sym here.next ∙ ap (slice_get r.steps) (sym same) ∙ read in
     let steps : here.step ≡ step = cc in
     subst (λ j. IsOk (outcome (world_at r j) step)) (sym same) (subst (λ s. IsOk (outcome (world_at r n) s)) steps here.applies)
 
--- one step more applies
+-- if the first n steps apply and the next one does, the first n + 1 steps apply
 pub IsGoodTo-next : (r : Recording) (n : ℕ) → IsGoodTo r n → AppliesAt r n → IsGoodTo r (n + 1)
 IsGoodTo-next r n good here =
     record {
@@ -51,29 +51,29 @@ IsGoodTo-whole r n good reached = λ k step read.
     let within = slice_get_within r.steps k step read in
     good.each k step (omega (arith, within)) read
 
--- the steps so far make a recording whose steps all apply
+-- if the first n steps apply, they make a recording whose steps all apply
 pub IsGoodTo-prefix : (r : Recording) (n : ℕ) → IsGoodTo r n → IsGood (record r { steps = take n r.steps })
 IsGoodTo-prefix r n good = λ k step read.
     let there = slice_get-take r.steps n k step read in
     let inside : k ≤ n = omega (arith, there.0) in
     subst (λ steps. IsOk (outcome (world_after (empty_world r.limits) steps) step)) (sym (take-take k n r.steps inside)) (good.each k step there.0 there.1)
 
--- the first steps and the next one
+-- the first n + 1 items are the first n items and the next one
 take-next : {X : Type 0} (xs : List X) (n : ℕ) (x : X) → slice_get xs n ≡ Some x → take (n + 1) xs ≡ take n xs ++ x ∷ []
 take-next xs n x read =
     take_more xs n x (slice_get_within xs n x read) ∙ ap (λ y. take n xs ++ y ∷ []) (get_or_from_slice_get xs n x x read)
 
--- a step after some others
+-- the world after some steps and one more
 world_after-push : (w : World) (steps : List Step) (step : Step) → world_after w (steps ++ step ∷ []) ≡ next_of (world_after w steps) (outcome (world_after w steps) step)
 world_after-push w [] step = refl
 world_after-push w (first ∷ steps) step = world_after-push (next_of w (outcome w first)) steps step
 
--- a step that applies leads to the next position
+-- the world after a step that applies is the next position
 world_at-next : (r : Recording) (n : ℕ) (step : Step) (answer : Answer) (next : World) → slice_get r.steps n ≡ Some step → outcome (world_at r n) step ≡ Ok (answer, next) → world_at r (n + 1) ≡ next
 world_at-next r n step answer next read applies =
     ap (world_after _) (take-next r.steps n step read) ∙ world_after-push _ (take n r.steps) step ∙ ap (next_of (world_at r n)) applies
 
--- so does a state that represents the position
+-- if a state represents a position, the state after a step that applies represents the next one
 pub IsWorldAt-next : {State : Type 0} (is_well_formed : State → Type 0) (world : State → World) (r : Recording) (n : ℕ) (step : Step) (answer : Answer) (state next : State)
     → IsWorldAt is_well_formed world r n state → slice_get r.steps n ≡ Some step → outcome (world state) step ≡ Ok (answer, world next) → is_well_formed next
     → IsWorldAt is_well_formed world r (n + 1) next

@@ -1,11 +1,11 @@
--- Properties of both sides, and the values of a pair after one is set.
+-- Lemmas about properties of both sides, and about a pair after one of its values is set.
 use Rattle.std.proofs.Common.{◌≡◌, ◌≢◌, ◌⊎◌, inl, inr, refl}
 use Rattle.nr_rev.specs.declared.sides.Side.{Side}
 use Rattle.nr_rev.specs.declared.sides.Side.TheVariants.{Read, Write}
 use Rattle.nr_rev.specs.declared.sides.Sides.{Sides}
 use Rattle.nr_rev.specs.Sides.{of_side, with_side, twice}
 
--- a property of reading and of writing is one of each side
+-- a property that holds for reading and for writing holds for each side
 pub each_side : (P : Side → Type 0) → P Read → P Write → (side : Side) → P side
 each_side P read write Read = read
 each_side P read write Write = write
@@ -29,7 +29,7 @@ of_side-with_side_other Write Write new both apart = absurd (apart refl)
 pub of_side-twice : {A : Type 0} (side : Side) (a : A) → of_side side (twice a) ≡ a
 of_side-twice side a = each_side (λ s. of_side s (twice a) ≡ a) refl refl side
 
--- a property of both values and of a new one holds after the new one is set at a side
+-- a property of both values of a pair and of a new value holds after a side is set to the new value
 pub with_side_all : {A : Type 0} (P : A → Type 0) (side : Side) (new : A) (both : Sides A) → P new → ((s : Side) → P (of_side s both)) → (s : Side) → P (of_side s (with_side side new both))
 with_side_all P Read new both p all = each_side _ p (all Write)
 with_side_all P Write new both p all = each_side _ (all Read) p

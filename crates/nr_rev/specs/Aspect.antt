@@ -69,7 +69,7 @@ changed_aspects Kind.Pop = Timers ∷ Firings ∷ []
 changed_aspects Kind.Fire = Goroutines ∷ WaitWords ∷ Waiters ∷ Deadlines ∷ Summaries ∷ Firings ∷ []
 changed_aspects Kind.CloseWrite = ShutMarks ∷ []
 
--- true if an aspect is one of these
+-- true if a list of aspects contains an aspect
 abbrev pub is_among : List Aspect → Aspect → Bool
 is_among aspects aspect = list_any (λ one. same_aspect one aspect) aspects
 

@@ -34,7 +34,7 @@ cell_name cell = (spelled cell).0
 abbrev pub cell_index : Cell → Option ℕ
 cell_index cell = (spelled cell).1
 
--- the cells without a number, or with this one
+-- the cells with this number, or those without a number if none is given
 abbrev pub cells_at : Option ℕ → List Cell
 cells_at None = Cell.Clock ∷ Cell.Waiters ∷ Cell.Timers ∷ Cell.Firings ∷ Cell.Least ∷ []
 cells_at (Some i) =
@@ -55,7 +55,7 @@ cells_at (Some i) =
     Cell.Shut i ∷
     []
 
--- the cell with this name, and with this number if it has one
+-- the cell with this name and this number, or without a number if none is given
 abbrev pub cell_named : List ℕ → Option ℕ → Option Cell
 cell_named name index = find (λ cell. bytes_eq (cell_name cell) name) (cells_at index)
 
@@ -82,6 +82,6 @@ cell_number (Cell.DescriptorSequence i) = 18
 cell_number (Cell.Info i) = 19
 cell_number (Cell.Shut i) = 20
 
--- the cell of the sort with this number, and with this index if it has one
+-- the cell whose sort has this number, with this index, or without an index if none is given
 abbrev pub cell_numbered : ℕ → Option ℕ → Option Cell
 cell_numbered number index = find (λ cell. cell_number cell == number) (cells_at index)

@@ -44,8 +44,8 @@ is_negative t = int_lt t (pos 0)
 abbrev pub is_expired : Side → Descriptor → Bool
 is_expired side d = is_negative (of_side side d.deadlines)
 
--- the first of these that holds: closing, 1; the side's deadline expired, 2; an event error, for
--- reading only, 3; or else 0
+-- 1 if the descriptor is closing; otherwise 2 if the side's deadline has expired; otherwise 3 if
+-- the side is reading and the last event was an error; otherwise 0
 abbrev pub check : Side → Descriptor → ℕ
 check side d =
     if d.closing then 1 else (if is_expired side d then 2
@@ -107,7 +107,7 @@ unblocked ioready side d =
     let new : WaitWord × List ℕ = unblock (of_side side d.words) ioready in
     record { descriptor = with_wait_word side new.0 d; orders = []; woken = new.1 }
 
--- both sequences plus one, reading first; reason 18 if one is at its maximum
+-- both sequences incremented, reading first; refused for reason 18 if one is at its maximum
 abbrev pub both_raised : Sides ℕ → Result (Sides ℕ) Refusal
 both_raised sequences = do
   read ← raised_sequence sequences.read
@@ -150,12 +150,13 @@ with_deadlines mode t d =
           };
     }
 
--- the function of a side's timer: under combo, the read timer serves both sides
+-- the function of a side's timer: if both deadlines are the same, the read timer serves both sides
 abbrev pub timer_function : Side → Descriptor → TimerFunction
 timer_function Read d = if is_combo d then TimerFunction.Both else TimerFunction.Read
 timer_function Write d = TimerFunction.Write
 
--- true if a side's deadline needs a timer of its own: under combo, no write timer is armed
+-- true if a side's deadline needs its own timer: if both deadlines are the same, no write timer is
+-- armed
 abbrev pub wants_timer : Side → Descriptor → Bool
 wants_timer Read d = is_positive d.deadlines.read
 wants_timer Write d = is_positive d.deadlines.write && not (is_combo d)
@@ -227,14 +228,15 @@ expire side d =
 abbrev pub is_current : TimerFunction → ℕ → Descriptor → Bool
 is_current function sequence d = sequence == of_side (side_of_function function) d.sequences
 
--- true if a firing side has a future deadline and a running timer; under `both`, the read timer
+-- true if each side that the function covers has a future deadline and its timer runs; for both
+-- sides, the read timer
 abbrev pub is_timed : TimerFunction → Descriptor → Bool
 is_timed TimerFunction.Read d = is_positive d.deadlines.read && d.running.read
 is_timed TimerFunction.Write d = is_positive d.deadlines.write && d.running.write
 is_timed TimerFunction.Both d =
     is_positive d.deadlines.read && d.running.read && is_positive d.deadlines.write
 
--- the change of a current firing; None for a stale one
+-- the change that a current firing makes, or None for a stale firing
 abbrev pub change_by_firing : TimerFunction → ℕ → Descriptor → Result (Option Change) Refusal
 change_by_firing function sequence d =
     if not (is_current function sequence d) then Ok None else (do

@@ -17,25 +17,25 @@ abbrev pub bit : Bool → ℕ
 bit true = 1
 bit false = 0
 
--- the word: bit 0 closed, 1 read lock, 2 write lock, from 3 references, from 23 read waiters, from
--- 43 write waiters
+-- the lock word: bit 0 closed, bit 1 read lock, bit 2 write lock, then three fields of 20 bits:
+-- references, read waiters, write waiters
 abbrev pub lock_number : Lock → ℕ
 lock_number lock =
     bit lock.closed + 2 * bit lock.locked.read + 4 * bit lock.locked.write + 8 * lock.references
     + 2 ^ 23 * lock.waiters.read
     + 2 ^ 43 * lock.waiters.write
 
--- the answer, with nothing owed
+-- the outcome with this answer and this lock, with no releases owed
 abbrev pub answered : Answer → Lock → LockOutcome
 answered answer lock = record { answer = answer; owed = twice 0; lock = lock }
 
--- a field of 20 bits plus one; reason 6 if it is full
+-- a field of 20 bits, incremented; refused for reason 6 if it is full
 abbrev pub raised_field : ℕ → Result ℕ Refusal
 raised_field n = do
   refused_unless (nat_lt n (2 ^ 20 - 1)) Refusal.FieldOverflow
   Ok (n + 1)
 
--- the answer of a dropped reference
+-- the answer after a reference was dropped
 abbrev pub last_of : Lock → Answer
 last_of lock = if lock.closed && (lock.references == 0) then Answer.Last else Answer.NotLast
 
@@ -57,14 +57,15 @@ incref_close lock =
         lock = record lock { closed = true; references = references; waiters = twice 0 };
       }))
 
--- fdMutex.decref: drops a reference; reason 7 if there is none
+-- fdMutex.decref: drops a reference; refused for reason 7 if there is none
 abbrev pub decref : Lock → Result LockOutcome Refusal
 decref lock = do
   refused_if (lock.references == 0) Refusal.InconsistentLock
   let left : Lock = record lock { references = lock.references - 1 }
   Ok (answered (last_of left) left)
 
--- fdMutex.rwlock: takes the side if it is free, or else joins its waiters; No on a closed lock
+-- fdMutex.rwlock: takes the side's lock if it is free, or else joins its waiters; answers No on a
+-- closed lock
 abbrev pub rw_lock : Side → Lock → Result LockOutcome Refusal
 rw_lock side lock =
     if lock.closed then Ok (answered Answer.No lock)

@@ -3,8 +3,8 @@ use Rattle.std.specs.Prelude.{◌≡◌, ◌⊎◌, Option, Some, None}
 use Rattle.nr_rev.specs.declared.refusal.Refusal.{Refusal}
 use Rattle.nr_rev.specs.Refusing.{out_of_memory}
 
--- true if the refusal is the state's reason; or if there is no reason, memory ran out, and the
--- operation takes memory there
+-- true if the refusal is the state's reason for the operation; or if the state has none, the
+-- operation takes memory there, and the refusal is running out of memory
 abbrev pub Refuses : {State Op : Type 0} → (State → Op → Option Refusal) → (State → Op → Type 0)
     → State → Op → Refusal → Type 0
 Refuses reason takes_memory old op refusal = (reason old op ≡ Some refusal)

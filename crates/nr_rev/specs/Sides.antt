@@ -31,7 +31,7 @@ same_side Read Read = true
 same_side Write Write = true
 same_side _ _ = false
 
--- true if a mode names a side
+-- true if a mode includes a side
 abbrev pub names_side : Mode → Side → Bool
 names_side Mode.Read Read = true
 names_side Mode.Write Write = true
@@ -45,7 +45,7 @@ covers_side TimerFunction.Write Write = true
 covers_side TimerFunction.Both side = true
 covers_side _ _ = false
 
--- the side whose sequence and running flag a function uses: reading, if it reads
+-- the side whose sequence and running flag a function uses: reading, if the function covers it
 abbrev pub side_of_function : TimerFunction → Side
 side_of_function TimerFunction.Write = Write
 side_of_function _ = Read

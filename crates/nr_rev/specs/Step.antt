@@ -1,4 +1,4 @@
--- The thirty-one steps. Each tests its reasons in order, and then gives the answer and the next
+-- The thirty-one steps. Each step tests its reasons in order, and then has an answer and a next
 -- world.
 use Rattle.std.specs.Prelude.{ℕ, ◌+◌, ◌-◌, ◌*◌, Bool, true, false, ◌&&◌, ◌||◌, not, ◌==◌, nat_lt, nat_le, min, ℤ, int_lt, int_le, if◌then◌else◌, List, [], ◌∷◌, ◌++◌, length, take, drop, remove, slice_get, slice_set, slice_index_or, Option, Some, None, Result, Ok, Err}
 use Rattle.nr_rev.specs.declared.sides.Side.{Side}
@@ -34,13 +34,13 @@ Outcome = Result (Answer × World) Refusal
 
 -- ---- lookups in a step, and the reasons if they fail
 
--- reason 1: no such goroutine, or gone
+-- the status of a goroutine that exists and hasn't ended; refused for reason 1 otherwise
 abbrev pub alive : Option Status → Result Status Refusal
 alive None = Err NoSuchGoroutine
 alive (Some Gone) = Err NoSuchGoroutine
 alive (Some status) = Ok status
 
--- the status of goroutine g; reason 1 if it doesn't exist or has ended
+-- the status of goroutine g; refused for reason 1 if g doesn't exist or has ended
 abbrev pub status_of : ℕ → World → Result Status Refusal
 status_of g w = alive (slice_get w.goroutines g)
 
@@ -49,27 +49,27 @@ abbrev pub is_idle : Status → Bool
 is_idle Idle = true
 is_idle _ = false
 
--- the goroutine is idle; reasons 1 and 2
+-- refuses a goroutine that doesn't exist (reason 1) or isn't idle (reason 2)
 abbrev pub idle : ℕ → World → Result (Unit {0}) Refusal
 idle g w = do
   status ← status_of g w
   refused_unless (is_idle status) NotThere
 
--- socket s; reason 4 if it was not opened
+-- socket s; refused for reason 4 if it was not opened
 abbrev pub socket_of : ℕ → World → Result Socket Refusal
 socket_of s w = found_or (slice_get w.sockets s) NoSuchSocket
 
--- the row of descriptor d; reason 5 if d was never opened
+-- the row of descriptor d; refused for reason 5 if d was never opened
 abbrev pub row_of : ℕ → World → Result DescriptorRow Refusal
 row_of d w = found_or (slice_get w.descriptors d) NoSuchDescriptor
 
--- the row of descriptor d; reason 5 if d isn't open
+-- the row of descriptor d; refused for reason 5 if d isn't open
 abbrev pub open_row_of : ℕ → World → Result DescriptorRow Refusal
 open_row_of d w = do
   refused_if (is_free_number d w.free) NoSuchDescriptor
   row_of d w
 
--- a size is from 1 to the recording's buffer limit; reason 19
+-- refuses, for reason 19, a size that isn't from 1 to the recording's buffer limit
 abbrev pub sized : ℕ → World → Result (Unit {0}) Refusal
 sized n w = refused_unless (nat_lt 0 n && nat_le n w.limits.buffer) SizeOutOfRange
 
@@ -89,7 +89,7 @@ exit g w = do
 
 -- ---- locking
 
--- the status of a goroutine that owes these releases, or none
+-- the status of a goroutine that owes these releases: idle if it owes none
 abbrev pub owing : ℕ → Sides ℕ → Status
 owing s owed = if owed.read + owed.write == 0 then Idle else Owing s owed.read owed.write
 
@@ -159,7 +159,7 @@ abbrev pub with_semaphore : ℕ → Side → Socket → Semaphore → World → 
 with_semaphore s side socket semaphore w =
     with_socket s (record socket { semaphores = with_side side semaphore socket.semaphores }) w
 
--- the semaphore that a goroutine is acquiring; reason 2 in other states
+-- the semaphore that a goroutine is acquiring; refused for reason 2 (wrong state) if there is none
 abbrev pub acquiring_of : Status → Result (ℕ × Side) Refusal
 acquiring_of (Acquiring s side) = Ok (s, side)
 acquiring_of _ = Err NotThere
@@ -175,7 +175,7 @@ acquire g w = do
   Ok (if is_free semaphore then (Yes, with_status g (Relock s side) next)
       else (Wait, with_status g (Queued s side) next))
 
--- the releases that a goroutine owes; reason 2 in other states
+-- the releases that a goroutine owes; refused for reason 2 (wrong state) if there are none
 abbrev pub owing_of : Status → Result (ℕ × Sides ℕ) Refusal
 owing_of (Owing s reads writes) = Ok (s, record { read = reads; write = writes })
 owing_of _ = Err NotThere
@@ -185,7 +185,7 @@ abbrev pub tries_again : ℕ → Side → Option ℕ → World → World
 tries_again s side None w = w
 tries_again s side (Some g) w = with_status g (Acquiring s side) w
 
--- release: one release, the read semaphore first
+-- release: releases one semaphore, the read semaphore first
 abbrev pub release : ℕ → World → Outcome
 release g w = do
   status ← status_of g w
@@ -331,12 +331,12 @@ after_orders (order ∷ orders) before = do
   after ← after_order order before
   after_orders orders after
 
--- the status of a goroutine that is woken: a parked one goes on to consume the word
+-- the status of a woken goroutine: a parked one will next consume the word
 abbrev pub after_wake : Status → Status
 after_wake (Parked d side) = Swapping d side
 after_wake status = status
 
--- wakes goroutines that words held
+-- wakes the goroutines that wait words held
 abbrev pub after_wakes : List ℕ → World → World
 after_wakes [] w = w
 after_wakes (g ∷ gs) w =
@@ -393,38 +393,43 @@ waitbegin g d side w = do
   refused_if (code == 0 && is_waited d side w.goroutines) DoubleWait
   Ok (Code code, if code == 0 then with_status g (Entering d side) w else w)
 
--- the wait of a goroutine that is about to announce that it waits; reason 2 in other states
+-- the wait of a goroutine that is about to announce it; refused for reason 2 (wrong state)
+-- otherwise
 abbrev pub entering_of : Status → Result (ℕ × Side) Refusal
 entering_of (Entering d side) = Ok (d, side)
 entering_of _ = Err NotThere
 
--- the wait of a goroutine that is about to check once more; reason 2 in other states
+-- the wait of a goroutine that is about to check once more; refused for reason 2 (wrong state)
+-- otherwise
 abbrev pub armed_of : Status → Result (ℕ × Side) Refusal
 armed_of (Armed d side) = Ok (d, side)
 armed_of _ = Err NotThere
 
--- the wait of a goroutine that is about to commit and park; reason 2 in other states
+-- the wait of a goroutine that is about to commit and park; refused for reason 2 (wrong state)
+-- otherwise
 abbrev pub parking_of : Status → Result (ℕ × Side) Refusal
 parking_of (Parking d side) = Ok (d, side)
 parking_of _ = Err NotThere
 
--- the wait of a goroutine that is about to consume the word; reason 2 in other states
+-- the wait of a goroutine that is about to consume the word; refused for reason 2 (wrong state)
+-- otherwise
 abbrev pub swapping_of : Status → Result (ℕ × Side) Refusal
 swapping_of (Swapping d side) = Ok (d, side)
 swapping_of _ = Err NotThere
 
--- the wait of a goroutine that is about to check why it was woken; reason 2 in other states
+-- the wait of a goroutine that is about to check why it was woken; refused for reason 2 (wrong
+-- state) otherwise
 abbrev pub checking_of : Status → Result (ℕ × Side) Refusal
 checking_of (Checking d side) = Ok (d, side)
 checking_of _ = Err NotThere
 
--- the world with a new status of g and a new word of the side
+-- the world with a new status of goroutine g and a new wait word for the side
 abbrev pub with_wait : ℕ → Status → ℕ → Side → WaitWord → DescriptorRow → World → World
 with_wait g status d side word row w =
     with_status g status (with_descriptor d row (with_wait_word side word row.descriptor) w)
 
--- blockarm, by the word that it finds: nil becomes wait; ready is consumed, and the wait ends with
--- code 0
+-- the result of blockarm by the word that it finds: nil becomes wait; ready is consumed, and the
+-- wait ends with code 0
 abbrev pub armed_by : ℕ → ℕ → Side → WaitWord → DescriptorRow → World → Outcome
 armed_by g d side WaitWord.Nil row w =
     Ok (Wait, with_wait g (Armed d side) d side WaitWord.Wait row w)
@@ -432,7 +437,7 @@ armed_by g d side WaitWord.Ready row w = Ok (Code 0, with_wait g Idle d side Wai
 -- no well-formed world has another word here
 armed_by g d side _ row w = Err DoubleWait
 
--- blockarm: netpollblock, the word becomes wait
+-- blockarm: the part of netpollblock where the word becomes wait
 abbrev pub blockarm : ℕ → World → Outcome
 blockarm g w = do
   status ← status_of g w
@@ -440,7 +445,7 @@ blockarm g w = do
   row ← row_of d w
   armed_by g d side (of_side side row.descriptor.words) row w
 
--- blockcheck: netpollblock, the check before parking
+-- blockcheck: the check in netpollblock before parking
 abbrev pub blockcheck : ℕ → World → Outcome
 blockcheck g w = do
   status ← status_of g w
@@ -449,8 +454,8 @@ blockcheck g w = do
   let code : ℕ = check side row.descriptor
   Ok (Code code, with_status g (if code == 0 then Parking d side else Swapping d side) w)
 
--- parkcommit, by the word that it finds: wait becomes held by g, and g parks; after any other word,
--- g goes on to consume it
+-- the result of parkcommit by the word that it finds: wait becomes held by g, and g parks; for any
+-- other word, g goes on to consume it
 abbrev pub committed_by : ℕ → ℕ → Side → WaitWord → DescriptorRow → World → Answer × World
 committed_by g d side WaitWord.Wait row w = (
   Yes,
@@ -467,13 +472,13 @@ parkcommit g w = do
   row ← row_of d w
   Ok (committed_by g d side (of_side side row.descriptor.words) row w)
 
--- blockswap, by the word that it consumes: ready ends the wait; after any other word, g checks why
--- it was woken
+-- the result of blockswap by the word that it consumes: ready ends the wait; for any other word, g
+-- checks why it was woken
 abbrev pub swapped_by : ℕ → ℕ → Side → WaitWord → DescriptorRow → World → Answer × World
 swapped_by g d side WaitWord.Ready row w = (Yes, with_wait g Idle d side WaitWord.Nil row w)
 swapped_by g d side _ row w = (No, with_wait g (Checking d side) d side WaitWord.Nil row w)
 
--- blockswap: netpollblock, which consumes the word
+-- blockswap: the part of netpollblock that consumes the word
 abbrev pub blockswap : ℕ → World → Outcome
 blockswap g w = do
   status ← status_of g w
@@ -481,7 +486,7 @@ blockswap g w = do
   row ← row_of d w
   Ok (swapped_by g d side (of_side side row.descriptor.words) row w)
 
--- waitcheck: runtime_pollWait, the check after netpollblock
+-- waitcheck: the check in runtime_pollWait after netpollblock
 abbrev pub waitcheck : ℕ → World → Outcome
 waitcheck g w = do
   status ← status_of g w

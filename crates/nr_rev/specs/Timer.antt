@@ -16,12 +16,12 @@ IsTime t = FitsSigned w64 t
 abbrev pub is_before : Timer → Timer → Bool
 is_before a b = int_lt a.due b.due || (int_eq a.due b.due && nat_lt a.number b.number)
 
--- the entry, or the other one if that goes off before it
+-- the entry whose timer goes off first, of this one and the other, if there is one
 abbrev pub earlier_of : Entry → Option Entry → Entry
 earlier_of e None = e
 earlier_of e (Some other) = if is_before other.timer e.timer then other else e
 
--- the entry before all others
+-- the entry whose timer goes off before all others
 abbrev pub least_of : List Entry → Option Entry
 least_of [] = None
 least_of (e ∷ es) = Some (earlier_of e (least_of es))

@@ -1,8 +1,8 @@
 -- Sequences of operations, and undoing them.
 use Rattle.std.specs.Prelude.{◌≡◌, ◌⊎◌, List, [], ◌∷◌}
 
--- true if the operations lead, in order, from old to new, and each gave a light delta that undoes
--- its step
+-- true if the operations, in order, turn old into new, and each has a delta of allowed weight that
+-- undoes it
 abbrev pub Applied : {State Op Answer Delta : Type 0} → (State → Op → Answer → State → Type 0)
     → (Delta → State → State → Type 0) → (Op → Answer → Delta → Type 0) → State → List Op
     → List Delta → State → Type 0
@@ -13,7 +13,7 @@ Applied {State} {Op} {Answer} {Delta} steps back light old (op ∷ ops) deltas n
     × steps old op answer mid × back delta mid old × light op answer delta
     × Applied steps back light mid ops rest new
 
--- true if undoing the deltas, from the last to the first, leads from new back to old
+-- true if undoing the deltas, from the last to the first, turns new back into old
 abbrev pub LeadsBack : {State Delta : Type 0} → (Delta → State → State → Type 0) → List Delta
     → State → State → Type 0
 LeadsBack back [] new old = new ≡ old

@@ -1,6 +1,6 @@
 -- The weights of values in words: a number, which has at most 64 bits, weighs one word; a truth
--- value or a variant weighs one; and eight bytes, or part of them, weigh one. All that is kept for
--- undoing is weighed by these.
+-- value or a variant weighs one; and eight bytes, or part of them, weigh one. Everything kept for
+-- undoing is weighed by these definitions.
 use Rattle.std.specs.Prelude.{ℕ, ◌+◌, ◌/◌, ℤ, Bool, List, length, Option, Some, None}
 use Rattle.nr_rev.specs.declared.sides.Side.{Side}
 use Rattle.nr_rev.specs.declared.sides.Sides.{Sides}

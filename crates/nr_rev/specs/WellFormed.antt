@@ -17,11 +17,11 @@ use Rattle.nr_rev.specs.Socket.{Socket}
 use Rattle.nr_rev.specs.declared.descriptor.DescriptorRow.{DescriptorRow}
 use Rattle.nr_rev.specs.World.{World, is_free_number, wait_of}
 
--- true if the view of goroutine g is a
+-- true if the view of goroutine g's status is a
 abbrev pub HasView : {A : Type 0} → (Status → Option A) → List Status → ℕ → A → Type 0
 HasView view goroutines g a = option_and_then view (slice_get goroutines g) ≡ Some a
 
--- true if goroutine g is inside a wait of d's side
+-- true if goroutine g is inside a wait on a side of descriptor d
 abbrev pub IsInside : List Status → ℕ → ℕ → Side → Type 0
 IsInside goroutines g d side = HasView wait_of goroutines g (d, side)
 
@@ -30,7 +30,7 @@ abbrev pub parked_of : Status → Option (ℕ × Side)
 parked_of (Parked d side) = Some (d, side)
 parked_of _ = None
 
--- the descriptor and side whose word a goroutine inside a wait leaves at wait
+-- the descriptor and side whose word may be wait because a goroutine with this status waits there
 abbrev pub awaiting_of : Status → Option (ℕ × Side)
 awaiting_of (Armed d side) = Some (d, side)
 awaiting_of (Parking d side) = Some (d, side)
@@ -42,7 +42,7 @@ abbrev pub owed_of : Status → Option (ℕ × ℕ)
 owed_of (Owing s reads writes) = Some (reads, writes)
 owed_of _ = None
 
--- true if d's word of a side is this one
+-- true if descriptor d's wait word for a side is this one
 abbrev pub HasWaitWord : List DescriptorRow → ℕ → Side → WaitWord → Type 0
 HasWaitWord descriptors d side word =
     option_map (λ (row : DescriptorRow). of_side side row.descriptor.words)
@@ -78,7 +78,7 @@ is_held _ = false
 abbrev pub held_count : DescriptorRow → ℕ
 held_count row = bit (is_held row.descriptor.words.read) + bit (is_held row.descriptor.words.write)
 
--- the armed timer of a side of d fits d
+-- true if the armed timer of a side of descriptor d fits the descriptor
 pub record EntryFits (d : Descriptor) (side : Side) (timer : Timer) : Type 0 where
   pub sequence : timer.sequence ≡ of_side side d.sequences
   pub running : of_side side d.running ≡ true
@@ -104,8 +104,8 @@ pub record FiringFits (d : Descriptor) (firing : Entry) : Type 0 where
   pub due : IsTime firing.timer.due
   pub current : firing.timer.sequence ≡ of_side firing.side d.sequences → IsDueFor d firing
 
--- a descriptor's row: its armed timers fit its deadlines, no write timer runs under combo, no timer
--- runs when closing, and its numbers have 64 bits
+-- a descriptor's row: its armed timers fit its deadlines, no write timer runs if both deadlines are
+-- the same, no timer runs while it is closing, and its numbers fit in 64 bits
 pub record RowFits (row : DescriptorRow) : Type 0 where
   pub entries : (side : Side) (timer : Timer) → of_side side row.timers ≡ Some timer
       → EntryFits row.descriptor side timer
@@ -120,7 +120,7 @@ pub record LockFits (lock : Lock) : Type 0 where
   pub references : IsField lock.references
   pub waiters : (side : Side) → IsField (of_side side lock.waiters)
 
--- a socket under a buffer limit: its lock fits, its counts have 32 bits, and its buffers hold no
+-- a socket under a buffer limit: its lock fits, its counts fit in 32 bits, and its buffers hold no
 -- more than their capacities, which are from 1 to the limit
 pub record SocketFits (buffer : ℕ) (socket : Socket) : Type 0 where
   pub lock : LockFits socket.lock
@@ -146,13 +146,13 @@ timer_at descriptors firings (ArmedAt d side) =
     option_and_then (armed_at d side) (slice_get descriptors d)
 timer_at descriptors firings (FiringAt i) = slice_get firings i
 
--- true if the entry has its descriptor's sequence
+-- true if the entry has the current sequence of its descriptor's side
 abbrev pub IsCurrent : List DescriptorRow → Entry → Type 0
 IsCurrent descriptors e = option_map (λ (row : DescriptorRow). of_side e.side
     row.descriptor.sequences) (slice_get descriptors e.descriptor) ≡ Some e.timer.sequence
 
--- goroutines: at most one is inside a wait of a side, and only of open descriptors; they name
--- opened sockets; the releases that they owe fit a field and are not zero
+-- goroutines: at most one is inside a wait on a descriptor's side, and that descriptor is open;
+-- each socket that a status names was opened; releases owed fit in a field and are not zero
 pub record GoroutinesFit (goroutines : List Status) (sockets : List Socket)
     (descriptors : List DescriptorRow) (free : List ℕ) : Type 0 where
   pub one_inside : (g h d : ℕ) (side : Side) → IsInside goroutines g d side
@@ -163,8 +163,8 @@ pub record GoroutinesFit (goroutines : List Status) (sockets : List Socket)
   pub owed : (g reads writes : ℕ) → HasView owed_of goroutines g (reads, writes)
       → IsField reads × IsField writes × (0 < reads + writes)
 
--- wait words: they hold exactly the parked goroutines, wait means that a goroutine is about to park
--- or to consume the word, and the waiters are counted
+-- wait words: they hold exactly the parked goroutines; a word is wait only if a goroutine is about
+-- to park or to consume it; and the held goroutines are counted
 pub record WaitWordsFit (goroutines : List Status) (descriptors : List DescriptorRow) (waiters : ℕ)
     : Type 0 where
   -- a word holds g exactly if g is parked there
@@ -181,8 +181,8 @@ pub record QueuesFit (goroutines : List Status) (sockets : List Socket) : Type 0
       → count_by (λ h. h == g) (of_side side socket.semaphores).queue
       ≡ bit (is_queued s side (slice_get goroutines g))
 
--- timers: armed ones and firings fit their descriptors, at most one of a side is current, and
--- arming numbers are unique and below the next
+-- timers: armed timers and firings fit their descriptors, at most one timer of a side is current,
+-- and arming numbers are unique and below the next one
 pub record TimersFit (descriptors : List DescriptorRow) (firings : List Entry) (next_arming : ℕ) :
     Type 0 where
   pub entries_fit : (d : ℕ) (row : DescriptorRow) → slice_get descriptors d ≡ Some row → RowFits row
@@ -199,8 +199,8 @@ pub record TimersFit (descriptors : List DescriptorRow) (firings : List Entry) (
   pub numbered : 0 < next_arming
   pub in_range : next_arming < 2 ^ 64
 
--- free descriptor numbers: they were made, each is listed once and is closing, and no goroutine is
--- parked or waiting on its words
+-- free descriptor numbers: each was made, is listed once and belongs to a closing descriptor, and
+-- its words say that no goroutine waits
 pub record FreeFits (descriptors : List DescriptorRow) (free : List ℕ) : Type 0 where
   pub made : All (λ d. d < length descriptors) free
   pub once : (d : ℕ) → count_by (λ f. f == d) free ≤ 1

@@ -31,8 +31,7 @@ recording steps =
       steps = steps;
     }
 
--- the reason for which the first refused step is refused, with that step's number; the first of the
--- list has number k
+-- the number of the first refused step and its reason, if the first step of the list has number k
 abbrev pub first_refused : ℕ → World → List Step → Option (ℕ × Refusal)
 first_refused k w [] = None
 first_refused k w (step ∷ steps) =
@@ -42,8 +41,8 @@ first_refused k w (step ∷ steps) =
 abbrev pub first_refused_of : Recording → Option (ℕ × Refusal)
 first_refused_of r = first_refused 1 (empty_world r.limits) r.steps
 
--- the number of the first refused step of some steps, and the reason, if there is room for two
--- goroutines, a socket and a descriptor
+-- the number of the first refused step and its reason, with room for two goroutines, a socket and a
+-- descriptor
 abbrev pub reason_of : List Step → Option (ℕ × Refusal)
 reason_of steps =
     first_refused 1
@@ -71,7 +70,7 @@ two_readers_and_a_close =
     ∷ RwUnlock 0 0 Side.Read ∷ IncrefClose 2 0 ∷ Decref 2 0 ∷ Exit 2 ∷ []
     )
 
--- a reference is dropped that no goroutine has
+-- a step drops a reference that no goroutine has
 abbrev pub one_reference_given_up_twice : Recording
 one_reference_given_up_twice = recording (SockOpen 1 1 ∷ Incref 0 0 ∷ Decref 0 0 ∷ Decref 0 0 ∷ [])
 

@@ -15,7 +15,8 @@ use Rattle.nr_rev.specs.declared.descriptor.DescriptorRow.{DescriptorRow}
 -- the state of the machine: tables of goroutines, sockets and descriptors, each indexed by number,
 -- the firings of the timer queue, and counters
 pub record World : Type 0 where
-  -- the most goroutines, sockets and descriptors, and the most bytes of a buffer
+  -- the maximum numbers of goroutines, sockets and descriptors, and the maximum capacity of a
+  -- buffer
   pub limits : Limits
   -- the status of each goroutine, by its number, from 0
   pub goroutines : List Status
@@ -31,7 +32,7 @@ pub record World : Type 0 where
   pub clock : ℤ
   -- the number of wait words that hold a parked goroutine: `netpollWaiters`
   pub waiters : ℕ
-  -- the number of the next armed timer: the first one had 1
+  -- the arming number of the next timer to be armed, from 1 on
   pub next_arming : ℕ
 
 -- the state before the first step: goroutine 0 idle, nothing opened, the clock at 0, arming numbers
@@ -72,7 +73,7 @@ wait_of (Swapping d side) = Some (d, side)
 wait_of (Checking d side) = Some (d, side)
 wait_of _ = None
 
--- true if a goroutine's place in a wait, if any, is this descriptor and side
+-- true if a goroutine is inside a wait, and its descriptor and side are these
 abbrev pub is_wait_at : ℕ → Side → Option (ℕ × Side) → Bool
 is_wait_at d side None = false
 is_wait_at d side (Some place) = (d == place.0) && same_side side place.1
@@ -93,6 +94,6 @@ with_socket s socket w = record w { sockets = slice_set w.sockets s socket }
 abbrev pub with_row : ℕ → DescriptorRow → World → World
 with_row d row w = record w { descriptors = slice_set w.descriptors d row }
 
--- the world with a new state of descriptor d, whose row this is; its timers stay
+-- the world with a new state of descriptor d and the timers of its old row
 abbrev pub with_descriptor : ℕ → DescriptorRow → Descriptor → World → World
 with_descriptor d row descriptor w = with_row d (record row { descriptor = descriptor }) w

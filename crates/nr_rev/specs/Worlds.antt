@@ -13,7 +13,7 @@ abbrev pub refusal_of : Outcome → Option Refusal
 refusal_of (Ok left) = None
 refusal_of (Err reason) = Some reason
 
--- the number of bytes that a read got, by its answer
+-- the number of bytes that a read got, according to its answer
 abbrev pub bytes_got : Answer → ℕ
 bytes_got (Got k) = k
 bytes_got _ = 0
@@ -24,7 +24,7 @@ bytes_left (SysRead g s n) answer = bytes_got answer
 bytes_left (Drain s n) answer = n
 bytes_left _ answer = 0
 
--- the step applies, and bytes leave a buffer
+-- true if the step applies, and bytes leave a buffer
 pub record LosesBytes (w : World) (step : Step) : Type 0 where
   pub answer : Answer
   pub next : World

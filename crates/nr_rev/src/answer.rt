@@ -16,7 +16,7 @@ pub enum Answer {
     Done,
     /// The goroutine got what it asked for: the reference, the lock, the semaphore, the parking or the event.
     Yes,
-    /// The goroutine didn't get it; for a lock, because the lock is closed.
+    /// The goroutine didn't get what it asked for; a lock answers this if it is closed.
     No,
     /// The goroutine has to wait.
     Wait,

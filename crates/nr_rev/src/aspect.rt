@@ -23,9 +23,9 @@ pub enum Aspect {
     Locks,
     /// The semaphores of the sockets.
     Semaphores,
-    /// The bytes of the sockets that can be read.
+    /// The bytes that can be read from the sockets.
     Inputs,
-    /// The bytes of the sockets that were written and haven't been sent.
+    /// The bytes that were written to the sockets and haven't been sent.
     Outputs,
     /// Whether the write side of each socket is shut.
     ShutMarks,

@@ -2,7 +2,7 @@
 
 use std::marker::Model;
 
-/// Bytes, which contracts see as a list. They are made from a `Vec`, and turned back into one, without taking memory.
+/// Bytes; contracts see them as a list. Converting them from a `Vec` or back takes no memory.
 #[derive(Drop)]
 pub struct Bytes {
     items: Vec<u8>,

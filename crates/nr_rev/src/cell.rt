@@ -1,11 +1,12 @@
-//! The cells of a world, which can be read.
+//! The cells of a world: the values that can be read from it.
 
 ghost use Rattle.std.specs.Prelude.{◌≡◌, ◌≢◌, ◌==◌, MatchBool, Some, find};
 ghost use Rattle.std.specs.Str.{bytes_eq};
 ghost use Rattle.nr_rev.specs.CellName.{cell_index, cell_name, cell_named, cell_number, cell_numbered, cells_at};
 
-/// A part of a world that has a value, or none. The number is that of a goroutine, a socket or a descriptor. If none
-/// with that number has been made yet, the value is absent. A closed descriptor keeps its values.
+/// A value that can be read from a world. A variant's number is the number of a goroutine, a socket
+/// or a descriptor; if that one hasn't been made yet, the value is absent. A closed descriptor
+/// keeps its values.
 #[derive(Clone, Copy, Debug, PartialEq, Eq)]
 pub enum Cell {
     /// The current time, in nanoseconds.
@@ -189,7 +190,8 @@ impl Cell {
         }
     }
 
-    /// Returns the cell with this name, and with this number if such cells have one.
+    /// Returns the cell with this name and this index, if there is one. The index is the number of
+    /// a goroutine, a socket or a descriptor; a cell that exists once has none.
     pub fn named(name: &[u8], index: Option<u32>) -> Option<Cell>
         ensures { result ≡ cell_named name.now index }
     {
@@ -199,8 +201,9 @@ impl Cell {
         }
     }
 
-    /// Returns the cell of the sort with this number, from 1 on: with an index, that of a goroutine, a socket or a
-    /// descriptor; without an index, a cell that exists once.
+    /// Returns the cell whose sort has this number, from 1 on, with this index, if there is one.
+    /// The index is the number of a goroutine, a socket or a descriptor; a cell that exists once
+    /// has none.
     pub fn numbered(number: u8, index: Option<u32>) -> Option<Cell>
         ensures { result ≡ cell_numbered number index }
     {

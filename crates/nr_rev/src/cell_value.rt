@@ -10,7 +10,7 @@ pub enum CellValue {
     Absent,
     /// A count, a sequence, a summary or a lock word.
     Number(u64),
-    /// A time in nanoseconds: that of a deadline or a timer, or the current time.
+    /// A time in nanoseconds: a deadline, the time at which a timer is due, or the current time.
     Time(i64),
     /// A wait word.
     WaitWord(WaitWord),

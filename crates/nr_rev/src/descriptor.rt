@@ -13,7 +13,7 @@ use crate::timer::Timer;
 pub enum WaitWord {
     /// The side isn't known to be ready, and no goroutine waits.
     Nil,
-    /// The side is ready, and no goroutine has consumed that yet.
+    /// The side is ready, and no goroutine has consumed the word yet.
     Ready,
     /// A goroutine is about to park.
     Wait,
@@ -45,9 +45,9 @@ pub struct Descriptor {
     pub deadlines: Sides<i64>,
     /// Whether a side's timer was armed and hasn't been stopped, `rrun` and `wrun`.
     pub running: Sides<bool>,
-    /// The sequences that tell stale firings, `rseq` and `wseq`.
+    /// The sequences by which stale firings are recognized, `rseq` and `wseq`.
     pub sequences: Sides<u64>,
-    /// The tag that tells stale events.
+    /// The tag by which stale events are recognized, `fdseq`.
     pub fdseq: u64,
     /// The number of the socket that the descriptor was opened for.
     pub socket: u32,
@@ -62,7 +62,8 @@ pub struct DescriptorRow {
     pub timers: Sides<Option<Timer>>,
 }
 
-/// Returns a sequence, a tag or an arming number plus one. Fails with `LastNumber` if it is the greatest 64-bit number.
+/// Returns the next sequence, tag or arming number: this one plus 1. Fails with `LastNumber` if it
+/// is the greatest 64-bit number.
 pub fn raised_sequence(sequence: u64) -> Result<u64, Refusal>
     ensures { result ≡ refusing.raised_sequence sequence }
 {
@@ -72,7 +73,8 @@ pub fn raised_sequence(sequence: u64) -> Result<u64, Refusal>
     Ok(sequence + 1)
 }
 
-/// Returns both sides' sequences plus one, reading first. Fails with `LastNumber` if one is the greatest 64-bit number.
+/// Increments both sides' sequences, the one for reading first. Fails with `LastNumber` if one is
+/// the greatest 64-bit number.
 pub fn both_raised(sequences: Sides<u64>) -> Result<Sides<u64>, Refusal>
     ensures { result ≡ spec.both_raised sequences }
 {
@@ -81,8 +83,8 @@ pub fn both_raised(sequences: Sides<u64>) -> Result<Sides<u64>, Refusal>
     Ok(Sides { read, write })
 }
 
-/// Turns a deadline, counted in nanoseconds from now, into a time. A sum beyond the greatest time becomes the greatest
-/// time. A past deadline, and none, stay as they are.
+/// Turns a deadline, counted in nanoseconds from now, into a time. A sum beyond the greatest time
+/// becomes the greatest time. A past deadline stays as it is, and so does 0, which means none.
 pub fn deadline_from(clock: i64, time: i64) -> i64
     ensures { result ≡ spec.deadline_from clock time }
 {

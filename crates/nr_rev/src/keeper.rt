@@ -1,27 +1,27 @@
-//! The places in which operations store how to undo them.
+//! The places in which operations store their undo.
 
 ghost use Rattle.std.specs.Prelude.{Bool};
 
 use std::mem;
 
-/// A place for what an operation needs to be undone. It either keeps it, or drops it for an operation that nobody
-/// undoes. So a machine's operation is written once, and compiled to two versions.
+/// A place for an operation's undo. It keeps the undo, or drops it if the operation is never
+/// undone. So a machine's operation is written once and compiled in two versions.
 pub trait Keeper<Undo> {
-    /// Whether the place keeps what is put into it. If not, no memory need be taken for it.
+    /// Whether the place keeps the undo. If not, an operation needs no memory for it.
     const KEEPS: bool;
 
     ghost KEEPS: { Bool };
 
-    /// The place holds this undo.
+    /// True if the place holds this undo.
     ghost holds: { Self → Undo → Type 0 };
 
-    /// Puts an undo, in place of any that the place held.
+    /// Stores an undo, and replaces any earlier one.
     fn put(&mut self, undo: Undo)
         ensures { holds self.new undo };
 }
 
-/// A place that keeps nothing. It doesn't free what is put into it either, since no memory was taken for that. So the
-/// compiler need not make it.
+/// A place that keeps nothing. It doesn't free the undo either, since no memory was taken for it.
+/// So the compiler needn't build the undo at all.
 #[derive(Clone, Copy, Debug, Default, PartialEq, Eq)]
 pub struct NoWayBack;
 

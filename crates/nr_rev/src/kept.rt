@@ -4,8 +4,8 @@ use crate::Memory;
 use std::alloc::Global;
 use std::marker::Model;
 
-/// Bytes that are kept so that a step can be undone; contracts see them as a list. They take no spare room: the
-/// capacity is their number.
+/// Bytes that are kept so that a step can be undone; contracts see them as a list. They have no
+/// spare room: the capacity is the number of bytes.
 #[derive(Drop)]
 pub struct KeptBytes {
     items: Vec<u8>,

@@ -82,7 +82,7 @@ impl Kind {
     /// The number of kinds.
     pub const COUNT: usize = 31;
 
-    /// Returns the name with which a recording's line begins, in lower case.
+    /// Returns the name of the kind in lower case; a step's line in a recording begins with it.
     pub fn name(self) -> &'static str
         ensures { result.now ≡ kind_name self }
     {

@@ -16,8 +16,8 @@ ghost use Rattle.nr_rev.specs.declared.kind.TheConstants.Kind.{COUNT as KIND_COU
 ghost use Rattle.nr_rev.specs.Kind.{kind_name, kind_named, kind_number, kind_numbered, kinds};
 ghost use Rattle.nr_rev.specs.declared.limits.TheConstants.{MOST_GOROUTINES, MOST_SOCKETS, MOST_DESCRIPTORS, MOST_BUFFER};
 
-/// The name of a kind is read as that kind, and no other name is. The same holds for its number, which is its place in
-/// the list of all kinds.
+/// Looking up a kind's name finds that kind, and no other name finds it. The same holds for its
+/// number, which is its place in the list of all kinds.
 pub fn kinds_are_read_as_spelled()
     ensures read { (kind : Kind) → kind_named (kind_name kind) ≡ Some kind }
     ensures spelled { (name : List ℕ) (kind : Kind) → kind_named name ≡ Some kind
@@ -29,7 +29,8 @@ pub fn kinds_are_read_as_spelled()
     ensures constant { KIND_COUNT ≡ 31 }
 {}
 
-/// The name and the index of a cell are read as that cell, and no others are. The same holds for its number and index.
+/// Looking up a cell's name and index finds that cell, and no other name or index finds it. The
+/// same holds for its number and index.
 pub fn cells_are_read_as_spelled()
     ensures read { (cell : Cell) → cell_named (cell_name cell) (cell_index cell) ≡ Some cell }
     ensures spelled { (name : List ℕ) (index : Option ℕ) (cell : Cell)
@@ -41,8 +42,8 @@ pub fn cells_are_read_as_spelled()
     ensures constant { CELL_COUNT ≡ 20 }
 {}
 
-/// The weights of what is kept for undoing count everything: each type that they look into has only the counted parts,
-/// so nothing can be kept beside them.
+/// The weights of what is kept for undoing count everything: each weighed type consists of the
+/// counted parts alone, so nothing can be kept uncounted.
 pub fn weights_count_every_part()
     ensures sides { (both : Sides ℕ) → both ≡ record { read = both.read; write = both.write } }
     ensures lock { (lock : Lock) → lock ≡ record {

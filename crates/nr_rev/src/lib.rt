@@ -1,10 +1,11 @@
 //! The vocabulary of a recorded run, the definitions of the model machine, and the contract of a machine whose steps
 //! can be undone.
 //!
-//! The machine models Go's network poller: socket locks after `internal/poll/fd_mutex.go`; descriptors, waits and
-//! deadlines after `runtime/netpoll.go`. Semaphores, sockets, timers and the order of reasons follow rules of its own.
-//! The definitions are in `specs/`: `Step` has the thirty-one steps, `World` the state, `WellFormed` the invariant of
-//! every world that steps lead to, `Cell` the readable values, and `Run` the positions of a recording.
+//! The machine models Go's network poller: socket locks after `internal/poll/fd_mutex.go`;
+//! descriptors, waits and deadlines after `runtime/netpoll.go`. Semaphores, sockets, timers and the
+//! order of reasons follow the machine's own rules. The definitions are in `specs/`: `Step` has the
+//! thirty-one steps, `World` the state, `WellFormed` the invariant of every world that steps lead
+//! to, `Cell` the readable values, and `Run` the positions of a recording.
 #![tactic(auto)]
 
 mod answer;

@@ -3,13 +3,13 @@
 ghost use Rattle.std.specs.Prelude.{◌≡◌, true};
 ghost use Rattle.nr_rev.specs.Limits.{is_limit};
 
-/// The most goroutines that a recording may make.
+/// The maximum number of goroutines that a recording may make.
 pub const MOST_GOROUTINES: u32 = 4_096;
 
-/// The most sockets that a recording may open.
+/// The maximum number of sockets that a recording may open.
 pub const MOST_SOCKETS: u32 = 256;
 
-/// The most descriptors that may be open at once.
+/// The maximum number of descriptors that may be open at once.
 pub const MOST_DESCRIPTORS: u32 = 256;
 
 /// The greatest capacity of a buffer, in bytes.
@@ -18,11 +18,13 @@ pub const MOST_BUFFER: u32 = 1_048_576;
 /// The limits of a recording: the numbers of goroutines, sockets and descriptors, and the size of a buffer in bytes.
 #[derive(Clone, Copy, Debug, PartialEq, Eq)]
 pub struct Limits {
-    /// The most goroutines that may be made, including the first one and those that have ended; 1 to 4,096.
+    /// The maximum number of goroutines, including the first one and those that have ended; 1 to
+    /// 4,096.
     pub goroutines: u32,
-    /// The most sockets that may be opened; 1 to 256.
+    /// The maximum number of sockets; 1 to 256.
     pub sockets: u32,
-    /// The most descriptors that may be open at once; 1 to 256. Twice as many firings may wait.
+    /// The maximum number of descriptors that may be open at once; 1 to 256. Twice as many firings
+    /// may wait to be run.
     pub descriptors: u32,
     /// The greatest capacity of a socket's input or output, and the greatest size of one read, in bytes; 1 to
     /// 1,048,576.

@@ -1,10 +1,11 @@
-//! The error for memory that ran out.
+//! The error for running out of memory.
 
 use std::alloc::{AllocError, AllocFailed};
 
-/// Memory ran out: the error of a call that can fail for no other reason. The field is private, so a `Memory` is made
-/// from the library's own error. Any function can name that type, and no contract prevents a function from making one;
-/// a rule of the repository (`python3 scripts/pages.py refused`) finds each place of the program that does.
+/// Memory ran out: the error of a call that can fail for no other reason. The field is private, so
+/// a `Memory` can only be made from the library's own error. Any function can make that error, and
+/// no contract prevents it; a rule of the repository (`python3 scripts/pages.py refused`) finds
+/// each place in the program where that happens.
 #[derive(Clone, Copy, Debug, PartialEq, Eq)]
 pub struct Memory(AllocError);
 

@@ -2,8 +2,8 @@
 
 use std::marker::Model;
 
-/// The numbers of the goroutines queued at a semaphore, front first; contracts see them as a list. They are made from a
-/// `Vec`, and turned back into one, without taking memory.
+/// The numbers of the goroutines queued at a semaphore, front first; contracts see them as a list.
+/// Converting them from a `Vec` or back takes no memory.
 #[derive(Drop)]
 pub struct Queue {
     items: Vec<u32>,

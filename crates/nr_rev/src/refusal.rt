@@ -14,7 +14,8 @@ pub enum Refusal {
     Memory(Memory),
     /// No goroutine with this number was made, or it has ended.
     NoSuchGoroutine,
-    /// The goroutine is not in the state in which the step begins: not idle, or not at this place of a wait.
+    /// The goroutine is in the wrong state for the step: it is not idle, or not at this place of a
+    /// wait.
     NotThere,
     /// There are as many goroutines, sockets or descriptors as the limits allow.
     TableFull,
@@ -35,13 +36,13 @@ pub enum Refusal {
     AlreadyClosing,
     /// A goroutine is inside a wait of the descriptor that the step closes or resets.
     WaiterInside,
-    /// The time is before now.
+    /// The new time is before the current time.
     ClockGoesBack,
     /// No timer is armed, or the first one is not due yet.
     NoTimerDue,
-    /// Twice as many firings are waiting as there may be descriptors.
+    /// The maximum number of firings, twice the limit of descriptors, are waiting to be run.
     FiringsFull,
-    /// The list of firings has none at this place.
+    /// The list of firings has no firing at this place.
     NoSuchFiring,
     /// The bytes that arrive do not all fit.
     NoRoom,
@@ -90,7 +91,7 @@ impl Refusal {
     }
 }
 
-/// Running out of memory is the reason `Memory`.
+/// Turns the error of running out of memory into the reason `Memory`.
 impl From<Memory> for Refusal {
     ghost from_gives = { λ _ reason. reason ≡ out_of_memory };
 

@@ -8,8 +8,8 @@ ghost use Rattle.nr_rev.specs.Refusing.{out_of_memory};
 
 use crate::refusal::Refusal;
 
-/// A machine whose operations can be undone, each as a whole. This follows GDB's reverse execution, in which a record
-/// of the changes of each instruction leads back over it; here the record is the delta.
+/// A machine whose operations can be undone, each as a whole. This follows GDB's reverse execution,
+/// which undoes each instruction from a record of its changes; here the record is the delta.
 pub trait Reversible {
     /// An operation.
     type Op;
@@ -20,8 +20,9 @@ pub trait Reversible {
     /// The record with which an operation is undone.
     type Delta;
 
-    /// The most words that a delta may hold besides the bytes that left a buffer. A number counts one word for each 64
-    /// bits or part of them, a truth value or a choice one word, and bytes one word for each eight or part of them.
+    /// The maximum number of words in a delta, not counting the bytes that left a buffer. A number
+    /// counts one word for each 64 bits or part of them, a truth value or a choice one word, and
+    /// bytes one word for each eight or part of them.
     const WORDS: u32;
 
     ghost WORDS: { ℕ };
@@ -29,28 +30,30 @@ pub trait Reversible {
     /// True of the states in which an operation may be applied.
     ghost is_well_formed: { Self → Type 0 };
 
-    /// True if the operation may give this answer and lead from the old state to the new one.
+    /// True if the operation, with this answer, can turn the old state into the new one.
     ghost steps: { Self → Self.Op → Self.Answer → Self → Type 0 };
 
     /// The reason why the operation does not apply in the state, other than running out of memory.
     ghost reason: { Self → Self.Op → Option Refusal };
 
-    /// True of the operations that take memory in the state, and so may run out of it.
+    /// True of the operations that take memory in the state, and so may fail for lack of it.
     ghost takes_memory: { Self → Self.Op → Type 0 };
 
-    /// True if the delta leads back from the new state to the old one.
+    /// True if undoing the delta turns the new state back into the old one.
     ghost back: { Self.Delta → Self → Self → Type 0 };
 
     /// The number of words in the delta.
     ghost weight: { Self.Delta → ℕ };
 
-    /// The most words that the operation's delta may hold besides the bytes that left a buffer.
+    /// The maximum number of words in the operation's delta, not counting the bytes that left a
+    /// buffer.
     ghost allowance: { Self.Op → ℕ };
 
     /// The number of bytes that an operation with this answer took out of a buffer.
     ghost bytes_out: { Self.Op → Self.Answer → ℕ };
 
-    /// Applies the operation and returns its answer and its delta. Otherwise changes nothing and returns the reason.
+    /// Applies the operation and returns its answer and its delta. If the operation doesn't apply,
+    /// changes nothing and returns the reason.
     fn apply(&mut self, op: &Self::Op) -> Result<(Self::Answer, Self::Delta), Refusal>
         requires { is_well_formed self.old }
         ensures step { IfOk result (λ r. steps self.old op.now r.0 self.new) }
@@ -60,24 +63,24 @@ pub trait Reversible {
         ensures refusal { IfErr result (Refuses reason takes_memory self.old op.now) }
         ensures unchanged { OnErr result (self.new ≡ self.old) };
 
-    /// Undoes the step that gave the delta, and leaves the one state to which the delta leads back.
+    /// Undoes the step that returned the delta, and so restores the state before that step.
     fn undo(&mut self, delta: Self::Delta)
         requires { (old : Self) × back delta self.old old }
         ensures { back delta self.old self.new };
 
-    /// A delta leads back to at most one state.
+    /// From a given state, undoing a delta restores at most one state.
     ghost back_is_unique: { (delta : Self.Delta) (new a b : Self) → back delta new a
         → back delta new b → a ≡ b };
 
-    /// If there is a reason, no step is possible.
+    /// An operation that has a reason not to apply has no step.
     ghost refused_has_no_step: { (old : Self) (op : Self.Op) (e : Refusal) (answer : Self.Answer)
         (new : Self) → reason old op ≡ Some e → steps old op answer new → ⊥ };
 
-    /// No state has running out of memory as its reason.
+    /// In a well-formed state, the reason is never running out of memory.
     ghost memory_is_no_reason: { (old : Self) (op : Self.Op) → is_well_formed old
         → reason old op ≡ Some out_of_memory → ⊥ };
 
-    /// In a given state, an operation has only one answer and leads to only one state.
+    /// In a given state, an operation has only one answer and only one new state.
     ghost steps_unique: { (old : Self) (op : Self.Op) (a b : Self.Answer) (new other : Self)
         → steps old op a new → steps old op b other → (a ≡ b) × (new ≡ other) };
 

@@ -6,8 +6,9 @@ use crate::Memory;
 use std::alloc::Global;
 use std::marker::Model;
 
-/// A list of at most `room` items; contracts see the items and the room. The constructor takes all its memory. No other
-/// method takes any, so undoing a step can't run out of memory.
+/// A list of at most `room` items; contracts see the items and the room. The constructor takes all
+/// its memory. No other method takes any for this list, so undoing a step can't run out of memory;
+/// `try_copy` takes memory for the copy.
 #[derive(Drop)]
 pub struct RoomedList<T> {
     items: Vec<T>,
@@ -141,7 +142,7 @@ impl<T: Copy + Drop> RoomedList<T> {
         Ok(copy)
     }
 
-    /// Becomes equal to another list, which has no more room than this one. It takes no memory.
+    /// Copies the items of another list, which has no more room than this one. Takes no memory.
     pub fn copy_from(&mut self, other: &RoomedList<T>)
         requires { other.now.room ≤ self.old.room }
         ensures { self.new ≡ record self.old { items = other.now.items } }

@@ -25,7 +25,7 @@ impl Side {
     }
 }
 
-/// The sides that a deadline or an event is for.
+/// The sides that a deadline or an event applies to.
 #[derive(Clone, Copy, Debug, PartialEq, Eq)]
 pub enum Mode {
     /// Reading only.
@@ -40,7 +40,7 @@ impl Mode {
     ghost use Rattle.std.specs.Prelude.{◌≡◌};
     ghost use Rattle.nr_rev.specs.Sides.{names_side};
 
-    /// Returns whether the mode names a side.
+    /// Returns whether the mode includes a side.
     pub fn names(self, side: Side) -> bool
         ensures { result ≡ names_side self side }
     {
@@ -85,7 +85,7 @@ impl<T: Copy> Sides<T> {
         }
     }
 
-    /// Returns the pair with a new value for one side; the other stays.
+    /// Returns the pair with a new value for one side; the other side keeps its value.
     pub fn with(self, side: Side, new: T) -> Self
         ensures { result ≡ with_side side new self }
     {

@@ -103,8 +103,8 @@ impl Status {
         }
     }
 
-    /// Returns whether the goroutine may try the lock of a socket's side: it is idle, or has acquired the semaphore
-    /// there.
+    /// Returns whether the goroutine may try the lock of a socket's side: it is idle, or has
+    /// acquired that side's semaphore.
     #[inline(always)]
     pub fn may_lock(self, socket: u32, side: Side) -> bool
         ensures { result ≡ step.may_lock socket side self }
@@ -119,7 +119,8 @@ impl Status {
         }
     }
 
-    /// Returns the status of a goroutine that owes these releases of a socket's semaphores, or none.
+    /// Returns the status of a goroutine that owes these releases of a socket's semaphores: idle if
+    /// it owes none.
     #[inline(always)]
     pub fn owing(socket: u32, owed: Sides<u32>) -> Status
         ensures { result ≡ step.owing socket owed }

@@ -115,7 +115,8 @@ pub enum Step {
     BlockArm {
         goroutine: u32,
     },
-    /// `netpollblock`, the check after the word was set. Answers its `Code`; 0 leads to parking.
+    /// `netpollblock`, the check after the word was set. Answers its `Code`; if that is 0, the
+    /// goroutine goes on to park.
     BlockCheck {
         goroutine: u32,
     },
@@ -128,7 +129,8 @@ pub enum Step {
     BlockSwap {
         goroutine: u32,
     },
-    /// `runtime_pollWait`, the check after `netpollblock`. Answers its `Code`; 0 leads back into the wait.
+    /// `runtime_pollWait`, the check after `netpollblock`. Answers its `Code`; if that is 0, the
+    /// goroutine waits again.
     WaitCheck {
         goroutine: u32,
     },
@@ -157,10 +159,11 @@ pub enum Step {
     Tick {
         time: i64,
     },
-    /// The next due timer goes off: it is no longer armed, and its firing waits. Answers `Done`.
+    /// The next due timer goes off: it is no longer armed, and its firing waits to be run. Answers
+    /// `Done`.
     Pop,
-    /// `netpollReadDeadline` or one of its kind: runs the firing at this place, from 0. Answers `Done`, or `Stale` if
-    /// its sequence is old.
+    /// `netpollReadDeadline`, `netpollWriteDeadline` or `netpollDeadline`: runs the firing at this
+    /// place of the list, counted from 0. Answers `Done`, or `Stale` if its sequence is old.
     Fire {
         place: u32,
     },

@@ -49,8 +49,8 @@ pub struct Timer {
     pub number: u64,
     /// The function that the timer runs.
     pub function: TimerFunction,
-    /// The sequence that the timer's side had when the timer was armed. If the side has another one now, the firing is
-    /// stale.
+    /// The sequence that the timer's side had when the timer was armed. If the side has another
+    /// sequence now, the firing is stale.
     pub sequence: u64,
 }
 

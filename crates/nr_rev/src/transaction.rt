@@ -1,4 +1,4 @@
-//! Transactions: all of some operations, or none.
+//! Transactions: several operations, of which all are applied or none.
 
 ghost use Rattle.std.specs.Prelude.{◌≡◌, ◌≤◌, [], length, OnOk, OnErr, IfErr};
 ghost use Rattle.nr_rev.specs.Reversible.{Refuses};
@@ -9,7 +9,8 @@ use crate::refusal::Refusal;
 use crate::reversible::Reversible;
 use arrayvec::ArrayVec;
 
-/// Undoes the deltas from the last to the first, and leaves none. It takes no memory and can't fail.
+/// Undoes the deltas from the last to the first, and empties the list. Takes no memory and can't
+/// fail.
 pub fn undo_all<S: Reversible>(state: &mut S, deltas: &mut ArrayVec<S::Delta, 8>)
 where
     S::Delta: Default + Drop,
@@ -22,9 +23,10 @@ where
     }
 }
 
-/// Applies all the operations in order, or none of them: if one doesn't apply, it undoes those before it. `out` then
-/// has a delta for each operation, in order, so that `undo_all` can undo them. If an operation does not apply after
-/// those before it, returns the reason for that; the state is as it was before, and `out` is empty.
+/// Applies all the operations in order, or none of them: if one doesn't apply, it undoes those
+/// before it. On success, `out` has a delta for each operation, in order, so that `undo_all` can
+/// undo them. Otherwise, returns the reason of the first operation that doesn't apply; the state is
+/// as it was before, and `out` is empty.
 pub fn transact<S: Reversible>(
     state: &mut S,
     ops: &[S::Op],
@@ -44,7 +46,8 @@ where
         (IsLight S.weight S.allowance S.bytes_out) state.old ops.now out.new.items state.new) }
     ensures leads_back { OnOk result (LeadsBack S.back out.new.items state.new state.old) }
 
-    // Or no operation is applied, and the error is the reason for which the first one that doesn't apply is refused.
+    // Otherwise, no operation is applied, and the error is the reason of the first one that is
+    // refused.
     ensures refusal { IfErr result
         (FirstRefused S.steps (Refuses S.reason S.takes_memory) state.old ops.now) }
     ensures unchanged { OnErr result (state.new ≡ state.old) }

@@ -21,8 +21,9 @@ ghost use Rattle.nr_rev.specs.declared.cell_value.CellValue.{CellValue};
 ghost use Rattle.nr_rev.specs.declared.kind.Kind.{Kind};
 ghost use Rattle.nr_rev.specs.declared.step.Step.{Step};
 
-/// The operations of `internal/poll/fd_mutex.go` on single lock words. `increfAndClose` wakes every waiter of both
-/// sides, and `rwunlock` one of its side. `incref` of a full word, for which Go panics, is refused and changes nothing.
+/// The operations of `internal/poll/fd_mutex.go` on single lock words. `increfAndClose` wakes every
+/// waiter of both sides, and `rwunlock` one waiter of its side. `incref` of a word whose reference
+/// count is full, at which Go panics, is refused and changes nothing.
 pub fn lock_words_hold()
     ensures three_waiters { lock_number a_lock_with_three_waiters ≡ 8796109799434 }
     ensures three_waiters_closed { lock_left_by (incref_close a_lock_with_three_waiters)
@@ -141,8 +142,8 @@ pub fn event_and_output_recordings_hold()
     ensures output_gone { bytes_of (world_at a_drained_output 3) 0 Side.Write ≡ Some [] }
 {}
 
-/// A write side is shut: a later write is answered with a broken pipe and puts nothing, earlier bytes are still sent,
-/// and a second shutdown changes nothing.
+/// A write side is shut: a later write is answered with a broken pipe and writes nothing, earlier
+/// bytes are still sent, and a second shutdown changes nothing.
 pub fn shut_write_side_recording_holds()
     ensures shut_at_start { cell_after a_shut_write_side 0 (Cell.Shut 0) ≡ CellValue.Absent }
     ensures shut_at_two { cell_after a_shut_write_side 2 (Cell.Shut 0) ≡ CellValue.Number 0 }

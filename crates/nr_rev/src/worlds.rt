@@ -28,7 +28,7 @@ use std::alloc::Global;
 
 /// A machine of goroutines, sockets, descriptors and timers that replays recorded steps and undoes them.
 pub trait Worlds: Reversible<Op = Step, Answer = Answer> + Sized {
-    /// A stored world, as a film keeps it: it holds the contents, and no spare room.
+    /// A stored world, as a film keeps it: its contents, without spare room.
     type Snapshot;
 
     /// The abstract world that a state represents.
@@ -37,8 +37,9 @@ pub trait Worlds: Reversible<Op = Step, Answer = Answer> + Sized {
     /// The state that a snapshot stores.
     ghost kept: { Self.Snapshot → Self };
 
-    /// Makes the world before the first step: goroutine 0 is idle, and nothing else exists. This takes all the memory
-    /// that the limits allow the world, so later only dumps and steps that keep bytes take memory.
+    /// Makes the world before the first step: goroutine 0 is idle, and nothing else exists. Takes
+    /// all the memory that the limits allow the world, so a later step takes memory only if its
+    /// delta keeps bytes.
     fn fresh(alloc: Global, limits: Limits) -> Result<Self, Memory>
         requires { AreInRange limits }
         ensures well_formed { IfOk result (λ w. Self.is_well_formed w) }
@@ -48,8 +49,9 @@ pub trait Worlds: Reversible<Op = Step, Answer = Answer> + Sized {
     fn try_copy(&self) -> Result<Self, Memory>
         ensures { IfOk result (λ w. w ≡ self.now) };
 
-    /// Returns a snapshot of the world, whatever `last` is. The snapshot may share with `last` what is the same in
-    /// both. It takes memory for the contents, and none for the spare room that the limits allow.
+    /// Returns a snapshot of the world. Parts that are the same in the snapshot `last` may be
+    /// shared with it. Takes memory for the contents, and none for the spare room that the limits
+    /// allow.
     fn snapshot(&self, last: Option<&Self::Snapshot>) -> Result<Self::Snapshot, Memory>
         ensures { IfOk result (λ snapshot. kept snapshot ≡ self.now) };
 
@@ -57,8 +59,8 @@ pub trait Worlds: Reversible<Op = Step, Answer = Answer> + Sized {
     fn restored(snapshot: &Self::Snapshot) -> Result<Self, Memory>
         ensures { IfOk result (λ w. w ≡ kept snapshot.now) };
 
-    /// Becomes the world that the snapshot stores. If both have the same limits, it reuses its room and takes no
-    /// memory.
+    /// Becomes the world that the snapshot stores. If both have the same limits, this world reuses
+    /// its room, and the call takes no memory and can't fail.
     fn restore(&mut self, snapshot: &Self::Snapshot) -> Result<(), Memory>
         requires well_formed { Self.is_well_formed self.old }
         requires kept { Self.is_well_formed (kept snapshot.now) }
@@ -66,7 +68,7 @@ pub trait Worlds: Reversible<Op = Step, Answer = Answer> + Sized {
         ensures unchanged { OnErr result (self.new ≡ self.old) }
         ensures limits { OnErr result ((world self.old).limits ≢ (world (kept snapshot.now)).limits) };
 
-    /// Returns a delta that restores nothing, for use as a place that `apply_to` writes.
+    /// Returns an empty delta, as a place for `apply_to` to write to.
     fn no_delta() -> Self::Delta;
 
     /// Applies the step as `apply` does, and stores its delta in `delta`. If the step does not apply, `delta` may hold
@@ -110,11 +112,11 @@ pub trait Worlds: Reversible<Op = Step, Answer = Answer> + Sized {
         ensures ok { IfOk result (λ queue. queue ≡ queue_of (world self.now) socket side) }
         ensures some { OnErr result (HasItems (queue_of (world self.now) socket side)) };
 
-    /// The steps of the type are those of the machine.
+    /// Each step of the type is the step in the machine's definition.
     ghost steps_are: { (old : Self) (step : Step) (answer : Answer) (new : Self)
         → Self.steps old step answer new → outcome (world old) step ≡ Ok (answer, world new) };
 
-    /// The reasons for which the type refuses a step are those of the machine.
+    /// The type refuses a step for the reason in the machine's definition.
     ghost reasons_are: { (old : Self) (step : Step) → Self.reason old step
         ≡ refusal_of (outcome (world old) step) };
 
@@ -122,7 +124,7 @@ pub trait Worlds: Reversible<Op = Step, Answer = Answer> + Sized {
     ghost memory_is_for_bytes: { (old : Self) (step : Step) → Self.takes_memory old step
         → LosesBytes (world old) step };
 
-    /// The additional weight that a delta is allowed is for the bytes that leave a buffer.
+    /// The extra weight that a delta is allowed counts the bytes that leave a buffer.
     ghost bytes_out_are: { (step : Step) (answer : Answer) → Self.bytes_out step answer
         ≡ bytes_left step answer };
 

@@ -6,7 +6,7 @@ use Rattle.nr_rev.specs.Refusing.{◌>>=◌}
 use Rattle.nr_rev.specs.declared.descriptor.Descriptor.{Descriptor}
 use Rattle.nr_rev.specs.Descriptor.{Change, and_then, timer_follows}
 
--- both timers after the deadlines of `old` became those of d, reading first
+-- adjusts both sides' timers, reading first, after the deadlines of `old` became those of d
 abbrev pub both_follow : Descriptor → Descriptor → Result Change Refusal
 both_follow old d = do
   read ← timer_follows Read old d

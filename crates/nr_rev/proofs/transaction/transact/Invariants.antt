@@ -3,7 +3,7 @@ use Rattle.nr_rev.specs.Auxiliary.Reversible.{IsLight}
 use Rattle.nr_rev.specs.Transaction.{Applied}
 use Rattle.nr_rev.proofs.transaction.transact.Given as goal
 
--- the operations so far are applied
+-- the operations so far have been applied
 abbrev pub invariant-loop-op : goal.invariant-loop-op
 invariant-loop-op g l =
     let machine = g.S.Reversible in
