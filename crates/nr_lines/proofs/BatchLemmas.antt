@@ -1,4 +1,4 @@
--- The lines of one read: their texts, and the place at which a write failed.
+-- The lines that end in one read: their texts, and the place at which a write failed.
 use Rattle.std.proofs.Common.{◌≡◌, ℕ, ◌+◌, ◌<◌, ◌≤◌, Bool, ◌||◌, true, false, List, [], ◌∷◌, ◌++◌, arith, length, take, drop, refl, sym, ap, ◌∙◌, subst, nat_lt, append_assoc, append-nil, length-append, length-drop, take-append-drop}
 use Rattle.std.proofs.lemmas.List.{take-append-le, take_at, drop_at, drop-append-le}
 use Rattle.std.proofs.lemmas.Bool.{ltb-false, ltb-true, false≢true}
@@ -17,7 +17,7 @@ use Rattle.nr_lines.specs.declared.ending.LineEnd.{LineEnd}
 use Rattle.nr_lines.specs.declared.ending.LineEnd.TheVariants.{Write}
 use Rattle.nr_lines.proofs.TurnLemmas.{concat_more, counted_text, some_count-append, turns_more}
 
--- no line has had its turn yet
+-- before the first line
 pub no_lines : (d : FrontState) (w : Outgoing) (whole : ℕ) → Batch d d w w [] [] whole whole
 no_lines d w whole = record {
   texts = [];
@@ -28,7 +28,7 @@ no_lines d w whole = record {
   count = λ n is. omega (arith, is);
 }
 
--- one more line
+-- after one more line
 pub lines_more : (d p p' : FrontState) (old w w' : Outgoing) (held still : List ℕ) (lines : List (List ℕ)) (line text : List ℕ) (whole mid whole' : ℕ) → Batch d p old w held lines whole mid → Turn p line text p'
     → GoesBehind w held text w' still → whole' ≡ count_with mid text → Batch d p' old w' still (lines ++ line ∷ []) whole whole'
 lines_more d p p' old w w' held still lines line text whole mid whole' b turn goes counted = record {
@@ -43,7 +43,7 @@ lines_more d p p' old w w' held still lines line text whole mid whole' b turn go
       ∙ ap saturating_count (let more = some_count-append b.texts (text ∷ []) in omega (arith, more));
 }
 
--- the held bytes are out
+-- after the held bytes were written
 pub all_out : (d d' : FrontState) (old w w' : Outgoing) (held : List ℕ) (lines : List (List ℕ)) (whole whole' : ℕ) → Batch d d' old w held lines whole whole' → WritesAll w w' held → Batch d d' old w' [] lines whole whole'
 all_out d d' old w w' held lines whole whole' b goes = record {
   texts = b.texts;
@@ -54,7 +54,7 @@ all_out d d' old w w' held lines whole whole' b goes = record {
   count = b.count;
 }
 
--- true if none of the lines before the last is quit
+-- true if no line before the last one is `quit`
 abbrev pub NoneBefore : List (List ℕ) → Type 0
 NoneBefore [] = Unit {0}
 NoneBefore (line ∷ []) = Unit {0}
@@ -74,7 +74,7 @@ none_before [] e = tt
 none_before (x ∷ []) e = tt
 none_before (x ∷ y ∷ more) e = let both = or_false (is_quit (meaning_of x)) (has_quit (y ∷ more)) e in (both.0, none_before (y ∷ more) both.1)
 
--- the place, among the texts of some lines, at which the bytes that are out end
+-- the line in whose text the written bytes end
 pub record Found (d d' : FrontState) (lines : List (List ℕ)) (out : List ℕ) : Type 0 where
   pub front : List (List ℕ)
   pub line : List ℕ
@@ -93,7 +93,7 @@ pub record Found (d d' : FrontState) (lines : List (List ℕ)) (out : List ℕ) 
   pub within : n < length text
   pub written : out ≡ concat texts ++ take n text
 
--- the bytes end within the first text
+-- the written bytes end within the first text
 found_here : (d mid d' : FrontState) (line : List ℕ) (lines : List (List ℕ)) (text : List ℕ) (texts : List (List ℕ)) (out lost : List ℕ) → Turn d line text mid → Turns mid lines texts d'
     → text ++ concat texts ≡ out ++ lost → length out < length text → Found d d' (line ∷ lines) out
 found_here d mid d' line lines text texts out lost turn turns e within = record {
@@ -115,7 +115,7 @@ found_here d mid d' line lines text texts out lost turn turns e within = record 
   written = sym (take_at out lost (length out) refl) ∙ ap (take (length out)) (sym e) ∙ take-append-le (length out) text (concat texts) (omega (arith, within));
 }
 
--- the bytes end after the first text
+-- the written bytes end after the first text
 found_there : (d mid d' : FrontState) (line : List ℕ) (lines : List (List ℕ)) (text out : List ℕ) → Turn d line text mid → is_quit (meaning_of line) ≡ false → take (length text) out ≡ text
     → Found mid d' lines (drop (length text) out) → Found d d' (line ∷ lines) out
 found_there d mid d' line lines text out turn goes first f = record {
@@ -142,7 +142,7 @@ found_there d mid d' line lines text out turn goes first f = record {
 none_lost : (out lost : List ℕ) → [] ≡ out ++ lost → 0 < length lost → ⊥
 none_lost out lost e some = let len : 0 ≡ length (out ++ lost) = ap length e in omega (arith, len, length-append out lost, some)
 
--- either some bytes end within a text, or after it
+-- the written bytes end within the first text or after it
 split_at : (F : Type 0) (text rest out lost : List ℕ) → text ++ rest ≡ out ++ lost → (length out < length text → F) → (take (length text) out ≡ text → rest ≡ drop (length text) out ++ lost → F) → F
 split_at F text rest out lost e inside behind =
     elim (nat_lt (length out) (length text)) as (λ t. nat_lt (length out) (length text) ≡ t → F) [
@@ -168,7 +168,7 @@ found d d' (line ∷ next ∷ more) (text ∷ texts) out lost (mid, turn, turns)
     (λ inside. found_here d mid d' line (next ∷ more) text texts out lost turn turns e inside)
     (λ first later. found_there d mid d' line (next ∷ more) text out turn goes first (found mid d' (next ∷ more) texts (drop (length text) out) lost turns later some none))
 
--- the place that was found is the one at which a write failed
+-- the place at which the written bytes end is the place at which a write failed
 cut_found : (d d' : FrontState) (old w : Outgoing) (ran more lines : List (List ℕ)) (out : List ℕ) (whole counted part : ℕ) (e : LineEnd) → Found d d' ran out → lines ≡ ran ++ more → Sends old w out
     → e ≡ Write counted part → Cut false d d' old w lines whole e
 cut_found d d' old w ran more lines out whole counted part e f lines_are sends ending = record {
@@ -193,7 +193,7 @@ cut_found d d' old w ran more lines out whole counted part e f lines_are sends e
   exact = λ (once : false ≡ true). cc;
 }
 
--- a write failed within the held bytes of the texts of these lines
+-- a write of the held bytes of these lines failed
 pub cut_held : (d d' : FrontState) (old w w' : Outgoing) (held : List ℕ) (ran more lines : List (List ℕ)) (whole mid whole' : ℕ) (e : LineEnd) (at_once : Bool) → (at_once ≡ true → held ≡ [])
     → Batch d d' old w held ran whole mid → NoneBefore ran → FailsToPutOut w w' held whole' e → lines ≡ ran ++ more → Cut at_once d d' old w' lines whole e
 cut_held d d' old w w' held ran more lines whole mid whole' e true none b quiet fails lines_are =
@@ -207,7 +207,7 @@ cut_held d d' old w w' held ran more lines whole mid whole' e false none b quiet
     cut_found d d' old w' ran more lines (b.out ++ take n held) whole whole' fails.part e (found d d' ran b.texts (b.out ++ take n held) (drop n held) b.turns all lost quiet) lines_are
     (sends_then old w w' b.out (take n held) b.sends fails.cut.out) fails.ending
 
--- each reply is written immediately, and a write failed within the text of this line
+-- each reply is written immediately, and a write of this line's text failed
 cut_at_once : (d p p' : FrontState) (old w w' : Outgoing) (ran more lines : List (List ℕ)) (line text : List ℕ) (whole mid part : ℕ) (e : LineEnd) → Batch d p old w [] ran whole mid → has_quit ran ≡ false
     → Turn p line text p' → CutBehind w [] text w' part → e ≡ Write mid part → lines ≡ ran ++ line ∷ more → Cut true d p' old w' lines whole e
 cut_at_once d p p' old w w' ran more lines line text whole mid part e b goes turn cut ending lines_are = record {
@@ -233,7 +233,7 @@ cut_at_once d p p' old w w' ran more lines line text whole mid part e b goes tur
   exact = λ once. (refl, λ k is. ending ∙ ap (λ (c : ℕ). Write c part) (b.count k is) ∙ ap (λ (c : ℕ). Write (saturating_count (k + some_count b.texts)) c) (cut.count_is refl));
 }
 
--- a write failed when the text of this line was printed
+-- a write failed while the text of this line was printed
 pub cut_printing : (d p p' : FrontState) (old w w' : Outgoing) (held : List ℕ) (ran more lines : List (List ℕ)) (line text : List ℕ) (whole mid part : ℕ) (e : LineEnd) (at_once : Bool)
     → (at_once ≡ true → held ≡ []) → Batch d p old w held ran whole mid → has_quit ran ≡ false → Turn p line text p' → CutBehind w held text w' part → e ≡ Write mid part
     → lines ≡ ran ++ line ∷ more → Cut at_once d p' old w' lines whole e

@@ -26,7 +26,7 @@ use Rattle.nr_lines.specs.LoopInvariant.{AnswersBy, LoopInvariant, unfinished_li
 use Rattle.nr_lines.proofs.LineLemmas.{lines_at_end}
 use Rattle.nr_lines.proofs.TurnLemmas.{has_quit-append, one_text_each, some_count-append, turns_append}
 
--- a prompt read still is prompt if more lines have texts
+-- a prompt read remains prompt after more lines are answered
 pub prompt_more : (from : Incoming) (old : Outgoing) (moments : List Moment) (lines texts later more : List (List ℕ)) → ArePrompt from old moments lines texts
     → ArePrompt from old moments (lines ++ later) (texts ++ more)
 prompt_more from old moments lines texts later more all =
@@ -43,11 +43,11 @@ prompt_more from old moments lines texts later more all =
       unended = p.unended;
     }) moments all
 
--- true if the end isn't found now unless it was found then
+-- true if the second state has found the end only if the first had
 abbrev pub StaysOpen : Incoming → Incoming → Type 0
 StaysOpen r r' = r.ended ≡ false → r'.ended ≡ false
 
--- a read now is prompt: all whole lines are answered
+-- a read made now is prompt, since all whole lines are answered
 prompt_now : (r r' : Incoming) (w w' : Outgoing) (p p' : FrontState) (read line : List ℕ) (whole : ℕ) (st : LoopInvariant r r' w w' p p' read read line whole) → StaysOpen r r' → (m : Moment)
     → IsNow r' w' m → IsPrompt r w (whole_lines read) st.texts m
 prompt_now r r' w w' p p' read line whole st unended m now = record {
@@ -63,7 +63,7 @@ prompt_now r r' w w' p p' read line whole st unended m now = record {
   unended = λ none. now.2 (unended none);
 }
 
--- the reads so far, and those of now
+-- the reads so far, with the reads made now
 passes_more : (r r' r'' : Incoming) (before now : List Moment) → Passes r r' before → Passes r' r'' now → Passes r r'' (before ++ now)
 passes_more r r' r'' before now first then = then ∙ ap (λ (l : List Moment). l ++ now) first ∙ append_assoc r.moments before now
 
@@ -73,12 +73,12 @@ prompt_still r r' w w' p p' read line whole st unended now all =
     All-append (IsPrompt r w (whole_lines read) st.texts) st.moments now st.prompt
     (All-weaker (IsNow r' w') (IsPrompt r w (whole_lines read) st.texts) (prompt_now r r' w w' p p' read line whole st unended) now all)
 
--- the written bytes with more texts
+-- the written bytes after more texts were written
 written_more : (old w w' : Outgoing) (texts more : List (List ℕ)) (out : List ℕ) → Sends old w (concat texts) → Sends w w' out → concat more ≡ out ++ [] → Sends old w' (concat (texts ++ more))
 written_more old w w' texts more out so_far later all =
     subst (Sends old w') (ap (λ (l : List ℕ). concat texts ++ l) (sym (append-nil out) ∙ sym all) ∙ sym (concat-append texts more)) (sends_then old w w' (concat texts) out so_far later)
 
--- the lines of one read were answered, and none was quit
+-- the lines that end in one read were answered, and none of them is `quit`
 pub goes_on : (from left : Incoming) (old w w' : Outgoing) (d p p' : FrontState) (came read line line' : List ℕ) (lines : List (List ℕ)) (whole whole' : ℕ)
     → LoopInvariant from left old w d p came read line whole → whole_lines came ≡ whole_lines read ++ lines → Batch p p' w w' [] lines whole whole' → has_quit lines ≡ false
     → line' ≡ take 257 (unfinished_line came) → LoopInvariant from left old w' d p' came came line' whole'
@@ -95,7 +95,7 @@ goes_on from left old w w' d p p' came read line line' lines whole whole' st lin
   count = b.count (some_count st.texts) st.count ∙ ap saturating_count (sym (some_count-append st.texts b.texts));
 }
 
--- a line is quit: these lines, of which it is one
+-- one of these lines is `quit`
 pub quits : (from left : Incoming) (old w w' : Outgoing) (d p p' : FrontState) (came read kept : List ℕ) (front : List (List ℕ)) (line : List ℕ) (back : List (List ℕ)) (whole whole' : ℕ) (ended : Bool)
     → LoopInvariant from left old w d p came read kept whole → lines_of ended came ≡ whole_lines read ++ (front ++ line ∷ back) → (ended ≡ true → IsOver left)
     → Batch p p' w w' [] (front ++ line ∷ []) whole whole' → has_quit front ≡ false → is_quit (meaning_of line) ≡ true → AnswersLines from left old w' d p' (Ok Quit)
@@ -125,7 +125,7 @@ quits from left old w w' d p p' came read kept front line back whole whole' ende
       };
     }
 
--- a write failed, and lines up to the one whose text was cut are answered
+-- a write failed, and the lines up to the line whose text was cut were answered
 abbrev cut_lines : (from left : Incoming) (old w w' : Outgoing) (d p p' : FrontState) (came read kept : List ℕ) (lines : List (List ℕ)) (whole : ℕ) (ended at_once : Bool) (e : LineEnd)
     → (st : LoopInvariant from left old w d p came read kept whole) → lines_of ended came ≡ whole_lines read ++ lines → (ended ≡ true → IsOver left) → (c : Cut at_once p p' w w' lines whole e)
     → AnswersLines from left old w' d c.after (Err (Write (saturating_count (some_count (st.texts ++ c.texts))) (saturating_count c.n)))
@@ -194,7 +194,7 @@ cut from left old w w' d p p' came read kept lines whole ended at_once e st line
           (subst (λ (x : FrontState). AnswersLines from left old w' d x (Err (Write (saturating_count (some_count (st.texts ++ c.texts))) (saturating_count c.n)))) (sym (c.exact once).0) answers);
     }
 
--- whether a read failed, and whether a write failed, without the counts
+-- whether a read or a write failed, according to the result without the counts
 reads_of : Result End StreamFailure → Bool
 reads_of (Err failures.Read) = true
 reads_of _ = false
@@ -215,7 +215,7 @@ writes_same (Ok end) = refl
 writes_same (Err Read) = refl
 writes_same (Err (Write whole part)) = refl
 
--- replies went out together, and the counts aren't reported
+-- the replies were written together, so the counts aren't reported
 pub together : (at_once : Bool) (from left : Incoming) (old new : Outgoing) (d d' : FrontState) (result : Result End LineEnd) (uncounted : Result End StreamFailure) → AnswersBy at_once from left old new d d' result
     → left.failed ≡ is_read_failure result → new.failed ≡ is_write_failure result → without_counts result ≡ uncounted → AnswersTogether from left old new d d' uncounted
 together at_once from left old new d d' result uncounted a reading writing is = record {
@@ -247,7 +247,7 @@ uncut at_once from left old new d d' result answers = record {
   exact = λ _. answers;
 }
 
--- the line that follows the last line feed, at the end
+-- at the end of the text, what follows the last line feed is a line
 last_line : (read line : List ℕ) → line ≡ take 257 (unfinished_line read) → 0 < length line → lines_of true read ≡ whole_lines read ++ unfinished_line read ∷ []
 last_line read line kept some =
     let len : length line ≡ min 257 (length (unfinished_line read)) = ap length kept ∙ length-take 257 (unfinished_line read) in
@@ -277,7 +277,7 @@ closed r r' w w' p p' read line whole st at_end none = record {
   );
 }
 
--- a read failed, or no more reads are tried
+-- a read failed, or the loop gave up
 pub stopped : (r r' r'' : Incoming) (w w' : Outgoing) (p p' : FrontState) (read line : List ℕ) (whole : ℕ) → LoopInvariant r r' w w' p p' read read line whole → StaysOpen r r' → Receives r' r'' []
     → (moments : List Moment) → ReadsAt r' r'' w' moments → AnswersLines r r'' w w' p p' (Err Read)
 stopped r r' r'' w w' p p' read line whole st unended none moments now = record {
@@ -292,11 +292,11 @@ stopped r r' r'' w w' p p' read line whole st unended none moments now = record 
   ends = (refl, record { texts = st.texts; prompt = prompt_still r r' w w' p p' read line whole st unended moments now.1; turns = st.turns; no_quit = st.no_quit; written = refl });
 }
 
--- no more reads are made
+-- no more reads were made
 pub none_now : (r r' : Incoming) (w : Outgoing) → Passes r r' [] → ReadsAt r r' w []
 none_now r r' w passes = (passes, All-nil (IsNow r w))
 
--- the reader is at its end, and the last line isn't quit
+-- the reader is at its end, and the last line isn't `quit`
 pub closed_after : (from left : Incoming) (old w w' : Outgoing) (d p p' : FrontState) (read line : List ℕ) (whole whole' : ℕ) → LoopInvariant from left old w d p read read line whole → IsOver left → 0 < length line
     → Batch p p' w w' [] (unfinished_line read ∷ []) whole whole' → has_quit (unfinished_line read ∷ []) ≡ false → AnswersLines from left old w' d p' (Ok Closed)
 closed_after from left old w w' d p p' read line whole whole' st at_end some b goes =
@@ -323,7 +323,7 @@ closed_after from left old w w' d p p' read line whole whole' st at_end some b g
       );
     }
 
--- the last line isn't quit, or it is
+-- the last line is `quit` or not
 pub last_closes : (at_once quits : Bool) (from left : Incoming) (old w w' : Outgoing) (d p p' : FrontState) (read line : List ℕ) (whole whole' : ℕ) → LoopInvariant from left old w d p read read line whole → IsOver left
     → 0 < length line → RunsLines at_once p p' w w' [] (unfinished_line read ∷ []) whole whole' (Ok quits) → quits ≡ false → AnswersBy at_once from left old w' d p' (Ok Closed)
 last_closes at_once false from left old w w' d p p' read line whole whole' st at_end some runs goes =
@@ -337,13 +337,13 @@ last_quits at_once true from left old w w' d p p' read line whole whole' st at_e
     (quits from left old w w' d p p' read read line front quit back whole whole' true st (last_line read line st.kept some ∙ ap (λ (l : List (List ℕ)). whole_lines read ++ l) split) (λ _. at_end) b goes stops)
 last_quits at_once false from left old w w' d p p' read line whole whole' st at_end some runs is = absurd (false≢true is)
 
--- a write failed in the last line
+-- a write of the last line's text failed
 pub last_cut : (at_once : Bool) (from left : Incoming) (old w w' : Outgoing) (d p p' : FrontState) (read line : List ℕ) (whole : ℕ) (e : LineEnd) → LoopInvariant from left old w d p read read line whole → IsOver left
     → 0 < length line → Cut at_once p p' w w' (unfinished_line read ∷ []) whole e → AnswersBy at_once from left old w' d p' (Err e)
 last_cut at_once from left old w w' d p p' read line whole e st at_end some c =
     cut from left old w w' d p p' read read line (unfinished_line read ∷ []) whole true at_once e st (last_line read line st.kept some) (λ _. at_end) c
 
--- some bytes came, and the lines that end in them were answered: none is quit, or one is
+-- some bytes came, and the lines that end in them were answered, up to a `quit`
 pub bytes_go_on : (at_once quits : Bool) (from left : Incoming) (old w w' : Outgoing) (d p p' : FrontState) (read bytes line line' : List ℕ) (whole whole' : ℕ) → LoopInvariant from left old w d p (read ++ bytes) read line whole
     → AnswersBytes at_once read bytes p p' w w' [] line' whole whole' (Ok quits) → quits ≡ false → LoopInvariant from left old w' d p' (read ++ bytes) (read ++ bytes) line' whole'
 bytes_go_on at_once false from left old w w' d p p' read bytes line line' whole whole' st a goes =
@@ -364,7 +364,7 @@ pub bytes_cut : (at_once : Bool) (from left : Incoming) (old w w' : Outgoing) (d
 bytes_cut at_once from left old w w' d p p' read bytes line line' whole whole' e st a =
     cut from left old w w' d p p' (read ++ bytes) read line a.lines whole false at_once e st a.lines_are (λ (h : false ≡ true). cc) a.runs
 
--- no bytes have come yet
+-- before the first read
 pub invariant_at_first : (r : Incoming) (w : Outgoing) (p : FrontState) (line : List ℕ) → line ≡ [] → LoopInvariant r r w w p p [] [] line 0
 invariant_at_first r w p line e = record {
   texts = [];
@@ -379,7 +379,7 @@ invariant_at_first r w p line e = record {
   count = refl;
 }
 
--- a read that returned some bytes
+-- after a read that returned some bytes
 pub came_more : (r r' r'' : Incoming) (w w' : Outgoing) (p p' : FrontState) (read line bytes : List ℕ) (whole : ℕ) → LoopInvariant r r' w w' p p' read read line whole → StaysOpen r r' → Receives r' r'' bytes
     → (moments : List Moment) → ReadsAt r' r'' w' moments → LoopInvariant r r'' w w' p p' (read ++ bytes) read line whole
 came_more r r' r'' w w' p p' read line bytes whole st unended more moments now = record {
@@ -395,12 +395,12 @@ came_more r r' r'' w w' p p' read line bytes whole st unended more moments now =
   count = st.count;
 }
 
--- another name for the line
+-- the kept line may be replaced by an equal one
 pub relined : (r r' : Incoming) (w w' : Outgoing) (p p' : FrontState) (came read line slice : List ℕ) (whole : ℕ) → LoopInvariant r r' w w' p p' came read line whole → slice ≡ line
     → LoopInvariant r r' w w' p p' came read slice whole
 relined r r' w w' p p' came read line slice whole st e = subst (λ l. LoopInvariant r r' w w' p p' came read l whole) (sym e) st
 
--- a read that returned none
+-- after a read that returned no bytes
 pub last_invariant : (r r' r'' : Incoming) (w w' : Outgoing) (p p' : FrontState) (read line slice buf : List ℕ) (whole n : ℕ) → LoopInvariant r r' w w' p p' read read line whole → StaysOpen r r'
     → Receives r' r'' (take n buf) → (moments : List Moment) → ReadsAt r' r'' w' moments → n ≡ 0 → slice ≡ line → LoopInvariant r r'' w w' p p' read read slice whole
 last_invariant r r' r'' w w' p p' read line slice buf whole n st unended more moments now none e =
@@ -408,7 +408,7 @@ last_invariant r r' r'' w w' p p' read line slice buf whole n st unended more mo
     (subst (λ came. LoopInvariant r r'' w w' p p' came read line whole) (append-nil read)
     (came_more r r' r'' w w' p p' read line [] whole st unended (subst (λ m. Receives r' r'' (take m buf)) none more) moments now)) e
 
--- a line that isn't empty
+-- the last line isn't empty
 pub some_left : (items slice : List ℕ) (r : Bool) → r ≡ nat_eq (length items) 0 → r ≡ false → slice ≡ items → 0 < length slice
 some_left items slice r tested false_r same =
     let differs = eqb-false (length items) 0 (sym tested ∙ false_r) in

@@ -1,4 +1,4 @@
--- A relation that each call of a front keeps is kept by lines.
+-- A relation between states that each call of a front preserves is preserved by lines.
 use Rattle.std.proofs.Common.{◌≡◌, ℕ, ap, inl, inr, List, [], ◌∷◌, Option, Some, None, Result, Ok, Err}
 use Rattle.nr_command.specs.Command.{meaning_of}
 use Rattle.nr_command.specs.declared.command.Command.{Command}
@@ -14,13 +14,13 @@ use Rattle.nr_front.specs.declared.fault.FrontFault.TheVariants.{Memory, Placed,
 use Rattle.nr_lines.specs.Auxiliary.Engine.{Turns}
 use Rattle.nr_lines.specs.Auxiliary.Turn.{MayReply}
 
--- true of a relation between the states of a front before and after a call that each of its calls keeps
+-- true if a relation between two states of a front holds across each of the front's calls
 pub record IsKept (R : FrontState → FrontState → Type 0) : Type 0 where
   -- no word was read
   pub stays : (d d' : FrontState) → d'.pass_state ≡ d.pass_state → R d d'
-  -- words of others were read
+  -- words of other fronts were read
   pub learns : (d d' : FrontState) → Learns d d' → R d d'
-  -- a word of the front's own was placed
+  -- the front's own word was placed
   pub places : (command : Command) (d d' : FrontState) → PlacesCommand command d d' → R d d'
   -- one call followed the other
   pub joins : (a b c : FrontState) → R a b → R b c → R a c
@@ -29,7 +29,7 @@ module _ (R : FrontState → FrontState → Type 0) (kept : IsKept R) where
   same : (d d' : FrontState) → d' ≡ d → R d d'
   same d d' is = kept.stays d d' (ap (λ (t : FrontState). t.pass_state) is)
 
-  -- words of others were read, and then the walker moved
+  -- words of other fronts were read, and then the walker moved
   learns_led : (d mid d' : FrontState) → Learns d mid → d'.pass_state ≡ mid.pass_state → R d d'
   learns_led d mid d' l is = kept.joins d mid d' (kept.learns d mid l) (kept.stays mid d' is)
 

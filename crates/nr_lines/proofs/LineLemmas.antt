@@ -1,4 +1,4 @@
--- The lines of a growing text.
+-- The lines of a text that grows byte by byte.
 use Rattle.std.proofs.Common.{◌≡◌, ℕ, ◌<◌, ◌≤◌, Bool, true, false, cond, List, [], ◌∷◌, ◌++◌, arith, length, take, refl, sym, ap, ◌∙◌, nat_eq, nat_lt, append_assoc, append-nil, take_all, Err}
 use Rattle.std.proofs.lemmas.List.{length-take-le, take_at, take-append-le}
 use Rattle.std.proofs.lemmas.List.Splits.{length-slice_split}
@@ -17,12 +17,12 @@ parts text = slice_split (λ b. nat_eq b 10) text
 some_parts : (text : List ℕ) → 0 < length (parts text)
 some_parts text = omega (arith, length-slice_split (λ b. nat_eq b 10) text)
 
--- a part is first, or comes before others
+-- putting a byte in front of the first part doesn't change the parts after it
 onto_first-append : (x : ℕ) (ps qs : List (List ℕ)) → 0 < length ps → onto_first x (ps ++ qs) ≡ onto_first x ps ++ qs
 onto_first-append x [] qs h = absurd (omega arith)
 onto_first-append x (p ∷ ps) qs h = refl
 
--- a line feed splits a text in two
+-- a line feed splits the parts of a text into those before it and those after it
 parts-feed : (text : List ℕ) (b : ℕ) (bs : List ℕ) → nat_eq b 10 ≡ true → parts (text ++ b ∷ bs) ≡ parts text ++ parts bs
 parts-feed [] b bs e = ap (λ t. cond t ([] ∷ parts bs) (onto_first b (parts bs))) e
 parts-feed (x ∷ xs) b bs e =
@@ -30,7 +30,7 @@ parts-feed (x ∷ xs) b bs e =
     ∙ elim (nat_eq x 10) as (λ t. cond t ([] ∷ (parts xs ++ parts bs)) (onto_first x (parts xs ++ parts bs)) ≡ cond t ([] ∷ parts xs) (onto_first x (parts xs)) ++ parts bs)
     [ true ↦ refl | false ↦ onto_first-append x (parts xs) (parts bs) (some_parts xs) ]
 
--- the parts, with one more byte at the end of the last
+-- the parts after one more byte was appended to the last part
 abbrev grown : List (List ℕ) → ℕ → List (List ℕ)
 grown ps b = lines_in false ps ++ (last_part ps ++ b ∷ []) ∷ []
 
@@ -50,7 +50,7 @@ parts-byte (x ∷ xs) b e =
     ∙ elim (nat_eq x 10) as (λ t. cond t ([] ∷ grown (parts xs) b) (onto_first x (grown (parts xs) b)) ≡ grown (cond t ([] ∷ parts xs) (onto_first x (parts xs))) b)
     [ true ↦ empty_first-grown (parts xs) b (some_parts xs) | false ↦ onto_first-grown x (parts xs) b ]
 
--- the lines before the last part, and the last part
+-- parts that precede another part are lines
 lines_in-append : (ended : Bool) (ps : List (List ℕ)) (q : List ℕ) (qs : List (List ℕ)) → lines_in ended (ps ++ q ∷ qs) ≡ ps ++ lines_in ended (q ∷ qs)
 lines_in-append ended [] q qs = refl
 lines_in-append ended (p ∷ []) q qs = refl
@@ -66,7 +66,7 @@ front_and_last [] h = absurd (omega arith)
 front_and_last (p ∷ []) h = refl
 front_and_last (p ∷ next ∷ ps) h = ap (λ qs. p ∷ qs) (front_and_last (next ∷ ps) (omega arith))
 
--- the lines in some parts after others
+-- parts that precede a nonempty list of parts are lines
 lines_in-behind : (ended : Bool) (ps qs : List (List ℕ)) → 0 < length qs → lines_in ended (ps ++ qs) ≡ ps ++ lines_in ended qs
 lines_in-behind ended ps [] h = absurd (omega arith)
 lines_in-behind ended ps (q ∷ qs) h = lines_in-append ended ps q qs
@@ -75,14 +75,14 @@ last_part-behind : (ps qs : List (List ℕ)) → 0 < length qs → last_part (ps
 last_part-behind ps [] h = absurd (omega arith)
 last_part-behind ps (q ∷ qs) h = last_part-append ps q qs
 
--- a byte that isn't a line feed is appended to the rest
+-- a byte that isn't a line feed is appended to the unfinished line
 pub whole_lines-byte : (text : List ℕ) (b : ℕ) → nat_eq b 10 ≡ false → whole_lines (text ++ b ∷ []) ≡ whole_lines text
 whole_lines-byte text b e = ap (lines_in false) (parts-byte text b e) ∙ lines_in-append false (whole_lines text) (unfinished_line text ++ b ∷ []) [] ∙ append-nil (whole_lines text)
 
 pub unfinished_line-byte : (text : List ℕ) (b : ℕ) → nat_eq b 10 ≡ false → unfinished_line (text ++ b ∷ []) ≡ unfinished_line text ++ b ∷ []
 unfinished_line-byte text b e = ap last_part (parts-byte text b e) ∙ last_part-append (whole_lines text) (unfinished_line text ++ b ∷ []) []
 
--- a line feed ends the line, whatever follows
+-- a line feed ends the unfinished line, whatever follows it
 pub whole_lines-feed : (text : List ℕ) (b : ℕ) (bs : List ℕ) → nat_eq b 10 ≡ true → whole_lines (text ++ b ∷ bs) ≡ whole_lines text ++ unfinished_line text ∷ whole_lines bs
 whole_lines-feed text b bs e =
     ap (lines_in false) (parts-feed text b bs e) ∙ lines_in-behind false (parts text) (parts bs) (some_parts bs)
@@ -91,7 +91,7 @@ whole_lines-feed text b bs e =
 pub unfinished_line-feed : (text : List ℕ) (b : ℕ) → nat_eq b 10 ≡ true → unfinished_line (text ++ b ∷ []) ≡ []
 unfinished_line-feed text b e = ap last_part (parts-feed text b [] e) ∙ last_part-behind (parts text) (parts []) (some_parts [])
 
--- at the end of a text, the rest is a line too, if it isn't empty
+-- at the end of a text, the unfinished line is a line too, if it isn't empty
 pub lines_at_end : (text : List ℕ) → lines_of true text ≡ whole_lines text ++ cond (nat_lt 0 (length (unfinished_line text))) (unfinished_line text ∷ []) []
 lines_at_end text =
     ap (lines_in true) (front_and_last (parts text) (some_parts text)) ∙ lines_in-append true (whole_lines text) (unfinished_line text) []
@@ -99,7 +99,8 @@ lines_at_end text =
 too_long : (line : List ℕ) → nat_lt 256 (length line) ≡ true → meaning_of line ≡ Err TooLong
 too_long line h = ap (λ t. cond t (Err TooLong) (meaning_of_words (words (without_return line)))) h
 
--- the first bytes of a line have the meaning of the line, if they are more than a line may have
+-- the first 257 bytes of a line have the meaning of the whole line, since more than 256 bytes are
+-- too long whatever follows
 pub meaning_of-take : (line : List ℕ) → meaning_of (take 257 line) ≡ meaning_of line
 meaning_of-take line =
     elim (nat_lt 256 (length line)) as (λ t. nat_lt 256 (length line) ≡ t → meaning_of (take 257 line) ≡ meaning_of line) [
@@ -108,7 +109,7 @@ meaning_of-take line =
       | false ↦ λ short. ap meaning_of (take_all 257 line (let h = ltb-false _ _ short in omega (arith, h)))
     ] refl
 
--- the kept bytes of a growing line
+-- the kept bytes of a line after one more byte
 pub kept_more : (line : List ℕ) (b : ℕ) → take 257 (take 257 line ++ b ∷ []) ≡ take 257 (line ++ b ∷ [])
 kept_more line b =
     elim (nat_lt 256 (length line)) as (λ t. nat_lt 256 (length line) ≡ t → take 257 (take 257 line ++ b ∷ []) ≡ take 257 (line ++ b ∷ [])) [

@@ -1,4 +1,4 @@
--- The bytes of replies that are out, and those that are held.
+-- The bytes of replies that were written, and those that are held.
 use Rattle.std.proofs.Common.{◌≡◌, ℕ, ◌+◌, ◌-◌, ◌≤◌, List, [], ◌++◌, Option, Some, arith, length, take, refl, sym, ap, ◌∙◌, subst, append-nil, length-append, Ok, Err, Result}
 use Rattle.std.specs.Io.KnownBytes.{Appends}
 use Rattle.std.proofs.lemmas.List.{length-take-le, take-append-le}
@@ -13,18 +13,18 @@ use Rattle.nr_lines.specs.Page.{CutBehind, GoesBehind, PrintsBehind}
 pub held_behind : (w : Outgoing) (held text : List ℕ) → GoesBehind w held text w (held ++ text)
 held_behind w held text = record { out = []; split = refl; sends = sends_none w; calm = refl }
 
--- the text is empty, and nothing changed
+-- the text is empty, and nothing changes
 pub nothing_printed : (old new : Outgoing) (held still : List ℕ) → new ≡ old → still ≡ held → GoesBehind old held [] new still
 nothing_printed old new held still same kept =
     subst (λ (w : Outgoing). GoesBehind old held [] w still) (sym same)
     (subst (λ (h : List ℕ). GoesBehind old held [] old h) (append-nil held ∙ sym kept) (held_behind old held []))
 
--- no bytes were held, and the text went out
+-- no bytes were held, and the text was written
 pub goes_alone : (old new : Outgoing) (text : List ℕ) (result : Result (Unit {0}) Part) → Prints old new text result → PrintsBehind old [] new [] text result
 goes_alone old new text (Ok _) prints = record { out = text; split = sym (append-nil text); sends = prints.0; calm = prints.1 }
 goes_alone old new text (Err part) prints = record { n = prints.n; within = prints.within; sends = prints.out; failed = prints.failed; count_is = λ _. prints.count_is }
 
--- the held bytes went out, and then the text
+-- the held bytes were written, and then the text
 pub goes_then : (old mid new : Outgoing) (held text : List ℕ) (result : Result (Unit {0}) Part) → WritesAll old mid held → Prints mid new text result → PrintsBehind old held new [] text result
 goes_then old mid new held text (Ok _) first then = record {
   out = held ++ text;
@@ -40,7 +40,7 @@ goes_then old mid new held text (Err part) first then = record {
   count_is = λ none. let zero : length held ≡ 0 = ap length none in omega (arith, zero, then.count_is);
 }
 
--- a write failed within the held bytes
+-- a write of the held bytes failed
 pub cut_before : (old new : Outgoing) (held text : List ℕ) (count reported : ℕ) → WritesPrefix old new held count → CutBehind old held text new reported
 cut_before old new held text count reported cut = record {
   n = cut.n;
@@ -50,7 +50,7 @@ cut_before old new held text count reported cut = record {
   count_is = λ none. absurd (let zero : length held ≡ 0 = ap length none in omega (arith, zero, cut.within));
 }
 
--- the held bytes remain when the part of a text after them is removed
+-- removing the part of a text from the end of the page leaves the bytes that were held before
 pub part_taken_back : (old new : Outgoing) (text held bytes still : List ℕ) (count : ℕ) → old.contents ≡ Some held → new.contents ≡ Some bytes → WritesPrefix old new text count
     → ((n : ℕ) → count ≡ saturating_count n → n ≤ length bytes → still ≡ take (length bytes - n) bytes) → still ≡ held
 part_taken_back old new text held bytes still count before after cut taken =

@@ -1,4 +1,4 @@
--- The answers to a growing list of lines.
+-- The answers to a list of lines that grows.
 use Rattle.std.proofs.Common.{◌≡◌, ℕ, suc, ◌+◌, Bool, true, false, cond, ◌||◌, List, [], ◌∷◌, ◌++◌, arith, length, filter, refl, ap, ◌∙◌, subst, nat_lt, append-nil, length-append}
 use Rattle.std.specs.List.{concat}
 use Rattle.std.proofs.lemmas.List.Folds.{concat-append}
@@ -19,7 +19,7 @@ counted_text whole n text h =
     elim (nat_lt 0 (length text)) as (λ t. cond t (saturating_count (whole + 1)) whole ≡ saturating_count (n + length (cond t (text ∷ []) [])))
     [ true ↦ omega (arith, h) | false ↦ omega (arith, h) ]
 
--- the number of texts that aren't empty in two lists
+-- the number of nonempty texts in two lists is the sum of their numbers in each list
 pub some_count-append : (xs ys : List (List ℕ)) → some_count (xs ++ ys) ≡ some_count xs + some_count ys
 some_count-append xs ys = ap length (filter-append some xs ys) ∙ length-append (filter some xs) (filter some ys)
 
@@ -52,6 +52,6 @@ one_text_each p [] (t ∷ ts) p' turns = absurd turns
 one_text_each p (l ∷ ls) [] p' turns = absurd turns
 one_text_each p (l ∷ ls) (t ∷ ts) p' turns = ap suc (one_text_each turns.0 ls ts p' turns.2)
 
--- lines with the same meaning have the same turns
+-- lines with the same meaning have the same answers
 pub turn_asks : (a b text : List ℕ) (p p' : FrontState) → meaning_of a ≡ meaning_of b → Turn p a text p' → Turn p b text p'
 turn_asks a b text p p' e turn = (turn.0, subst (λ asked. MayReply asked p turn.0 p') e turn.1, turn.2)

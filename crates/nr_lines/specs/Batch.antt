@@ -1,4 +1,4 @@
--- The lines of one read, and their texts.
+-- The lines that end in one read, and their texts.
 use Rattle.std.specs.Prelude.{◌≡◌, ℕ, ◌+◌, ◌<◌, Bool, true, false, List, [], ◌∷◌, ◌++◌, length, take, Some, Result, Ok, Err}
 use Rattle.std.specs.List.{concat}
 use Rattle.nr_text.specs.Streams.{Outgoing, Sends, WritesPrefix, saturating_count}
@@ -20,15 +20,15 @@ use Rattle.nr_lines.specs.declared.ending.LineEnd.{LineEnd}
 use Rattle.nr_lines.specs.declared.ending.LineEnd.TheVariants.{Write}
 use Rattle.nr_lines.specs.declared.outbox.Outbox.{Outbox}
 
--- True if a front may give a reply to this line and have this state then, and the reply was printed
--- or a write failed.
+-- True if a front may give some reply to this line and be in this state afterwards, and the outbox
+-- printed the reply or a write failed.
 abbrev pub PrintsReply : Result Line LineFault → FrontState → FrontState → Outgoing → Outbox
     → Outgoing → Outbox → Result (Unit {0}) Part → Type 0
 PrintsReply asked d d' old before new after printed =
     (reply : Reply) × MayReply asked d (Some reply) d'
     × Delivers old before new after (text_of reply) printed
 
--- A line had its turn, and its text was printed and counted.
+-- A line was run, and its text was printed and counted.
 pub record Turned (d : FrontState) (line : List ℕ) (d' : FrontState) (old : Outgoing)
     (before : Outbox) (new : Outgoing) (after : Outbox) (whole whole' : ℕ) : Type 0 where
   pub text : List ℕ
@@ -36,7 +36,7 @@ pub record Turned (d : FrontState) (line : List ℕ) (d' : FrontState) (old : Ou
   pub goes : GoesBehind old (held_bytes before) text new (held_bytes after)
   pub count : whole' ≡ count_with whole text
 
--- A line had its turn, and a write failed when its text was printed.
+-- A line was run, and a write failed while its text was printed.
 pub record StopsPrinting (d : FrontState) (line : List ℕ) (d' : FrontState) (old : Outgoing)
     (before : Outbox) (new : Outgoing) (whole : ℕ) (e : LineEnd) : Type 0 where
   pub text : List ℕ
@@ -45,15 +45,15 @@ pub record StopsPrinting (d : FrontState) (line : List ℕ) (d' : FrontState) (o
   pub cut : CutBehind old (held_bytes before) text new part
   pub ending : e ≡ Write whole part
 
--- A write failed within the held bytes.
+-- A write of the held bytes failed.
 pub record FailsToPutOut (old new : Outgoing) (held : List ℕ) (whole : ℕ) (e : LineEnd) :
     Type 0 where
   pub part : ℕ
   pub cut : WritesPrefix old new held part
   pub ending : e ≡ Write whole part
 
--- These lines had their turns, one after the other. The first bytes of their texts are out, and the
--- rest is held. The texts that aren't empty are counted.
+-- These lines were run, one after the other. The first bytes of their texts were written, and the
+-- rest is held. `whole'` counts the nonempty texts, starting from `whole`.
 pub record Batch (d d' : FrontState) (old new : Outgoing) (held : List ℕ)
     (lines : List (List ℕ)) (whole whole' : ℕ) : Type 0 where
   pub texts : List (List ℕ)
@@ -64,8 +64,9 @@ pub record Batch (d d' : FrontState) (old new : Outgoing) (held : List ℕ)
   pub count : (n : ℕ) → whole ≡ saturating_count n
       → whole' ≡ saturating_count (n + some_count texts)
 
--- A write failed within the text of a line, after the texts of earlier lines. Later lines had their
--- turns too; if each reply is written immediately, there are none, and the counts are reported.
+-- A write failed within the text of a line, after the texts of earlier lines were written. Later
+-- lines may have been run too. If each reply is written immediately, no later line was run, and the
+-- counts are reported.
 pub record Cut (at_once : Bool) (d d' : FrontState) (old new : Outgoing) (lines : List (List ℕ))
     (whole : ℕ) (e : LineEnd) : Type 0 where
   pub front : List (List ℕ)
@@ -89,8 +90,8 @@ pub record Cut (at_once : Bool) (d d' : FrontState) (old new : Outgoing) (lines 
   pub exact : at_once ≡ true → (d' ≡ after) × ((k : ℕ) → whole ≡ saturating_count k
       → e ≡ Write (saturating_count (k + some_count texts)) (saturating_count n))
 
--- True if the lines up to the first `quit` had their turns, and the result says whether there was
--- one; or a write failed.
+-- True if the lines up to the first `quit` were run, and the result says whether there was a
+-- `quit`; or if a write failed.
 abbrev pub RunsLines : Bool → FrontState → FrontState → Outgoing → Outgoing → List ℕ
     → List (List ℕ) → ℕ → ℕ → Result Bool LineEnd → Type 0
 RunsLines at_once d d' old new held lines whole whole' (Ok false) =
@@ -102,8 +103,8 @@ RunsLines at_once d d' old new held lines whole whole' (Ok true) =
 RunsLines at_once d d' old new held lines whole whole' (Err e) =
     Cut at_once d d' old new lines whole e
 
--- After the bytes that were read before, the lines that end in some more bytes had their turns. The
--- kept line is what follows them, up to 257 bytes of it.
+-- The lines that end in these bytes were run, after the bytes of earlier reads. The kept line is
+-- what follows the last line feed, up to 257 bytes of it.
 pub record AnswersBytes (at_once : Bool) (before bytes : List ℕ) (d d' : FrontState)
     (old new : Outgoing) (held line : List ℕ) (whole whole' : ℕ) (result : Result Bool LineEnd) :
     Type 0 where

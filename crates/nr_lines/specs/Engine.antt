@@ -4,15 +4,15 @@ use Rattle.std.specs.List.{list_any, slice_split}
 use Rattle.nr_command.specs.Command.{meaning_of}
 use Rattle.nr_lines.specs.Turn.{is_quit}
 
--- The lines in the parts of a text between its line feeds: each part but the last, and at the
--- text's end the last too, if it isn't empty.
+-- The lines of a text, from its parts between line feeds: each part but the last. If the text is at
+-- its end, the last part is a line too, unless it is empty.
 abbrev pub lines_in : Bool → List (List ℕ) → List (List ℕ)
 lines_in ended [] = []
 lines_in ended (last ∷ []) = if ended && nat_lt 0 (length last) then last ∷ [] else []
 lines_in ended (line ∷ next ∷ more) = line ∷ lines_in ended (next ∷ more)
 
 -- The lines of a text, without their line feeds. Unless the text is at its end, what follows the
--- last line feed is not a line yet.
+-- last line feed isn't a line yet.
 abbrev pub lines_of : Bool → List ℕ → List (List ℕ)
 lines_of ended text = lines_in ended (slice_split (λ b. b == 10) text)
 

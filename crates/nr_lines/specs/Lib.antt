@@ -1,10 +1,10 @@
--- what the laws of THEOREM.md rest on, whole files
+-- definitions that the laws in THEOREM.md use
 pub mod Engine
 pub mod Turn
--- inner: what only definitions and proofs of this crate use
+-- inner: used only within this crate
 pub mod Batch
 pub mod LoopInvariant
 pub mod Outbox
 pub mod Page
--- what goes on with the files that the laws rest on
+-- helpers for those definitions
 pub mod Auxiliary

@@ -9,7 +9,7 @@ use Rattle.nr_lines.specs.Auxiliary.Engine.{AnswersLines, ArePrompt, Turns, is_w
 use Rattle.nr_lines.specs.declared.ending.End.{End}
 use Rattle.nr_lines.specs.declared.ending.LineEnd.{LineEnd}
 
--- the last part, or the empty text if there is none
+-- the last part of a text, or the empty text if there is no part
 abbrev pub last_part : List (List ℕ) → List ℕ
 last_part [] = []
 last_part (part ∷ []) = part
@@ -19,9 +19,9 @@ last_part (part ∷ next ∷ more) = last_part (next ∷ more)
 abbrev pub unfinished_line : List ℕ → List ℕ
 unfinished_line text = last_part (slice_split (λ b. b == 10) text)
 
--- Of the bytes that came from a source, these were read. Their whole lines are answered, none of
--- them is `quit`, and all reads so far were prompt. The kept line is what follows them, up to 257
--- bytes of it.
+-- Of the bytes that came from a source, the loop has processed `read`. Its whole lines are
+-- answered, none of them is `quit`, and all reads so far were prompt. The kept line is what follows
+-- its last line feed, up to 257 bytes of it.
 pub record LoopInvariant (from left : Incoming) (old new : Outgoing) (d d' : FrontState)
     (came read line : List ℕ) (whole : ℕ) : Type 0 where
   pub texts : List (List ℕ)
@@ -35,8 +35,8 @@ pub record LoopInvariant (from left : Incoming) (old new : Outgoing) (d d' : Fro
   pub kept : line ≡ take 257 (unfinished_line read)
   pub count : whole ≡ saturating_count (some_count texts)
 
--- The result of the loop. If each reply is written immediately, no line follows the one whose text
--- was cut, and the counts are reported.
+-- The result of the loop. If each reply is written immediately, no line after the line whose text
+-- was cut was run, and the counts are reported.
 pub record AnswersBy (at_once : Bool) (from left : Incoming) (old new : Outgoing)
     (d d' : FrontState) (result : Result End LineEnd) : Type 0 where
   pub ending : Result End LineEnd

@@ -1,15 +1,15 @@
--- The bytes of replies that are held, and those that are out.
+-- The bytes of replies that are held, and those that were written.
 use Rattle.std.specs.Prelude.{◌≡◌, ℕ, ◌<◌, true, List, [], ◌++◌, length, take, Option, Some, None, Result, Ok, Err}
 use Rattle.nr_text.specs.Streams.{Outgoing, Sends, saturating_count}
 use Rattle.nr_text.specs.declared.sink.Part.{Part}
 
--- the bytes, if they are known
+-- the bytes, or the empty text if they aren't known
 abbrev pub known_bytes : Option (List ℕ) → List ℕ
 known_bytes None = []
 known_bytes (Some bytes) = bytes
 
--- A text was added to the held bytes. The first of all these bytes are out now, and the rest is
--- held.
+-- A text was added to the held bytes. Of all these bytes, the first ones have been written, and the
+-- rest is held.
 pub record GoesBehind (old : Outgoing) (held text : List ℕ) (new : Outgoing) (still : List ℕ) :
     Type 0 where
   pub out : List ℕ
@@ -17,8 +17,8 @@ pub record GoesBehind (old : Outgoing) (held text : List ℕ) (new : Outgoing) (
   pub sends : Sends old new out
   pub calm : new.failed ≡ old.failed
 
--- A text was to be added to the held bytes, and a write failed. The first n of all these bytes are
--- out, and not the next. If no bytes were held, the count reports n.
+-- A write failed while a text was added to the held bytes. Of all these bytes, exactly the first n
+-- were written. If no bytes were held, the count reports n.
 pub record CutBehind (old : Outgoing) (held text : List ℕ) (new : Outgoing) (count : ℕ) :
     Type 0 where
   pub n : ℕ
@@ -27,7 +27,7 @@ pub record CutBehind (old : Outgoing) (held text : List ℕ) (new : Outgoing) (c
   pub failed : new.failed ≡ true
   pub count_is : held ≡ [] → count ≡ saturating_count n
 
--- True if a text was printed after the held bytes, or a write failed.
+-- True if a text was printed after the held bytes, or a write failed in the process.
 abbrev pub PrintsBehind : Outgoing → List ℕ → Outgoing → List ℕ → List ℕ
     → Result (Unit {0}) Part → Type 0
 PrintsBehind old held new still text (Ok _) = GoesBehind old held text new still

@@ -1,4 +1,4 @@
-//! The lines of one read.
+//! The lines that end in one read.
 
 ghost use Rattle.std.specs.Prelude.{◌≡◌, ℕ, List, [], ◌∷◌, ◌++◌, Err, IfErr, OnOk, take, true};
 ghost use Rattle.nr_text.specs.Streams.{WritesAll};
@@ -19,12 +19,12 @@ use nr_search::Finder;
 use nr_text::{Part, Sink};
 use std::io::Write;
 
-/// One byte more than the longest line has, so that a longer one is recognized.
+/// One more than the length of the longest line, so that a longer line is recognized.
 pub(crate) const LINE_ROOM: usize = MAX_LINE + 1;
 
-/// Answers the lines that end in these bytes, up to a `quit`, and puts their replies out. Returns whether there was a
-/// `quit`. The first line begins with what `line` holds. If there was no `quit`, `line` then holds what follows the
-/// last line feed.
+/// Answers the lines that end in these bytes, up to a `quit`, and writes their replies. Returns
+/// whether there was a `quit`. The first line begins with the bytes in `line`. If there was no
+/// `quit`, `line` has what follows the last line feed afterwards.
 pub(crate) fn answer_bytes<W: Write, S: Worlds + Drop + Sync, F: Finder>(
     bytes: &[u8],
     line: &mut ArrayVec<u8, LINE_ROOM>,
@@ -53,7 +53,8 @@ where
     Ok(quits)
 }
 
-/// Answers the last line, which has no line feed, and puts its reply out. Returns whether it is `quit`.
+/// Answers the last line, which has no line feed, and writes its reply. Returns whether it is
+/// `quit`.
 pub(crate) fn answer_last<W: Write, S: Worlds + Drop + Sync, F: Finder>(
     line: &[u8],
     outbox: &mut Outbox,
@@ -79,7 +80,7 @@ where
     Ok(quits)
 }
 
-/// Answers the lines that end in these bytes, up to a `quit`. Returns whether there was one.
+/// Answers the lines that end in these bytes, up to a `quit`. Returns whether there was a `quit`.
 fn answer_lines<W: Write, S: Worlds + Drop + Sync, F: Finder>(
     bytes: &[u8],
     line: &mut ArrayVec<u8, LINE_ROOM>,
@@ -116,7 +117,7 @@ where
     Ok(false)
 }
 
-/// Puts the held bytes out. `whole` is the number of texts that were printed whole.
+/// Writes the held bytes. `whole` is the number of texts that were printed whole.
 fn put_out<W: Write>(outbox: &mut Outbox, w: &mut Sink<W>, whole: u64) -> Result<(), LineEnd>
     ensures ok { OnOk result (WritesAll w.old w.new (held_bytes outbox.old)) }
     ensures err { IfErr result (FailsToPutOut w.old w.new (held_bytes outbox.old) whole) }

@@ -9,21 +9,22 @@ pub enum End {
     Quit,
 }
 
-/// The reason why serving stopped.
+/// Why serving stopped.
 #[derive(Clone, Copy, Debug, PartialEq, Eq)]
 pub enum LineEnd {
     /// A read failed.
     Read,
-    /// A write failed, or took nothing, after this many whole texts and this many bytes of the next one. Each count
-    /// stops at `u64::MAX`.
+    /// A write failed, or accepted no bytes, after this many whole texts and this many bytes of the
+    /// next text. Each count stops at `u64::MAX`.
     Write { whole: u64, part: u64 },
 }
 
-/// The stream that failed when replies go out together, so that the number of replies that are out isn't counted.
+/// The stream that failed, if replies are written together; how many replies were written isn't
+/// counted.
 #[derive(Clone, Copy, Debug, PartialEq, Eq)]
 pub enum StreamFailure {
     /// A read failed.
     Read,
-    /// A write failed, or took nothing.
+    /// A write failed, or accepted no bytes.
     Write,
 }

@@ -18,16 +18,18 @@ use nr_text::{Sink, Source};
 use std::io::{Read, Write};
 use std::sync::Wait;
 
-/// The number of bytes to read at once.
+/// The maximum number of bytes in one read.
 const CHUNK: usize = 512;
 
-/// Answers the lines of a source, up to the first `quit`, and writes each reply by itself. The last line may lack its
-/// line feed. Before each read, all whole lines so far are answered, and their replies are out.
+/// Answers the lines of a source, up to the first `quit`, and writes each reply by itself. The last
+/// line needs no line feed. Before each read, all whole lines so far are answered, and their
+/// replies are written.
 ///
-/// It may have read past `quit`, or past the line whose reply was not written. If a read failed, the whole lines before
-/// it are answered. However it ends, the front can be used again, and each line up to that point was run, including one
-/// whose reply was not written. It reports a failure exactly if there was one. It gives up after 2^64 - 1 reads, the
-/// last of which then counts as failed.
+/// It may read past `quit`, or past the line whose reply wasn't written. If a read fails, the whole
+/// lines before it are answered. However it ends, the front can be used again, and each line up to
+/// that point was run, including a line whose reply wasn't written. It reports a failure if and
+/// only if a read or a write failed. It gives up after 2^64 - 1 reads, and reports the last of them
+/// as failed.
 pub fn answer<R: Read, W: Write, S: Worlds + Drop + Sync, F: Finder>(
     r: &mut Source<R>,
     w: &mut Sink<W>,
@@ -49,7 +51,7 @@ where
     answer_by(&mut Outbox::AtOnce, r, w, front, journal)
 }
 
-/// Does what `answer` does, for callers whose runtime may wait. It doesn't use the runtime.
+/// Does the same as `answer`, for callers whose runtime may wait. It doesn't use the runtime.
 pub fn serve<R: Read, W: Write, S: Worlds + Drop + Sync, F: Finder>(
     _rt: &impl Wait,
     r: &mut Source<R>,
@@ -72,8 +74,9 @@ where
     answer(r, w, front, journal)
 }
 
-/// Does what `answer` does, but holds the replies to the lines of one read, up to 4 KB, and writes them at once before
-/// the next read. If a write fails, lines after the one whose reply was cut may have been run too.
+/// Does the same as `answer`, but holds the replies to the lines of one read, up to 4 KB, and
+/// writes them at once before the next read. If a write fails, lines after the line whose reply was
+/// cut may have run too.
 pub fn answer_together<R: Read, W: Write, S: Worlds + Drop + Sync, F: Finder>(
     r: &mut Source<R>,
     w: &mut Sink<W>,

@@ -8,17 +8,17 @@ use crate::page::Page;
 use nr_text::{Part, Sink, Text};
 use std::io::Write;
 
-/// The way in which replies are written.
+/// How replies are written.
 #[derive(Drop)]
 pub(crate) enum Outbox {
-    /// Each immediately, in a write of its own.
+    /// Each reply is written immediately, in a write of its own.
     AtOnce,
-    /// Together: they are held on a page until it is full, or until the next read.
+    /// Replies are held on a page until it is full or until the next read.
     Held(Page),
 }
 
 impl Outbox {
-    /// Prints a text, after those that are held.
+    /// Prints a text after the texts that are held.
     pub(crate) fn print<W: Write, T: Text>(&mut self, text: &T, w: &mut Sink<W>) -> Result<(), Part>
         ensures { Delivers w.old self.old w.new self.new (T.text text.now) result }
     {
@@ -28,7 +28,7 @@ impl Outbox {
         }
     }
 
-    /// Puts the held bytes out.
+    /// Writes the held bytes.
     pub(crate) fn put_out<W: Write>(&mut self, w: &mut Sink<W>) -> Result<(), Part>
         ensures prints { Prints w.old w.new (held_bytes self.old) result }
         ensures empty { held_bytes self.new ≡ [] }

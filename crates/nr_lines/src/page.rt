@@ -41,7 +41,8 @@ impl Page {
         }
     }
 
-    /// Prints a text: holds it, or, if there is no room for it, puts the held bytes out and then the text.
+    /// Prints a text: holds it if there is room for it, and otherwise writes the held bytes and
+    /// then the text.
     pub(crate) fn print<W: Write, T: Text>(&mut self, text: &T, w: &mut Sink<W>) -> Result<(), Part>
         ensures { PrintsBehind w.old self.old w.new self.new (T.text text.now) result }
     {
@@ -52,7 +53,7 @@ impl Page {
         w.print(text)
     }
 
-    /// Holds a text if there is room for it. Returns whether there was.
+    /// Holds a text if there is room for it. Returns whether there was room.
     fn hold<T: Text>(&mut self, text: &T) -> bool
         ensures holds { result ≡ true → self.new ≡ self.old ++ T.text text.now }
         ensures leaves { result ≡ false → self.new ≡ self.old }
@@ -64,8 +65,8 @@ impl Page {
         false
     }
 
-    /// Removes the bytes of a part of a text, which are the last ones.
-    // (Not inlined: it has a local page, which would be cleared for each text that is held.)
+    /// Removes the part of a text that was held last.
+    // (Not inlined: it has a local page, which would be cleared each time a text is held.)
     #[inline(never)]
     fn take_back(&mut self, part: Part)
         ensures { (n : ℕ) → part.0 ≡ saturating_count n → n ≤ length self.old
@@ -76,7 +77,7 @@ impl Page {
         self.sink = Sink::new(bytes);
     }
 
-    /// Puts the held bytes out, in one write if the writer takes them all.
+    /// Writes the held bytes, in one write if the writer accepts them all.
     pub(crate) fn put_out<W: Write>(&mut self, w: &mut Sink<W>) -> Result<(), Part>
         ensures prints { Prints w.old w.new self.old result }
         ensures empty { self.new ≡ [] }

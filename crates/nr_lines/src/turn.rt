@@ -1,4 +1,4 @@
-//! The turn of one line: running it and printing its answer.
+//! One turn: running a line and printing its reply.
 
 ghost use Rattle.std.specs.Prelude.{◌≡◌, true, Err, None, IfErr, IfNone, IfOk, IfSome, OnOk};
 ghost use Rattle.nr_command.specs.Command.{meaning_of};
@@ -71,7 +71,7 @@ fn is_quit(asked: Result<Line, LineFault>) -> bool
 // A reply has room for 64 marks, and a function clears all its locals on entry. So each reply is printed by the
 // function that makes it.
 
-/// Prints the reply. Returns `None` if there is none, because the line is empty.
+/// Prints the reply. Returns `None` if there is no reply, because the line is empty.
 fn print_reply<W: Write, S: Worlds + Drop + Sync, F: Finder>(
     asked: Result<Line, LineFault>,
     outbox: &mut Outbox,
@@ -145,7 +145,7 @@ fn print_fault<W: Write>(fault: Fault, outbox: &mut Outbox, w: &mut Sink<W>) -> 
     outbox.print(&Reply::Fault(fault), w)
 }
 
-/// Returns the reply's fault for a front's fault.
+/// Returns the fault that a reply reports for this fault of a front.
 fn fault_of(fault: FrontFault) -> Fault
     ensures { replies.Fault result ≡ fault_reply fault }
 {

@@ -1,4 +1,4 @@
--- Definitions that contracts and proofs cite beside `Engine`. No law of THEOREM.md rests on them.
+-- Helper definitions for `Engine`. The laws in THEOREM.md don't use them.
 use Rattle.std.specs.Prelude.{◌≡◌, ℕ, ◌<◌, ◌≤◌, nat_lt, Bool, true, false, List, [], ◌∷◌, ◌++◌, length, take, filter, Result, Ok, Err}
 use Rattle.std.specs.List.{All, concat}
 use Rattle.nr_text.specs.Moments.{Moment}
@@ -20,7 +20,7 @@ use Rattle.nr_lines.specs.Engine.{has_quit, lines_of}
 abbrev pub whole_lines : List ℕ → List (List ℕ)
 whole_lines text = lines_of false text
 
--- True if these lines have these texts, one turn after the other.
+-- True if a front answers these lines with these texts, one line after the other.
 abbrev pub Turns : FrontState → List (List ℕ) → List (List ℕ) → FrontState → Type 0
 Turns d [] [] d' = d' ≡ d
 Turns d (line ∷ lines) (text ∷ texts) d' =
@@ -28,18 +28,19 @@ Turns d (line ∷ lines) (text ∷ texts) d' =
 Turns d [] (text ∷ texts) d' = ⊥
 Turns d (line ∷ lines) [] d' = ⊥
 
--- the words that were read stay, and so does the number of looks that found none, or it grows
+-- words were only appended to those that the front has read, and its number of failed looks for
+-- words hasn't decreased
 pub record Grows (d d' : FrontState) : Type 0 where
   pub words : StartsWith d'.pass_state.seen d.pass_state.seen
   pub looks : d.pass_state.looks ≤ d'.pass_state.looks
 
--- The number of texts that aren't empty.
+-- The number of nonempty texts.
 abbrev pub some_count : List (List ℕ) → ℕ
 some_count texts = length (filter (λ text. nat_lt 0 (length text)) texts)
 
--- When a read was made, each whole line that had been received was answered, with one text each,
--- and nothing else had been sent: these are the first lines and their texts. The read before it had
--- not found the end.
+-- When this read was made, each whole line received so far had been answered with one text, and
+-- nothing else had been sent. The lines and texts up to this read are the first among all lines and
+-- texts. No earlier read had found the end.
 pub record IsPrompt (from : Incoming) (old : Outgoing) (lines texts : List (List ℕ)) (m : Moment) :
     Type 0 where
   pub read : List ℕ
@@ -53,12 +54,12 @@ pub record IsPrompt (from : Incoming) (old : Outgoing) (lines texts : List (List
   pub of_texts : texts ≡ answers ++ texts_behind
   pub unended : from.ended ≡ false → m.ended ≡ false
 
--- True if each of the reads was prompt, with these lines and texts.
+-- True if each of these reads was prompt, given all lines and their texts.
 abbrev pub ArePrompt : Incoming → Outgoing → List Moment → List (List ℕ) → List (List ℕ) → Type 0
 ArePrompt from old moments lines texts = All (IsPrompt from old lines texts) moments
 
--- These lines were answered whole, none of them is `quit`, and `out` is their texts. The front was
--- d before, and is d' afterwards. The reads were prompt.
+-- All these lines were answered and none of them is `quit`. `out` is their texts. The front was in
+-- state d before the first line and in state d' after the last one. The reads were prompt.
 pub record Answered (Prompt : List (List ℕ) → List (List ℕ) → Type 0) (d : FrontState)
     (lines : List (List ℕ)) (out : List ℕ) (d' : FrontState) : Type 0 where
   pub texts : List (List ℕ)
@@ -67,7 +68,8 @@ pub record Answered (Prompt : List (List ℕ) → List (List ℕ) → Type 0) (d
   pub no_quit : has_quit lines ≡ false
   pub written : out ≡ concat texts
 
--- One of the lines is the first `quit`, and `out` is the texts up to its own.
+-- One of the lines is `quit`. `out` is the texts of the lines up to the first `quit`, which are the
+-- lines that were answered.
 pub record Quitted (Prompt : List (List ℕ) → List (List ℕ) → Type 0) (d : FrontState)
     (lines : List (List ℕ)) (out : List ℕ) (d' : FrontState) : Type 0 where
   pub front : List (List ℕ)
@@ -81,8 +83,8 @@ pub record Quitted (Prompt : List (List ℕ) → List (List ℕ) → Type 0) (d 
   pub turns : Turns d (front ++ line ∷ []) texts d'
   pub written : out ≡ concat texts
 
--- The lines before one were answered whole, and `whole` of their texts aren't empty. The first n
--- bytes of that line's text were written, and not all of it. The line was run.
+-- The lines before some line were answered whole, with `whole` nonempty texts. That line was run,
+-- and only the first n bytes of its text were written.
 pub record WrittenInPart (Prompt : List (List ℕ) → List (List ℕ) → Type 0) (d : FrontState)
     (lines : List (List ℕ)) (whole part : ℕ) (out : List ℕ) (d' : FrontState) : Type 0 where
   pub front : List (List ℕ)
@@ -102,8 +104,8 @@ pub record WrittenInPart (Prompt : List (List ℕ) → List (List ℕ) → Type 
   pub within : n < length text
   pub written : out ≡ concat texts ++ take n text
 
--- What was written for the lines that were read, depending on the result. `ended` says whether the
--- source was at its end.
+-- What was written for the lines that were read, by the result of the loop. `ended` says whether
+-- the source was at its end.
 abbrev pub Ends : (List (List ℕ) → List (List ℕ) → Type 0) → Result End LineEnd → Bool → FrontState
     → List (List ℕ) → List ℕ → FrontState → Type 0
 Ends Prompt (Ok Closed) ended d lines out d' = (ended ≡ true) × Answered Prompt d lines out d'
@@ -112,9 +114,10 @@ Ends Prompt (Err Read) ended d lines out d' = (ended ≡ false) × Answered Prom
 Ends Prompt (Err (Write whole part)) ended d lines out d' =
     WrittenInPart Prompt d lines whole part out d'
 
--- Some bytes were received from a source, which was `from` and is `left`, and others were sent to a
--- sink, which was `old` and is `new`. Those sent are exactly the answers to the lines of those
--- received, by a front that was d and is d'. Before each read, all whole lines were answered.
+-- Some bytes were received from a source, which changed from `from` to `left`, and other bytes were
+-- sent to a sink, which changed from `old` to `new`. The bytes sent are exactly the answers to the
+-- lines received, given by a front that changed from d to d'. Before each read, all whole lines had
+-- been answered.
 pub record AnswersLines (from left : Incoming) (old new : Outgoing) (d d' : FrontState)
     (result : Result End LineEnd) : Type 0 where
   pub read : List ℕ
@@ -143,9 +146,9 @@ without_counts (Ok ending) = Ok ending
 without_counts (Err Read) = Err failures.Read
 without_counts (Err (Write whole part)) = Err failures.Write
 
--- As `AnswersLines`, with a front that was `last` after the answered lines, and with counts that
--- aren't reported. If a write failed, lines after the one whose text was cut may have had their
--- turns too.
+-- Like `AnswersLines`, but without counts in the result. The front is `last` after the answered
+-- lines; if a write failed, it may have run lines after the line whose text was cut, and is d'
+-- after them.
 pub record AnswersTogether (from left : Incoming) (old new : Outgoing) (d d' : FrontState)
     (result : Result End StreamFailure) : Type 0 where
   pub ending : Result End LineEnd

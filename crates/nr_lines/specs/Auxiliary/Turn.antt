@@ -1,4 +1,4 @@
--- Definitions that contracts and proofs cite beside `Turn`. No law of THEOREM.md rests on them.
+-- Helper definitions for `Turn`. The laws in THEOREM.md don't use them.
 use Rattle.std.specs.Prelude.{◌≡◌, ℕ, ◌+◌, nat_lt, List, length, Option, Some, None, Result, Ok, Err, if◌then◌else◌}
 use Rattle.nr_command.specs.Command.{meaning_of}
 use Rattle.nr_text.specs.Streams.{saturating_count}
@@ -14,7 +14,7 @@ use Rattle.nr_front.specs.declared.fault.FrontFault.{FrontFault}
 use Rattle.nr_front.specs.declared.fault.FrontFault.TheVariants.{Memory, Placed, Full}
 use Rattle.nr_lines.specs.Turn.{text_or_none}
 
--- the reply that says why a call has no other
+-- the reply that reports this fault
 abbrev pub fault_reply : FrontFault → Reply
 fault_reply (Memory refused) = Fault (faults.Memory refused)
 fault_reply (Placed place) = Fault (faults.Placed place)
@@ -31,8 +31,8 @@ resumed (Ok None) = NothingOwed
 resumed (Ok (Some reply)) = reply
 resumed (Err fault) = fault_reply fault
 
--- True if a front may give this reply to this line, and have this state then: for a command, a
--- query or `resume`, what the front's own calls do.
+-- True if a front may reply so to this line and be in this state afterwards. For a command, a query
+-- or `resume`, these are the effects of the front's calls.
 abbrev pub MayReply : Result Line LineFault → FrontState → Option Reply → FrontState → Type 0
 MayReply (Ok (Run command)) d reply d' = (given : Result Reply FrontFault)
     × Executes command d d' given × (reply ≡ Some (reply_given given))
@@ -44,7 +44,7 @@ MayReply (Ok Quit) d reply d' = (reply ≡ Some Bye) × (d' ≡ d)
 MayReply (Ok Empty) d reply d' = (reply ≡ None) × (d' ≡ d)
 MayReply (Err fault) d reply d' = (reply ≡ Some (Fault (faults.Line fault))) × (d' ≡ d)
 
--- One line: its text, and the front after it.
+-- True if a front may answer this line with this text and be in this state afterwards.
 abbrev pub Turn : FrontState → List ℕ → List ℕ → FrontState → Type 0
 Turn d line text d' =
     (reply : Option Reply) × MayReply (meaning_of line) d reply d' × (text ≡ text_or_none reply)

@@ -1,4 +1,4 @@
--- After the bytes that were read before, these were visited.
+-- After the bytes of earlier reads, the bytes below the loop's index were processed.
 use Rattle.std.proofs.Common.{◌≡◌, List, ◌++◌, ℕ, take}
 use Rattle.nr_lines.specs.LoopInvariant.{unfinished_line}
 use Rattle.nr_lines.specs.Outbox.{held_bytes, is_at_once}

@@ -1,5 +1,6 @@
--- All bytes from the source are answered, up to the kept line; no bytes are held, and neither a read nor a write
--- failed. No read found the end, and each turn of the loop made one.
+-- All lines from the source are answered, except for the kept line. No bytes are held, and no read
+-- and no write has failed. No read has found the end, and the loop has made at least one read in
+-- each iteration.
 use Rattle.std.proofs.Common.{◌≡◌, ◌≤◌, ℕ, List, [], length, false}
 use Rattle.nr_lines.proofs.EngineLemmas.{StaysOpen}
 use Rattle.nr_lines.specs.LoopInvariant.{LoopInvariant}
