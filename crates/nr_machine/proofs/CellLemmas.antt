@@ -1,4 +1,4 @@
--- The values of cells: the parts and the represented world have the same.
+-- Each cell has the same value in the parts and in the world that they represent.
 use Rattle.std.proofs.Common.{◌≡◌, ℕ, ◌<◌, ◌≤◌, Bool, List, length, Option, Some, None, refl, sym, ap, ◌∙◌, arith}
 use Rattle.std.proofs.lemmas.Option.{same_Some, slice_get_past}
 use Rattle.std.specs.Prelude.{option_map, slice_get}
@@ -34,7 +34,7 @@ value_by m d f None at =
 value_by m d f (Some x) at =
     sym (ap (λ (o : Option DescriptorRow). value_or_absent (λ row. f row.descriptor) o) (row_at m.core.descriptors.items m.core.timers.entries d x at))
 
--- a cell of a descriptor has the parts' value
+-- a descriptor's cell has the value that the parts have for it
 pub descriptor_value_is : (m : WorldParts) (d : ℕ) (f : Descriptor → CellValue) → value_or_absent f (slice_get m.core.descriptors.items d) ≡ descriptor_value d (meant m) f
 descriptor_value_is m d f = value_by m d f (slice_get m.core.descriptors.items d) refl
 
@@ -44,7 +44,7 @@ descriptor_value_is m d f = value_by m d f (slice_get m.core.descriptors.items d
 pub socket_absent : (m : WorldParts) (s : ℕ) (f : Socket → CellValue) → slice_get m.core.locks.items s ≡ None → Absent ≡ socket_value s (meant m) f
 socket_absent m s f at = sym (ap (λ (o : Option Socket). value_or_absent f o) (socket_past m.core.locks.items m.core.goroutines.semaphores m.socks s at))
 
--- a cell of a socket that exists has the value of its lock and of its other parts
+-- the value of an existing socket's cell depends on the socket's lock and its other parts
 pub socket_value_is : (m : WorldParts) (s : ℕ) (f : Socket → CellValue) (lock : Lock) → slice_get m.core.locks.items s ≡ Some lock
     → f (socket_of lock (rest_at m.core.goroutines.semaphores m.socks s)) ≡ socket_value s (meant m) f
 socket_value_is m s f lock at = sym (ap (λ (o : Option Socket). value_or_absent f o) (socket_at m.core.locks.items m.core.goroutines.semaphores m.socks s lock at))
@@ -84,7 +84,7 @@ module _ (m : WorldParts) (s : ℕ) (side : Side) where
       ∙ ap (λ (bytes : List ℕ). length bytes) (sym (viewed side (rest_at m.core.goroutines.semaphores m.socks s).sock)))
       ∙ socket_value_is m s (λ x. Number (length (of_side side x.buffers).bytes)) lock.0 lock.1
 
-  -- no value for a socket that doesn't exist
+  -- the cell of a socket that doesn't exist has no value
   pub nothing_past : (f : Socket → CellValue) → length m.core.locks.items ≤ s → Absent ≡ socket_value s (meant m) f
   nothing_past f past = socket_absent m s f (slice_get_past m.core.locks.items s past)
 

@@ -1,4 +1,4 @@
--- The kinds of steps that change a descriptor with its timers, as operations on it.
+-- Steps that change a descriptor with its timers are operations on the descriptor.
 use Rattle.std.proofs.Common.{◌≡◌, ℕ, List, Option, Some, None, ℤ, Result, Ok, Err, refl, sym, ap}
 use Rattle.std.specs.Prelude.{remove, slice_get}
 use Rattle.nr_rev.specs.declared.answer.Answer.{Answer}
@@ -18,15 +18,15 @@ use Rattle.nr_machine.specs.Continuing.{changing}
 use Rattle.nr_machine.proofs.DescriptorLemmas.{opened_row, row_found}
 use Rattle.nr_machine.proofs.ListLemmas.{set_same}
 
--- an open descriptor's row is its row
+-- looking up an open descriptor finds its row
 open_row_found : (d : ℕ) (w : World) (row : DescriptorRow) → open_row_of d w ≡ Ok row → find_row d w ≡ Ok row
 open_row_found d w row is = ap (λ (o : Option DescriptorRow). found_or o NoSuchDescriptor) (opened_row w d row is).1
 
--- the rest of a change, by its answer
+-- the rest of a step after the descriptor's change and answer are computed
 abbrev rest_of : ℕ → DescriptorRow → World → Answer × Change → Outcome
 rest_of d row w made = after_change d row made.1 w >>= λ next. Ok (made.0, next)
 
--- a change that is done
+-- a change with the answer Done
 done_is : (r : Result Change Refusal) (d : ℕ) (row : DescriptorRow) (w : World) → (r >>= λ change. rest_of d row w (Done, change)) ≡ (desc_op.done r >>= rest_of d row w)
 done_is (Ok change) d row w = refl
 done_is (Err e) d row w = refl

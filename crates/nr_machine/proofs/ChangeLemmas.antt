@@ -1,4 +1,4 @@
--- A descriptor changes with its timers: the parts and the machine have the same outcome.
+-- Changing a descriptor with its timers has the same outcome in the parts and in the machine.
 use Rattle.std.proofs.Common.{◌≡◌, ◌≢◌, ℕ, ◌<◌, ◌≤◌, List, [], ◌∷◌, length, map, Option, Some, None, Ok, refl, sym, ap, subst, ◌∙◌, arith}
 use Rattle.std.proofs.lemmas.Option.{slice_get_within}
 use Rattle.std.specs.Prelude.{remove, slice_get}
@@ -48,7 +48,7 @@ use Rattle.nr_machine.proofs.WakeLemmas.{both_mean, can_wake}
 
 -- ---- the timers afterwards
 
--- the timers of descriptor d changed as its orders say, by the requested operations
+-- true if the requested operations changed the timers of descriptor d as its orders say
 pub record Timed (d : ℕ) (orders : List TimerOrder) (asked : List TimersOp) (both : Sides (Option TimersDelta)) (old new : Core) : Type 0 where
   pub rest : new ≡ record old { timers = new.timers }
   pub fits : IsTimers new.timers
@@ -75,7 +75,7 @@ obeyed_timed d orders both old new obeyed back light =
       light = light;
     }
 
--- the timers after a firing was removed
+-- the timers after a firing is removed
 taken_timed : (d place : ℕ) (delta : TimersDelta) (old new : Core) → TakesFiring old place delta new → Timed d [] (TakeFiring place ∷ []) (record { read = Some delta; write = None }) old new
 taken_timed d place delta old new takes =
     let rest : new.timers ≡ record old.timers { firings = remove old.timers.firings place } = takes.step.1.rest in
@@ -97,7 +97,7 @@ none_of f (x ∷ xs) is = absurd cc
 
 -- ---- the world
 
--- the world with the firings of these timers
+-- the world w with these firings
 abbrev pub with_firings : State → World → World
 with_firings t w = record w { firings = t.firings }
 
@@ -119,7 +119,7 @@ module _ (m : WorldParts) (d : ℕ) (o : DescOp) (x after : Descriptor) (answer 
 
 -- ---- the parts still fit
 
--- the core with other statuses and other waiters
+-- the core with other statuses and another number of waiters
 abbrev moved : List Status → ℕ → Core → Core
 moved gs n core = record core { goroutines = record core.goroutines { goroutines = gs }; waiters = n }
 
@@ -149,14 +149,14 @@ woken_light both =
 
 module _ (m : WorldParts) (d : ℕ) (o : DescOp) (x after : Descriptor) (answer : DescAnswer) (h : IsWorld m) (there : slice_get m.core.descriptors.items d ≡ Some x)
     (step : desc_op_auxiliary.StepTo x o answer after) where
-  -- the goroutines can be woken, once the descriptor is written
+  -- the goroutines can be woken after the descriptor is changed
   pub written_can : (asked : List TimersOp) (both : Sides (Option TimersDelta)) (timed written : Core) → Timed d answer.orders asked both m.core timed → written ≡ with_descriptor d after timed
       → CanWake d answer.woken written
   written_can asked both timed written times is =
       let all : written ≡ with_descriptor d after (record m.core { timers = timed.timers }) = is ∙ ap (with_descriptor d after) times.rest in
       can_wake m d x h there o after answer written step (ap (λ (c : Core). c.goroutines) all) (ap (λ (c : Core). c.waiters) all)
 
-  -- changing a descriptor, its timers and the woken goroutines in this way is the step
+  -- changing a descriptor, its timers and the woken goroutines in this way makes the step
   pub changed_made : (due : Outcome) (asked : List TimersOp) (both : Sides (Option TimersDelta)) (delta : DescDelta) (timed written new : Core)
       → DescFits after → Timed d answer.orders asked both m.core timed → written ≡ with_descriptor d after timed
       → new ≡ woken_both d answer.woken written → IsQueuedUp new.goroutines → WokenBack answer.woken new written
@@ -200,13 +200,13 @@ module _ (m : WorldParts) (d : ℕ) (o : DescOp) (x after : Descriptor) (answer 
         ),
       )
 
-  -- the requested operations on the timers
+  -- the requested operations on the timers are those of the orders
   pub asked_is : asked_at d o m ≡ map (timers_op d) answer.orders
   asked_is =
       ap (λ (r : Option Descriptor). asked_by d (found_or r NoSuchDescriptor >>= λ y. desc_op.outcome y o)) there
       ∙ ap (asked_by d) step.defined
 
-  -- its orders are carried out
+  -- the change is made if its orders are carried out
   pub change_made : (sides : Sides (Option TimerOrder)) (both : Sides (Option TimersDelta)) (delta : DescDelta) (timed written new : Core)
       → answer.orders ≡ listed sides → Obeyed m.core d (listed sides) timed → ObeyBack both timed m.core
       → sides_weight (option_weight timers.delta_weight) both ≤ 20
@@ -222,7 +222,7 @@ module _ (m : WorldParts) (d : ℕ) (o : DescOp) (x after : Descriptor) (answer 
       (obeyed_timed d answer.orders both m.core timed did back light) written_is is queued woken_back before
       (ap (λ (firings : List Entry). changing d o (record (meant m) { firings = firings })) (sym same)))
 
-  -- the goroutines can be woken then
+  -- the goroutines can be woken after the orders are carried out
   pub change_can : (sides : Sides (Option TimerOrder)) (both : Sides (Option TimersDelta)) (timed written : Core) → answer.orders ≡ listed sides → Obeyed m.core d (listed sides) timed
       → ObeyBack both timed m.core → sides_weight (option_weight timers.delta_weight) both ≤ 20 → written ≡ with_descriptor d after timed → CanWake d answer.woken written
   change_can sides both timed written orders obeyed back light written_is =
@@ -238,7 +238,7 @@ module _ (m : WorldParts) (d : ℕ) (o : DescOp) (x after : Descriptor) (answer 
       subst (λ (orders : List TimerOrder). Timed d orders (TakeFiring place ∷ []) (record { read = Some taken; write = None }) m.core timed) (sym (orders_none quiet))
       (taken_timed d place taken m.core timed takes)
 
-  -- after a firing was removed, without orders
+  -- the change is made if a firing is removed and there are no orders
   pub firing_made : (place : ℕ) (taken : TimersDelta) (delta : DescDelta) (timed written new : Core) → asked_at d o m ≡ [] → TakesFiring m.core place taken timed
       → DescFits after → written ≡ with_descriptor d after timed → new ≡ woken_both d answer.woken written → IsQueuedUp new.goroutines → WokenBack answer.woken new written
       → x ≡ delta.before
@@ -249,7 +249,7 @@ module _ (m : WorldParts) (d : ℕ) (o : DescOp) (x after : Descriptor) (answer 
       (firing_timed place taken timed quiet takes) written_is is queued woken_back before
       (ap (λ (t : State). changing d o (with_firings t (meant m))) (sym takes.step.1.rest))
 
-  -- the goroutines can be woken after the firing
+  -- the goroutines can be woken after the firing is removed
   pub firing_can : (place : ℕ) (taken : TimersDelta) (timed written : Core) → asked_at d o m ≡ [] → TakesFiring m.core place taken timed → written ≡ with_descriptor d after timed
       → CanWake d answer.woken written
   firing_can place taken timed written quiet takes written_is =

@@ -9,12 +9,12 @@ use Rattle.nr_machine.specs.declared.world_core.Core.{Core}
 use Rattle.nr_machine.specs.Auxiliary.Changing.{CanMove, MovesOn, with_descriptor, with_lock, with_status}
 use Rattle.nr_machine.proofs.ListLemmas.{set_nowhere, set_same}
 
--- a status overwritten by itself
+-- overwriting a status with the same status changes nothing
 pub status_same : (core : Core) (g : ℕ) (status : Status) → slice_get core.goroutines.goroutines g ≡ Some status → with_status g status core ≡ core
 status_same core g status at =
     ap (λ (xs : List Status). record core { goroutines = record core.goroutines { goroutines = xs } }) (set_same core.goroutines.goroutines g status at)
 
--- moving to the current status is no move
+-- moving a goroutine to its current status changes nothing
 pub stays : (core : Core) (g : ℕ) (from to : Status) → CanMove core g from to → from ≡ to → MovesOn core g to None core
 stays core g from to can same =
     record {
@@ -24,12 +24,12 @@ stays core g from to can same =
       light = lit≤ tt;
     }
 
--- there is no such lock
+-- writing a lock that doesn't exist changes nothing
 pub lock_nowhere : (core : Core) (s : ℕ) (lock : Lock) → slice_get core.locks.items s ≡ None → core ≡ with_lock s lock core
 lock_nowhere core s lock at =
     ap (λ (xs : List Lock). record core { locks = record core.locks { items = xs } }) (sym (set_nowhere core.locks.items s lock at))
 
--- there is no such descriptor
+-- writing a descriptor that doesn't exist changes nothing
 pub descriptor_nowhere : (core : Core) (d : ℕ) (x : Descriptor) → slice_get core.descriptors.items d ≡ None → core ≡ with_descriptor d x core
 descriptor_nowhere core d x at =
     ap (λ (xs : List Descriptor). record core { descriptors = record core.descriptors { items = xs } }) (sym (set_nowhere core.descriptors.items d x at))

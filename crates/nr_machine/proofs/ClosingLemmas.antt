@@ -1,4 +1,4 @@
--- A descriptor is closed: no goroutine waits for it, and the free list has room for its number.
+-- Closing a descriptor: no goroutine waits for it, and the free list has room for its number.
 use Rattle.std.proofs.Common.{◌≡◌, ℕ, ◌<◌, true, false, [], ◌∷◌, length, Option, Result, Ok, Err, refl, sym, ap, subst, ◌∙◌, lit≤}
 use Rattle.std.proofs.lemmas.Option.{same_Some}
 use Rattle.nr_rev.specs.declared.answer.Answer.TheVariants.{Done}
@@ -29,7 +29,8 @@ use Rattle.nr_machine.proofs.FitsLemmas.{descriptor_fits, descriptor_tied, retie
 use Rattle.nr_machine.proofs.DescriptorLemmas.{described_means, free_fits, free_tied, opened_row, opened_there, quiet_leaves, unawaited, with_free}
 use Rattle.nr_machine.proofs.RowsLemmas.{row_with}
 
--- the tested facts about goroutine g and descriptor d: d is closing, and no goroutine is inside a wait
+-- what pollclose checks: goroutine g is idle, descriptor d is closing, and no goroutine is inside a
+-- wait
 pub record Closable (m : WorldParts) (g d : ℕ) (x : Descriptor) : Type 0 where
   pub is_idle : idle g (meant m) ≡ Ok tt
   pub found : open_row_of d (meant m) ≡ Ok (row_with m d x)
@@ -58,7 +59,7 @@ module _ (m : WorldParts) (g d : ℕ) (x : Descriptor) (world : IsWorld m) (can 
   pollclose_is : pollclose g d (meant m) ≡ (closed x >>= λ y. Ok (Done, record (with_descriptor d (row_with m d x) y (meant m)) { free = d ∷ m.core.free.items }))
   pollclose_is = rw (can.is_idle, can.found, can.closing, can.nobody_reads, can.nobody_writes) refl
 
-  -- only a number without a successor refuses it, not a word
+  -- if closing the descriptor is refused, the step is refused for the same reason
   pub close_refused : (e : Refusal) → desc_outcome d op.Close m.core ≡ Err e → pollclose g d (meant m) ≡ Err e
   close_refused e refused =
       let is : desc_outcome d op.Close m.core ≡ desc_op.outcome x op.Close =

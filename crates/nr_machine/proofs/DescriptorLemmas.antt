@@ -1,4 +1,5 @@
--- Looking up a descriptor in the parts, changing one alone, and the list of the free ones.
+-- Looking up a descriptor in the parts, changing only a descriptor, and the list of free
+-- descriptors.
 use Rattle.std.proofs.Common.{◌≡◌, ℕ, Bool, true, false, List, [], Option, Some, None, Result, Ok, Err, refl, sym, ap, subst, ◌∙◌, lit≤}
 use Rattle.std.proofs.lemmas.Option.{same_Some}
 use Rattle.std.specs.Prelude.{option_and_then, option_map, slice_get}
@@ -36,7 +37,7 @@ use Rattle.nr_machine.specs.World.{WorldParts, meant}
 use Rattle.nr_machine.proofs.FitsLemmas.{IsTiedAs, counted_fits, descriptor_fits, descriptor_tied, retied}
 use Rattle.nr_machine.proofs.RowsLemmas.{descriptor_set, row_at, row_past, row_with}
 
--- ---- the goroutine that a word waits for is inside
+-- ---- the goroutine that a word waits for is inside the wait
 
 parked_inside : (status : Option Status) (place : ℕ × Side) → option_and_then parked_of status ≡ Some place → option_and_then wait_of status ≡ Some place
 parked_inside (Some (Parked d side)) place is = is
@@ -48,7 +49,7 @@ awaiting_inside (Some (Parking d side)) place is = is
 awaiting_inside (Some (Swapping d side)) place is = is
 awaiting_inside _ place is = cc
 
--- if no goroutine is inside, a word waits for none
+-- if no goroutine is inside the wait, the word doesn't wait for a goroutine
 pub unawaited : (w : World) (d : ℕ) (side : Side) (row : DescriptorRow) → WellFormed w → slice_get w.descriptors d ≡ Some row → is_waited d side w.goroutines ≡ false
     → is_awaited (of_side side row.descriptor.words) ≡ false
 unawaited w d side row h at nobody = by (of_side side row.descriptor.words) refl
@@ -67,7 +68,7 @@ unawaited w d side row h at nobody = by (of_side side row.descriptor.words) refl
 
 -- ---- a descriptor of the parts
 
--- a row that is found exists
+-- a row that a lookup finds exists
 pub row_found : (o : Option DescriptorRow) (row : DescriptorRow) → found_or o NoSuchDescriptor ≡ Ok row → o ≡ Some row
 row_found None row is = absurd cc
 row_found (Some r) row is = cc
@@ -88,15 +89,15 @@ module _ (m : WorldParts) (d : ℕ) (x : Descriptor) where
       let rows : row_with m d y ≡ row_with m d x = same_Some _ _ (sym (row_at m.core.descriptors.items m.core.timers.entries d y at) ∙ is) in
       ap (λ (row : DescriptorRow). Some row.descriptor) rows
 
-  -- a descriptor that is found is among those of the parts
+  -- a descriptor that a lookup finds in the world exists in the parts
   pub found_there : find_row d (meant m) ≡ Ok (row_with m d x) → slice_get m.core.descriptors.items d ≡ Some x
   found_there is = there_by (slice_get m.core.descriptors.items d) refl (row_found (slice_get (meant m).descriptors d) (row_with m d x) is)
 
-  -- so is an open descriptor
+  -- an open descriptor of the world exists in the parts
   pub opened_there : open_row_of d (meant m) ≡ Ok (row_with m d x) → slice_get m.core.descriptors.items d ≡ Some x
   opened_there is = there_by (slice_get m.core.descriptors.items d) refl (opened_row (meant m) d (row_with m d x) is).1
 
--- ---- a descriptor changes alone
+-- ---- only a descriptor changes
 
 pub described_means : (m : WorldParts) (d : ℕ) (before after : Descriptor)
     → meant (record m { core = changing.with_descriptor d after m.core }) ≡ with_descriptor d (row_with m d before) after (meant m)
@@ -122,7 +123,7 @@ described_made m d o before after left answer undo new parts describes = (
 
 -- ---- the result of an operation
 
--- an operation that gives no orders and wakes no goroutine leaves the descriptor that it makes
+-- the outcome of an operation that has no orders and wakes no goroutine is the changed descriptor
 pub quiet_leaves : (r : Result Descriptor Refusal) (answer : DescAnswer) (after : Descriptor) → ◌≡◌ {A = desc_op.Outcome} (r >>= λ y. Ok (Done, quiet y)) (Ok (desc_op.left answer after))
     → r ≡ Ok after
 quiet_leaves (Ok y) answer after is = ap (λ (o : desc_op.Outcome). ◌>>=◌ {B = Descriptor} o (λ made. Ok made.1.descriptor)) is

@@ -20,7 +20,8 @@ use Rattle.nr_machine.specs.Auxiliary.Changing.{with_descriptor, with_lock, with
 use Rattle.nr_machine.specs.Fits.{CoreFits, PartsFit}
 use Rattle.nr_machine.specs.World.{WorldParts}
 
--- as many locks, the same semaphores, and no new timer that belongs to no descriptor
+-- true if new has as many locks as old, the same unused semaphores, and no timer without a
+-- descriptor unless old has one
 pub record IsTiedAs (old new : Core) : Type 0 where
   pub limits : new.limits ≡ old.limits
   pub locks : length new.locks.items ≡ length old.locks.items
@@ -29,7 +30,7 @@ pub record IsTiedAs (old new : Core) : Type 0 where
   pub unarmed : ((d : ℕ) → length old.descriptors.items ≤ d → timers_of old.timers.entries d ≡ twice None)
       → (d : ℕ) → length new.descriptors.items ≤ d → timers_of new.timers.entries d ≡ twice None
 
--- a well-formed core that is tied as before fits the same buffers
+-- a core that fits still fits the buffers if it is tied to the old core
 pub retied : (m : WorldParts) (core : Core) → PartsFit m → CoreFits core → IsTiedAs m.core core → PartsFit (record m { core = core })
 retied m core h fits tied =
     record {
@@ -48,7 +49,8 @@ retied m core h fits tied =
       unarmed = tied.unarmed h.unarmed;
     }
 
--- a core with another table, other free numbers, another time and other waiters fits if the table does
+-- a core fits with another goroutine table, free list, clock and number of waiters, if the table is
+-- well formed
 pub counted_fits : (core : Core) (table : GoroutineTable) (free : Roomed ℕ) (clock : ℤ) (waiters : ℕ) → CoreFits core → IsQueuedUp table → table.limit ≡ core.goroutines.limit
     → length table.semaphores ≡ length core.goroutines.semaphores → free.room ≡ core.free.room
     → CoreFits (record core { goroutines = table; free = free; clock = clock; waiters = waiters })
@@ -67,7 +69,7 @@ counted_fits core table free clock waiters h queued limit many room =
       timers_room = h.timers_room;
     }
 
--- a core with other locks fits if these do
+-- a core with other locks fits if each lock does
 pub locks_fit : (core : Core) (items : List Lock) → CoreFits core → ((s : ℕ) (lock : Lock) → slice_get items s ≡ Some lock → LockFits lock)
     → CoreFits (record core { locks = record core.locks { items = items } })
 locks_fit core items h fit =
@@ -85,7 +87,7 @@ locks_fit core items h fit =
       timers_room = h.timers_room;
     }
 
--- a core with other descriptors fits if these do
+-- a core with other descriptors fits if each descriptor does
 pub descriptors_fit : (core : Core) (items : List Descriptor) → CoreFits core → ((d : ℕ) (x : Descriptor) → slice_get items d ≡ Some x → DescFits x)
     → CoreFits (record core { descriptors = record core.descriptors { items = items } })
 descriptors_fit core items h fit =
@@ -134,7 +136,7 @@ descriptor_tied core d x =
       unarmed = λ h k past. h k (subst (λ (n : ℕ). n ≤ k) (length-set core.descriptors.items d x) past);
     }
 
--- a core with other timers, changed only for a descriptor d that was made
+-- a core in which only timers of a descriptor d that exists change
 pub timed_fits : (core : Core) (t : State) → CoreFits core → IsTimers t → t.descriptors ≡ core.timers.descriptors → CoreFits (record core { timers = t })
 timed_fits core t h fits room =
     record {
@@ -161,7 +163,7 @@ timed_tied core t d within others =
       unarmed = λ all k past. others k (λ same. omega (arith, within, past, same)) ∙ all k past;
     }
 
--- one after the other
+-- being tied is transitive
 pub tied_then : (a b c : Core) → IsTiedAs a b → IsTiedAs b c → IsTiedAs a c
 tied_then a b c p q =
     record {

@@ -1,4 +1,4 @@
--- The packed world before the first step: its parts fit.
+-- The parts of the packed world before the first step fit together.
 use Rattle.std.proofs.Common.{◌≡◌, ℕ, List, ◌<◌, replicate, Some, refl, sym, ap, subst, ◌∙◌, arith}
 use Rattle.std.proofs.lemmas.List.{get_or-replicate, length-replicate}
 use Rattle.std.proofs.lemmas.Option.{get_or_from_slice_get, slice_get_within}
@@ -33,7 +33,7 @@ empty_fits limits range queued timers =
       timers_room = refl;
     }
 
--- a core equal to the empty one fits if its queues and its timers do
+-- a core equal to the empty one fits if its queues and its timers are well formed
 pub fresh_fits : (limits : Limits) (core : Core) → core ≡ empty_core limits → AreInRange limits → IsQueuedUp core.goroutines → IsTimers core.timers → CoreFits core
 fresh_fits limits core is range queued timers =
     subst CoreFits (sym is)
@@ -55,7 +55,7 @@ empty_sock limits s sock at =
       closed = λ past. ap (λ (x : SockParts). x.opened) is;
     }
 
--- the parts of the empty world fit, if its core does
+-- the parts of the empty world fit if its core does
 empty_parts_fit : (limits : Limits) → CoreFits (empty_core limits) → PartsFit (empty_parts limits)
 empty_parts_fit limits core =
     record {
@@ -66,7 +66,7 @@ empty_parts_fit limits core =
       unarmed = λ d past. refl;
     }
 
--- so a core and buffers equal to those of the empty world are a packed world
+-- a core and buffers equal to those of the empty world are a packed world
 pub empty_is_world : (limits : Limits) (core : Core) (socks : List SockParts) → core ≡ empty_core limits → CoreFits core
     → socks ≡ replicate limits.sockets (never_opened limits.buffer) → IsWorld (record { core = core; socks = socks })
 empty_is_world limits core socks is fits closed =

@@ -1,4 +1,4 @@
--- The steps of goroutines and semaphores: the parts and the machine have the same outcome.
+-- Steps on goroutines and semaphores have the same outcome in the parts and in the machine.
 use Rattle.std.proofs.Common.{◌≡◌, inl, inr, ℕ, ◌+◌, ◌-◌, ◌/◌, ◌^◌, ◌<◌, ◌≤◌, Bool, true, false, List, [], ◌∷◌, ◌++◌, length, set, Option, Some, None, Result, Ok, Err, refl, sym, ap, ◌∙◌, arith, length-set}
 use Rattle.std.proofs.lemmas.Option.{slice_get_within}
 use Rattle.std.specs.Prelude.{option_and_then, if◌then◌else◌, nat_lt, slice_get}
@@ -42,11 +42,11 @@ use Rattle.nr_machine.proofs.ListLemmas.{get_within}
 use Rattle.nr_machine.proofs.FitsLemmas.{counted_fits, retied}
 use Rattle.nr_machine.proofs.SocketsLemmas.{length-sockets_of, semaphores_at, semaphores_set, socket_at, socket_with}
 
--- the parts with another table
+-- the parts with another goroutine table
 abbrev pub with_table : GoroutineTable → WorldParts → WorldParts
 with_table t m = record m { core = record m.core { goroutines = t } }
 
--- the table's outcome, in the world
+-- the outcome of the goroutine table, as an outcome of the world
 abbrev pub lifted : WorldParts → table.Outcome → Outcome
 lifted m (Ok left) = Ok (left.0, meant (with_table left.1 m))
 lifted m (Err e) = Err e
@@ -91,7 +91,7 @@ named_there m g s h named =
 
 module _ (m : WorldParts) (g s : ℕ) (side : Side) (lock : Lock) (both : Sides Semaphore) (locked : slice_get m.core.locks.items s ≡ Some lock)
     (there : slice_get m.core.goroutines.semaphores s ≡ Some both) where
-  -- the socket has these semaphores, and if one changes, so does the socket's
+  -- changing a semaphore in the table changes that of the socket
   semaphore_means : (semaphore : Semaphore) (t : List Status)
       → record (with_socket s (record (socket_with m s lock) { semaphores = with_side side semaphore both }) (meant m)) { goroutines = t }
       ≡ meant (with_table (record m.core.goroutines { goroutines = t; semaphores = set m.core.goroutines.semaphores s (with_side side semaphore both) }) m)
@@ -100,7 +100,7 @@ module _ (m : WorldParts) (g s : ℕ) (side : Side) (lock : Lock) (both : Sides 
       (sym (semaphores_set m.core.locks.items m.core.goroutines.semaphores m.socks s lock (with_side side semaphore both) locked
       (slice_get_within m.core.goroutines.semaphores s both there)))
 
-  -- acquiring the semaphore, if the socket has these
+  -- the outcome of acquiring a semaphore of a socket with these semaphores
   abbrev acquires : Sides Semaphore → Outcome
   acquires x =
       let next : World = with_socket s (record (socket_with m s lock) { semaphores = with_side side (acquired g (of_side side x)) x }) (meant m) in
@@ -124,7 +124,7 @@ module _ (m : WorldParts) (g s : ℕ) (side : Side) (lock : Lock) (both : Sides 
       (ap (λ (w : World). (Yes, w)) (semaphore_means (acquired g (of_side side both)) (set m.core.goroutines.goroutines g (Relock s side))))
       (ap (λ (w : World). (Wait, w)) (semaphore_means (acquired g (of_side side both)) (set m.core.goroutines.goroutines g (Queued s side))))
 
--- the rest of an acquire, by the semaphore
+-- the rest of an acquire, given the semaphore's place
 abbrev acquire_by : ℕ → ℕ × Side → World → Outcome
 acquire_by g place w =
     find_socket place.0 w >>= λ socket.
@@ -157,7 +157,7 @@ acquire_is m g h =
 
 module _ (m : WorldParts) (g s : ℕ) (side : Side) (lock : Lock) (both : Sides Semaphore) (locked : slice_get m.core.locks.items s ≡ Some lock)
     (there : slice_get m.core.goroutines.semaphores s ≡ Some both) (to : Status) where
-  -- the goroutine at the front of the queue tries again, and the other continues
+  -- the goroutine at the front of the queue tries again, and goroutine g continues
   release_left : (left : Semaphore) (front : Option ℕ)
       → with_status g to (tries_again s side front (with_socket s (record (socket_with m s lock) { semaphores = with_side side left both }) (meant m)))
       ≡ meant (with_table (of_table.with_status g to (table.tries_again s side front (of_table.with_semaphore s side both left m.core.goroutines))) m)
@@ -165,7 +165,7 @@ module _ (m : WorldParts) (g s : ℕ) (side : Side) (lock : Lock) (both : Sides 
   release_left left (Some h) =
       semaphore_means m g s side lock both locked there left (set (set m.core.goroutines.goroutines h (Acquiring s side)) g to)
 
-  -- the rest of a release, if the socket has these semaphores
+  -- the rest of a release by a goroutine at a socket with these semaphores
   abbrev releases : Sides Semaphore → Outcome
   releases x =
       released (of_side side x) >>= λ left.
@@ -181,7 +181,7 @@ module _ (m : WorldParts) (g s : ℕ) (side : Side) (lock : Lock) (both : Sides 
       ap releases (semaphores_at m.core.goroutines.semaphores m.socks s both there)
       ∙ lift_bind m (released (of_side side both)) _ _ λ left is. ap (λ (w : World). Ok (Done, w)) (release_left left (front_of (of_side side both)))
 
--- the rest of a release, by the releases that are owed
+-- the rest of a release, given the releases that the goroutine owes
 abbrev release_by : ℕ → ℕ × Sides ℕ → World → Outcome
 release_by g debt w =
     find_socket debt.0 w >>= λ socket.
@@ -219,7 +219,8 @@ release_is m g h =
 
 -- ---- the parts still fit
 
--- as many semaphores, and those of no socket unchanged
+-- true if the table has as many semaphores as before, and those that belong to no socket are
+-- unchanged
 record TableTied (m : WorldParts) (t : GoroutineTable) : Type 0 where
   pub limit : t.limit ≡ m.core.goroutines.limit
   pub many : length t.semaphores ≡ length m.core.goroutines.semaphores
@@ -258,7 +259,7 @@ tied_again m s side (Some h) lock old both g to locked at =
 released_ends : (semaphore : Semaphore) → Ends (λ _. Unit {0}) (released semaphore)
 released_ends semaphore = Ends-then (Ends-refused_unless (nat_lt semaphore.count (2 ^ 32 - 1)) FieldOverflow refl) λ _. Ends-ok tt
 
--- after an operation that is a step, the parts fit as before
+-- an operation that is a step leaves the table tied to the parts
 table_ends : (m : WorldParts) (o : GOperation) → IsWorld m → IsStep o → Ends (λ (left : Answer × GoroutineTable). TableTied m left.1) (table.outcome m.core.goroutines o)
 table_ends m operation.Spawn h is =
     Ends-then (Ends-refused_unless (nat_lt (length m.core.goroutines.goroutines) m.core.goroutines.limit) TableFull refl) λ _.
@@ -308,7 +309,7 @@ goroutine_refused m o e h is (inl reason) =
     goroutine_is m o h is ∙ ap (lifted m) (refused_for (table.outcome m.core.goroutines o) e reason)
 goroutine_refused m o e h is (inr none) = absurd none.2
 
--- an operation that the table carries out is made in the world
+-- an operation that the table carries out makes the world's step
 pub goroutine_made : (m : WorldParts) (o : GOperation) (answer : Answer) (delta : GDelta) (t : GoroutineTable) → IsWorld m → IsStep o
     → table.StepTo m.core.goroutines o answer t → IsQueuedUp t → LeadsBack delta t m.core.goroutines → delta_weight delta ≤ weight_allowed o + (0 + 7) / 8
     → Made (goroutine_outcome o (meant m)) [] MOST_WORDS m answer (Goroutine delta) (with_table t m)

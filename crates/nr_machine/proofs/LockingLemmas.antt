@@ -1,4 +1,4 @@
--- The steps on a socket's lock: the parts and the machine have the same outcome.
+-- Steps on a socket's lock have the same outcome in the parts and in the machine.
 use Rattle.std.proofs.Common.{◌≡◌, [], ℕ, ◌+◌, ◌<◌, true, false, length, Option, Some, None, Ok, Err, refl, sym, ap, subst, ◌∙◌, arith, cond}
 use Rattle.std.proofs.lemmas.Bool.Decides.{nat_tests}
 use Rattle.std.proofs.lemmas.Option.{slice_get_within}
@@ -38,7 +38,8 @@ use Rattle.nr_machine.specs.World.{WorldParts, meant}
 use Rattle.nr_machine.proofs.FitsLemmas.{lock_fits, lock_tied, retied, status_fits, status_tied, tied_then}
 use Rattle.nr_machine.proofs.SocketsLemmas.{length-sockets_of, lock_set, socket_at, socket_past, socket_with}
 
--- parts with another lock of socket s and another status of goroutine g represent a world with these
+-- changing the lock of socket s and the status of goroutine g in the parts changes them in the
+-- world
 pub locked_means : (m : WorldParts) (g s : ℕ) (status : Status) (before after : Lock)
     → meant (record m { core = changing.with_status g status (with_lock s after m.core) })
     ≡ with_status g status (with_socket s (record (socket_with m s before) { lock = after }) (meant m))
@@ -52,16 +53,16 @@ module _ (m : WorldParts) (g s : ℕ) (op : LockOp) where
   by_lock None e at refused = rw (socket_past m.core.locks.items m.core.goroutines.semaphores m.socks s at) (cc)
   by_lock (Some lock) e at refused = rw (socket_at m.core.locks.items m.core.goroutines.semaphores m.socks s lock at, refused) refl
 
-  -- an operation that a lock of the parts refuses is refused in the world
+  -- if the lock in the parts refuses an operation, the world refuses it too
   pub locking_refused : (e : Refusal) → lock_outcome s op m.core ≡ Err e → locking g s op (meant m) ≡ Err e
   locking_refused e refused = by_lock (slice_get m.core.locks.items s) e refl refused
 
-  -- an operation that it carries out leads there
+  -- if the lock in the parts carries out an operation, the world does too
   pub locking_leads : (before after : Lock) (answer : LockAnswer) → slice_get m.core.locks.items s ≡ Some before → lock_op.StepTo before op answer after
       → locking g s op (meant m) ≡ Ok (lock_left g (status_left s op (lock_op.left answer after)) s (socket_with m s before) (lock_op.left answer after) (meant m))
   locking_leads before after answer at leads = rw (socket_at m.core.locks.items m.core.goroutines.semaphores m.socks s before at, leads) refl
 
--- the status after an operation on a lock is none of those that only the table sets
+-- the status after an operation on a lock isn't one that only the table sets
 owing_movable : (s : ℕ) (owed : Sides ℕ) → is_movable (owing s owed) ≡ true
 owing_movable s owed = elim (owed.read + owed.write == 0) as (λ b. is_movable (cond b Idle (Owing s owed.read owed.write)) ≡ true) [ true ↦ refl | false ↦ refl ]
 
@@ -76,7 +77,7 @@ left_movable s Decref left = refl
 left_movable s (RwLock side) left = locker_movable s side left.answer
 left_movable s (RwUnlock side) left = owing_movable s left.owed
 
--- the socket that the status names is that of the lock
+-- the status after an operation on a lock names only the lock's socket
 module _ (n s : ℕ) (below : nat_lt s n ≡ true) where
   owing_named : (owed : Sides ℕ) → names_within n (socket_named (owing s owed)) ≡ true
   owing_named owed = elim (owed.read + owed.write == 0) as (λ b. names_within n (socket_named (cond b Idle (Owing s owed.read owed.write))) ≡ true) [ true ↦ refl | false ↦ below ]
@@ -117,7 +118,7 @@ lock_moves m g s from op before after answer undo mid h there movable locks =
     })
 
 module _ (old : WorldParts) (g s : ℕ) (op : LockOp) (answer : LockAnswer) (undo : LockUndo) (moved : Option GDelta) (mid new : Core) where
-  -- changing a lock and a status in this way is the step
+  -- changing a lock and a status in this way makes the step
   pub locking_made : (before after : Lock) → PartsFit old → Locks old.core s op before after answer undo mid
       → MovesOn mid g (status_left s op (lock_op.left answer after)) moved new
       → Made (locking g s op (meant old)) [] MOST_WORDS old answer.answer (Locked undo moved) (record old { core = new })

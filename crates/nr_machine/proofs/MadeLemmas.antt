@@ -1,4 +1,4 @@
--- A change made as a step's kind says is made as the step says.
+-- A change that follows the contract of a step's kind follows the contract of the step.
 use Rattle.std.proofs.Common.{◌+◌, ◌/◌, Bool, inl, Ok, Err, Result, ap, subst, sym, arith}
 use Rattle.nr_rev.specs.declared.answer.Answer.{Answer}
 use Rattle.nr_rev.specs.declared.refusal.Refusal.{Refusal}
@@ -14,7 +14,7 @@ use Rattle.nr_machine.specs.Fits.{IsWorld}
 use Rattle.nr_machine.specs.Auxiliary.Made.{Made, Makes, MakesStep}
 use Rattle.nr_machine.specs.World.{WorldParts, meant}
 
--- a step that is made, with an undo in the place
+-- a step that is made, and whose undo is stored in the place
 pub made_step : {Place : Type 0} (keeps : Bool) (holds : Place → WorldUndo → Type 0) (place : Place) (step : Step) (old : WorldParts) (answer : Answer) (undo : WorldUndo) (new : WorldParts)
     → holds place undo → Made (outcome (meant old) step) (asked_of old step) (MOST_WORDS + (bytes_left step answer + 7) / 8) old answer undo new
     → MakesStep keeps holds place step old (Ok answer) new
@@ -30,7 +30,7 @@ makes_step {Place} keeps holds place step old new (Ok answer) some =
     (made.0, λ _. (some.0, some.1, (made.1.0, omega (arith, light))))
 makes_step {Place} keeps holds place step old new (Err e) made = (inl (ap refusal_of made.0), made.1)
 
--- a step makes a packed world again
+-- after a step, the world is again a packed world
 pub made_fits : {Place : Type 0} (keeps : Bool) (holds : Place → WorldUndo → Type 0) (place : Place) (step : Step) (old new : WorldParts) (r : Result Answer Refusal)
     → IsTimely step → IsWorld old → MakesStep keeps holds place step old r new → IsWorld new
 made_fits {Place} keeps holds place step old new (Ok answer) timely h made =

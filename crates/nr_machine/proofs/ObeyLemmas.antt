@@ -1,4 +1,4 @@
--- Timers that follow orders: their outcome is what the machine says of orders.
+-- The timers carry out orders with the same outcome as the machine.
 use Rattle.std.proofs.Common.{◌≡◌, ◌≢◌, ℕ, ◌+◌, ◌-◌, ◌^◌, ◌<◌, Bool, true, false, List, [], ◌∷◌, ◌++◌, map, Option, Some, None, Result, Ok, Err, inl, inr, refl, sym, ap, ◌∙◌, arith}
 use Rattle.std.proofs.lemmas.Bool.Decides.{nat_tests}
 use Rattle.std.specs.Prelude.{if◌then◌else◌, nat_lt, option_to_list}
@@ -30,7 +30,7 @@ seen d t = (timers_of t.entries d, t.next)
 abbrev Left : Type 0
 Left = Result (Sides (Option Timer) × ℕ) Refusal
 
--- the timers of one descriptor changed, and no firing did
+-- true if only timers of descriptor d changed, and no firing
 pub record ChangesTimers (d : ℕ) (old new : State) : Type 0 where
   pub others : (k : ℕ) → k ≢ d → timers_of new.entries k ≡ timers_of old.entries k
   pub firings : new.firings ≡ old.firings
@@ -124,7 +124,7 @@ orders_append (x ∷ xs) ys before =
 
 -- ---- in the core
 
--- the second of two sides' orders is refused, after the first was carried out
+-- the read side's order is carried out, but the write side's is refused
 pub second_refused : (d : ℕ) (read write : Option TimerOrder) (old mid : Core) (e : Refusal) → Obeyed old d (option_to_list read) mid → orders_outcome d (option_to_list write) mid ≡ Err e
     → orders_outcome d (option_to_list read ++ option_to_list write) old ≡ Err e
 second_refused d read write old mid e first refused =
@@ -132,7 +132,7 @@ second_refused d read write old mid e first refused =
     ∙ ap (λ (r : Left). r >>= after_orders (option_to_list write)) (orders_lead d (option_to_list read) old.timers mid.timers first.timers)
     ∙ refused
 
--- the timers of the first order are restored
+-- undoing an order has only one result
 pub timers_again : (delta : Option TimersDelta) (new a b : Core) → IfAny TimersBack delta new a → IfAny TimersBack delta new b → a ≡ b
 timers_again None new a b x y = x ∙ sym y
 timers_again (Some delta) new a b x y =

@@ -1,4 +1,4 @@
--- A descriptor is opened: the one with the first free number, or a new one.
+-- Opening a descriptor, the one with the first free number or a new one.
 use Rattle.std.proofs.Common.{◌≡◌, ℕ, suc, ◌<◌, ◌≤◌, true, false, List, [], ◌∷◌, ◌++◌, length, drop, Some, None, Ok, Err, ⊎_elim, refl, sym, ap, ◌∙◌, arith, lit≤, length-append}
 use Rattle.std.proofs.Math.Seq.{set-append_seam}
 use Rattle.std.proofs.lemmas.Bool.Decides.{nat_tests}
@@ -35,7 +35,7 @@ use Rattle.nr_machine.proofs.SocketsLemmas.{socket_at, socket_past}
 
 -- ---- the socket and the number
 
--- there is no such socket
+-- the socket doesn't exist
 pub opening_nowhere : (m : WorldParts) (g s : ℕ) → idle g (meant m) ≡ Ok tt → length m.core.locks.items ≤ s → pollopen g s (meant m) ≡ Err NoSuchSocket
 opening_nowhere m g s is_idle past =
     rw (is_idle, socket_past m.core.locks.items m.core.goroutines.semaphores m.socks s (slice_get_past m.core.locks.items s past)) refl
@@ -70,7 +70,7 @@ slice_get-seam : {A : Type 0} (xs : List A) (x : A) → slice_get (xs ++ x ∷ [
 slice_get-seam [] x = refl
 slice_get-seam (y ∷ xs) x = slice_get-seam xs x
 
--- the last of the descriptors is opened
+-- the last descriptor is opened
 opening_last : (s : ℕ) (w : World) (rows : List DescriptorRow) (row : DescriptorRow) (after : Descriptor) → opened_for s row.descriptor ≡ Ok after
     → opening s (length rows) (record w { descriptors = rows ++ row ∷ [] })
     ≡ Ok (Number (length rows), record w { descriptors = rows ++ record row { descriptor = after } ∷ [] })

@@ -1,4 +1,5 @@
--- The first timer goes off: the heap's first entry is the least one of all rows, and its row exists.
+-- The timer that goes off first: the heap's first entry is the least of all rows, and its row
+-- exists.
 use Rattle.std.proofs.Common.{◌≡◌, ℕ, ◌*◌, ◌<◌, ◌≤◌, Bool, true, false, List, [], ◌∷◌, ◌++◌, length, map, Option, Some, None, Result, Ok, Err, inl, inr, ⊎_elim, refl, sym, ap, subst, ◌∙◌, arith, eq-eqb}
 use Rattle.std.proofs.lemmas.Bool.Decides.{nat_tests}
 use Rattle.std.proofs.lemmas.Option.{none-some, slice_get_cases, slice_get_within}
@@ -40,7 +41,7 @@ use Rattle.nr_machine.proofs.RowsLemmas.{row_at, timer_set, timers_are}
 
 -- ---- the least entry
 
--- if a heap has the timers of descriptors, the least of these is at place 0
+-- the claim that the first entry of a heap with the descriptors' timers is the least
 abbrev pub FirstIsLeast : Type 0
 FirstIsLeast = (t : State) (timers : List (Sides (Option Timer))) → IsTimers t → AreTimers t.entries timers → slice_get t.entries 0 ≡ least_of (entries_from 0 timers)
 
@@ -48,7 +49,7 @@ pub least_is : FirstIsLeast → (m : WorldParts) → PartsFit m → least_entry 
 least_is law m h =
     sym (law m.core.timers (map (λ (row : DescriptorRow). row.timers) (meant m).descriptors) h.core.timers (timers_are m h))
 
--- pop, of the entry that goes off first
+-- pop, given the entry that goes off first
 abbrev pop_first : Option Entry → World → Outcome
 pop_first first w = do
   entry ← found_or first NoTimerDue
@@ -103,7 +104,7 @@ none_of : (side : Side) (timer : Timer) (entries : List Entry) (d : ℕ) → tim
 none_of Read timer entries d none some = none-some timer (sym (ap (λ (both : Sides (Option Timer)). both.read) none) ∙ some)
 none_of Write timer entries d none some = none-some timer (sym (ap (λ (both : Sides (Option Timer)). both.write) none) ∙ some)
 
--- its descriptor was made
+-- the descriptor of the first entry exists
 head_made : (descriptors : List Descriptor) (x : Entry) (xs : List Entry) → ((d : ℕ) → length descriptors ≤ d → timers_of (x ∷ xs) d ≡ twice None)
     → (y : Descriptor) × (slice_get descriptors x.descriptor ≡ Some y)
 head_made descriptors x xs unarmed =

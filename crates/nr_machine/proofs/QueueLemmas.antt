@@ -1,4 +1,4 @@
--- Reading a socket: its bytes, and its queues.
+-- Reading a socket's bytes and queues.
 use Rattle.std.proofs.Common.{◌≡◌, ◌⊎◌, inl, inr, ℕ, zero, suc, ◌+◌, ◌<◌, ◌≤◌, add-one, Bool, true, false, List, [], ◌∷◌, ◌++◌, get_or, length, take, Option, Some, None, refl, sym, ap, subst, ◌∙◌, arith, unwrap_or}
 use Rattle.std.proofs.Math.Seq.{take-length}
 use Rattle.std.proofs.lemmas.List.{length-append}
@@ -30,13 +30,13 @@ use Rattle.nr_machine.specs.World.{WorldParts, meant}
 use Rattle.nr_machine.proofs.ListLemmas.{get_within}
 use Rattle.nr_machine.proofs.SocketsLemmas.{sock_at, socket_at, socket_past}
 
--- the bytes of a side, as the socket has them
+-- the bytes of a side are the same in the socket and in its buffers
 pub viewed : (side : Side) (o : Option OpenSock) → (of_side side (buffers_in o).buffers).bytes ≡ viewed_bytes side o
 viewed Read None = refl
 viewed Write None = refl
 viewed side (Some opened) = refl
 
--- the buffers read at an index of these
+-- the buffers that a read at an index returns
 pub sock_read : (m : WorldParts) (s : ℕ) (socks : List SockParts) (sock : SockParts) → socks ≡ m.socks → s < length socks → sock ≡ get_or socks s sock → slice_get m.socks s ≡ Some sock
 sock_read m s socks sock are within read = subst (λ xs. slice_get xs s ≡ Some sock) are (slice_get_read socks (length socks) s sock refl within read)
 
@@ -57,14 +57,14 @@ module _ (m : WorldParts) (s : ℕ) (side : Side) where
         (socket_at m.core.locks.items m.core.goroutines.semaphores m.socks s lock_there.0 lock_there.1)
         ∙ ap (λ (bytes : List ℕ). Some bytes) (viewed side (rest_at m.core.goroutines.semaphores m.socks s).sock)
 
-    -- a socket with no buffers has no byte
+    -- a socket without buffers has no bytes
     pub bytes_nowhere : slice_get m.socks s ≡ None → Some [] ≡ bytes_of (meant m) s side
     bytes_nowhere at =
         let none : (rest_at m.core.goroutines.semaphores m.socks s).sock ≡ None =
         ap (λ (t : SockParts). t.opened) (sym (unwrap_or-slice_get m.socks s (never_opened 0)) ∙ ap (λ (o : Option SockParts). unwrap_or o (never_opened 0)) at) in
         sym (bytes_seen ∙ ap (λ (o : Option OpenSock). Some (viewed_bytes side o)) none)
 
-    -- the bytes of its buffers are those of the socket
+    -- the bytes of a socket's buffers are the socket's bytes
     pub bytes_here : (sock : SockParts) → slice_get m.socks s ≡ Some sock → bytes_of (meant m) s side ≡ Some (viewed_bytes side sock.opened)
     bytes_here sock at =
         bytes_seen ∙ ap (λ (o : Option OpenSock). Some (viewed_bytes side o)) (sock_at m.core.goroutines.semaphores m.socks s sock at)
@@ -90,7 +90,7 @@ counted_at (h ∷ q) (suc n) g at =
     let more = front_of_more g h q (h == g) refl in
     omega (arith, rest, more)
 
--- the goroutine after one that is in the queue once is at the next place
+-- if a goroutine is in the queue once, the goroutine behind it has the next index
 behind_at : (q : List ℕ) (n g : ℕ) → slice_get q n ≡ Some g → count_by (λ x. x == g) q ≤ 1 → behind g q ≡ slice_get q (suc n)
 behind_at [] n g at once = absurd cc
 behind_at (h ∷ q) zero g at once = ap (λ (b : Bool). if b then slice_get q 0 else behind g q) (eq-eqb h g (same_Some h g at))
@@ -110,7 +110,7 @@ same_sides Read Write e = cc
 same_sides Write Read e = cc
 same_sides Write Write e = refl
 
--- a goroutine that is counted as queued has that status
+-- a goroutine that is counted as queued has the status Queued
 queued_status : (s : ℕ) (side : Side) (o : Option Status) → 0 < bit (is_queued s side o) → o ≡ Some (Queued s side)
 queued_status s side None some = absurd (omega (arith, some))
 queued_status s side (Some (Queued k other)) some = by ((s == k) && same_side side other) refl some
@@ -159,7 +159,7 @@ module _ (m : WorldParts) (s : ℕ) (side : Side) where
       ap (λ (o : Option Socket). option_map (λ (socket : Socket). (of_side side socket.semaphores).queue) o)
       (socket_past m.core.locks.items m.core.goroutines.semaphores m.socks s (slice_get_past m.core.locks.items s past))
 
-  -- the queue of a socket is the table's
+  -- the queue of an existing socket is that of the table
   pub queue_here : s < length m.core.locks.items → queue_of (meant m) s side ≡ Some (queue_at s side m.core.goroutines)
   queue_here below =
       let lock = get_within m.core.locks.items s below in
@@ -179,11 +179,11 @@ take_one_more [] n g at = absurd cc
 take_one_more (h ∷ q) zero g at = ap (λ (x : ℕ). x ∷ []) (sym (same_Some h g at))
 take_one_more (h ∷ q) (suc n) g at = ap (λ (xs : List ℕ). h ∷ xs) (take_one_more q n g at)
 
--- these are the first of a queue, and `next` comes after them
+-- true if these items are the first of a queue, and `next` comes after them
 abbrev pub Walked : List ℕ → List ℕ → Option ℕ → Type 0
 Walked q items next = (items ≡ take (length items) q) × (next ≡ slice_get q (length items)) × (length items ≤ length q)
 
--- if there is a next one, the queue isn't empty
+-- if another goroutine comes next, the queue is longer than the items so far
 pub walk_goes : (q items : List ℕ) (next : Option ℕ) (g : ℕ) → Walked q items next → next ≡ Some g → length items < length q
 walk_goes q items next g walked is = slice_get_within q (length items) g (sym walked.1 ∙ is)
 
@@ -198,7 +198,7 @@ walk_more q items more next after g walked is pushed goes =
       omega (arith, many, within),
     )
 
--- if there is no next one, these are all
+-- if no goroutine comes next, the items are the whole queue
 pub walk_ends : (q items : List ℕ) (next : Option ℕ) → Walked q items next → next ≡ None → items ≡ q
 walk_ends q items next walked is = by (slice_get_cases q (length items)).1
   where

@@ -1,4 +1,4 @@
--- A side is reset for the next wait, if nothing forbids a wait and no goroutine is inside one.
+-- Resetting a side for the next wait, if nothing forbids a wait and no goroutine is inside one.
 use Rattle.std.proofs.Common.{◌≡◌, ℕ, false, [], Option, Ok, Err, refl, sym, ap, subst, ◌∙◌}
 use Rattle.std.proofs.lemmas.Option.{same_Some}
 use Rattle.nr_rev.specs.declared.answer.Answer.TheVariants.{Code}
@@ -33,8 +33,8 @@ abbrev pub left_of : Descriptor → desc_op.Outcome → Descriptor
 left_of x (Ok made) = made.1.descriptor
 left_of x (Err e) = x
 
--- the tested facts about goroutine g and descriptor d: nothing forbids a wait of its side, and no goroutine is inside
--- one
+-- what pollreset checks: goroutine g is idle, nothing forbids a wait on the side, and no goroutine
+-- is inside one
 pub record Resettable (m : WorldParts) (g d : ℕ) (side : Side) (x : Descriptor) : Type 0 where
   pub is_idle : idle g (meant m) ≡ Ok tt
   pub found : open_row_of d (meant m) ≡ Ok (row_with m d x)
@@ -48,7 +48,7 @@ module _ (m : WorldParts) (g d : ℕ) (side : Side) (x : Descriptor) (world : Is
   reset_is : desc_op.outcome x (op.Reset side) ≡ Ok (Code 0, quiet (with_wait_word side word.Nil x))
   reset_is = rw (can.unhindered, nobody_awaited) refl
 
-  -- no word refuses it
+  -- no word refuses the reset
   pub reset_applies : (e : Refusal) → desc_outcome d (op.Reset side) m.core ≡ Err e → ⊥
   reset_applies e refused =
       let is : desc_outcome d (op.Reset side) m.core ≡ desc_op.outcome x (op.Reset side) =
@@ -56,7 +56,7 @@ module _ (m : WorldParts) (g d : ℕ) (side : Side) (x : Descriptor) (world : Is
       let applies = reset_is in
       cc
 
-  -- the word of the side is nil
+  -- the word of the side becomes nil
   pub reset_made : (before after : Descriptor) (answer : DescAnswer) (undo : DescUndo) (new : Core) → Describes m.core d (op.Reset side) before after answer undo new
       → Made (pollreset g d side (meant m)) [] MOST_WORDS m (Code 0) (Described undo) (record m { core = new })
   reset_made before after answer undo new describes =

@@ -1,4 +1,4 @@
--- The rows of descriptors and their timers, when one changes and when one is opened for the first time.
+-- The rows of descriptors after one changes, and after one is opened for the first time.
 use Rattle.std.proofs.Common.{◌≡◌, ◌≢◌, ℕ, zero, suc, ◌+◌, ◌≤◌, List, [], ◌∷◌, ◌++◌, length, map, set, Option, Some, None, refl, sym, ap, ◌∙◌, arith}
 use Rattle.std.specs.Prelude.{slice_get, slice_index_or}
 use Rattle.nr_rev.specs.declared.descriptor.Descriptor.{Descriptor}
@@ -18,7 +18,7 @@ use Rattle.nr_machine.specs.World.{WorldParts, meant}
 use Rattle.nr_machine.proofs.ListLemmas.{set_same}
 use Rattle.nr_machine.proofs.NumberedLemmas.{length-numbered, numbered_past, numbered_push, numbered_set}
 
--- the row of descriptor d, with this descriptor, as the parts have it
+-- the row of descriptor d with these contents and the timers of the parts
 abbrev pub row_with : WorldParts → ℕ → Descriptor → DescriptorRow
 row_with m d x = row_of x (timers_of m.core.timers.entries d)
 
@@ -35,12 +35,12 @@ row_past descriptors entries d at = numbered_past row_of 0 d descriptors (timers
 pub length-rows_of : (descriptors : List Descriptor) (entries : List Entry) → length (rows_of descriptors entries) ≡ length descriptors
 length-rows_of descriptors entries = length-numbered row_of 0 descriptors (timers_of entries)
 
--- descriptor d and its timers change; each other descriptor keeps its timers
+-- descriptor d and its timers change, but no other descriptor's timers do
 pub row_set : (descriptors : List Descriptor) (old new : List Entry) (d : ℕ) (x : Descriptor) → ((k : ℕ) → k ≢ d → timers_of new k ≡ timers_of old k)
     → rows_of (set descriptors d x) new ≡ set (rows_of descriptors old) d (row_of x (timers_of new d))
 row_set descriptors old new d x others = numbered_set row_of 0 d d descriptors x (timers_of old) (timers_of new) (omega arith) others
 
--- descriptor d changes, and no timer does
+-- descriptor d changes, but no timer does
 pub descriptor_set : (descriptors : List Descriptor) (entries : List Entry) (d : ℕ) (x : Descriptor)
     → rows_of (set descriptors d x) entries ≡ set (rows_of descriptors entries) d (row_of x (timers_of entries d))
 descriptor_set descriptors entries d x = row_set descriptors entries entries d x (λ k apart. refl)
@@ -54,7 +54,7 @@ timer_set descriptors old new d side timer x at sets =
     ∙ row_set descriptors old new d x sets.others
     ∙ ap (λ (timers : Sides (Option Timer)). set (rows_of descriptors old) d (row_of x timers)) sets.here
 
--- one more descriptor, with no armed timer
+-- adding a descriptor without armed timers
 pub row_push : (descriptors : List Descriptor) (entries : List Entry) (x : Descriptor) → timers_of entries (length descriptors) ≡ twice None
     → rows_of (descriptors ++ x ∷ []) entries ≡ rows_of descriptors entries ++ row_of x (twice None) ∷ []
 row_push descriptors entries x unarmed =
@@ -68,6 +68,6 @@ row_timers [] k beside d n is none = none (omega arith)
 row_timers (x ∷ xs) k beside zero n is none = let here : n ≡ k = omega arith in ap beside here
 row_timers (x ∷ xs) k beside (suc d) n is none = row_timers xs (suc k) beside d n (omega arith) (λ past. none (omega arith))
 
--- the rows have the timers of the heap
+-- the timers of the rows are those of the heap
 pub timers_are : (m : WorldParts) → PartsFit m → AreTimers m.core.timers.entries (map (λ (row : DescriptorRow). row.timers) (meant m).descriptors)
 timers_are m h d = row_timers m.core.descriptors.items 0 (timers_of m.core.timers.entries) d d (omega arith) (h.unarmed d)

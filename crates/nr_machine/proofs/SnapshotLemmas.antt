@@ -13,7 +13,8 @@ use Rattle.nr_machine.specs.World.{WorldParts}
 use Rattle.nr_rev.specs.declared.limits.Limits.{Limits}
 use Rattle.nr_machine.specs.declared.world_core.Core.{Core}
 
--- each has the limit; the sockets from the first one on that come before this one or have no lock are closed
+-- each buffer has the limit; of the sockets from `first` on, those before `socket` or without a
+-- lock are closed
 pub record AreReset (buffer first socket locks : ℕ) (socks : List SockParts) : Type 0 where
   pub limit : HaveLimit buffer socks
   pub closed : (s : ℕ) (sock : SockParts) → slice_get socks s ≡ Some sock → first ≤ s → (s < socket) ⊎ (locks ≤ s) → sock.opened ≡ None
@@ -63,7 +64,7 @@ same_sock : (sock : SockParts) (buffer : ℕ) → sock.limit ≡ buffer → sock
 same_sock sock buffer limit opened =
     subst (λ b. sock ≡ record { limit = b; opened = None }) limit (subst (λ o. sock ≡ record { limit = sock.limit; opened = o }) opened refl)
 
--- when no socket with a lock is left, all from the first one on are closed
+-- when no socket with a lock is left, all sockets from `first` on are closed
 pub reset-all : (buffer first socket locks : ℕ) (socks : List SockParts) → locks ≤ socket → first ≤ length socks → AreReset buffer first socket locks socks
     → socks ≡ take first socks ++ replicate (length socks - first) (never_opened buffer)
 reset-all buffer first socket locks socks reached within reset =
@@ -83,11 +84,11 @@ reset-all buffer first socket locks socks reached within reset =
     either : (s socket locks : ℕ) → locks ≤ socket → (s < socket) ⊎ (locks ≤ s)
     either s socket locks reached = grind arith
 
--- equal parts are equal
+-- parts with equal cores and equal buffers are equal
 pub parts_are : (a b : Core) (xs ys : List SockParts) → a ≡ b → xs ≡ ys → ◌≡◌ {A = WorldParts} (record { core = a; socks = xs }) (record { core = b; socks = ys })
 parts_are a b xs ys core socks = rw (core, socks) refl
 
--- the lists are the same from a place on, and so is the item at the place
+-- if two lists are equal from an index on, they have the same item at the index
 pub same_at : (i : ℕ) (xs ys : List SockParts) (x : SockParts) → drop i xs ≡ drop i ys → i < length ys → x ≡ get_or xs i x → slice_get ys i ≡ Some x
 same_at i xs ys x same within read =
     let here : i + 0 ≡ i = omega arith in
@@ -95,13 +96,13 @@ same_at i xs ys x same within read =
     ap (λ k. get_or xs k x) (sym here) ∙ sym (get_or-drop i xs 0 x) ∙ ap (λ zs. get_or zs 0 x) same ∙ get_or-drop i ys 0 x ∙ ap (λ k. get_or ys k x) here in
     slice_get_read ys (length ys) i x refl within (read ∙ there)
 
--- an item of a list is in a longer one
+-- appending to a list doesn't change the items at its indexes
 pub slice_get-before : {X : Type 0} (xs ys : List X) (s : ℕ) (x : X) → slice_get xs s ≡ Some x → slice_get (xs ++ ys) s ≡ Some x
 slice_get-before [] ys s x at = cc
 slice_get-before (y ∷ xs) ys zero x at = at
 slice_get-before (y ∷ xs) ys (suc s) x at = slice_get-before xs ys s x at
 
--- an item of a list that was written over another is in the first, or after it in the other
+-- if xs is written over the start of ys, each item comes from xs, or from the rest of ys
 pub slice_get-written : {X : Type 0} (xs ys : List X) (s : ℕ) (x : X) → slice_get (xs ++ drop (length xs) ys) s ≡ Some x
     → (slice_get xs s ≡ Some x) ⊎ ((length xs ≤ s) × (slice_get ys s ≡ Some x))
 slice_get-written [] ys s x at = inr (omega arith, at)
@@ -112,12 +113,12 @@ slice_get-written (y ∷ xs) (z ∷ ys) (suc s) x at = elim (slice_get-written x
   | inr behind ↦ let far = behind.0 in inr (omega (arith, far), behind.1)
 ]
 
--- the snapshot's sockets, the closed ones after them, and its limits, which are those of a world
+-- true if the snapshot's sockets are these opened and closed ones, and its limits are the world's
 pub record IsOpened (world snapshot : WorldParts) (opened rest : List SockParts) : Type 0 where
   pub socks : snapshot.socks ≡ opened ++ rest
   pub limits : snapshot.core.limits ≡ world.core.limits
 
--- both are views, and these are the snapshot's sockets
+-- the parts that contracts see satisfy IsOpened
 pub is_opened : (seen world_seen world snapshot : WorldParts) (kept opened rest : List SockParts) → seen ≡ snapshot → world_seen ≡ world → seen.socks ≡ kept ++ rest → kept ≡ opened
     → world_seen.core.limits ≡ seen.core.limits → IsOpened world snapshot opened rest
 is_opened seen world_seen world snapshot kept opened rest is world_is socks same limits =
@@ -126,21 +127,21 @@ is_opened seen world_seen world snapshot kept opened rest is world_is socks same
       limits = ap (λ (m : WorldParts). m.core.limits) (sym is) ∙ sym limits ∙ ap (λ (m : WorldParts). m.core.limits) world_is;
     }
 
--- a world whose first sockets are snapshots, and another with the same limits
+-- a world, and a snapshot with the same limits and these sockets
 module _ (world snapshot : WorldParts) (opened rest : List SockParts) (there : PartsFit world) (kept : PartsFit snapshot) (of : IsOpened world snapshot opened rest) where
-  -- the snapshots have the limit of the other's sockets
+  -- the opened sockets of the snapshot have the world's limit
   pub opened_limit : HaveLimit world.core.limits.buffer opened
   opened_limit s sock at =
       (kept.socks s sock (subst (λ xs. slice_get xs s ≡ Some sock) (sym of.socks) (slice_get-before opened rest s sock at))).limit ∙ ap (λ (l : Limits). l.buffer) of.limits
 
-  -- there are no more of them than the other has
+  -- the snapshot doesn't have more opened sockets than the world has sockets
   pub opened_within : length opened ≤ length world.socks
   opened_within =
       let many = length-append opened rest in
       let of_snapshot = ap length (sym of.socks) ∙ kept.socks_made ∙ ap (λ (l : Limits). l.sockets) of.limits ∙ sym there.socks_made in
       omega (arith, many, of_snapshot)
 
-  -- once they are written over the other's, there are as many sockets as before
+  -- writing the opened sockets over the world's doesn't change the number of sockets
   pub written_count : length (opened ++ drop (length opened) world.socks) ≡ length world.socks
   written_count =
       let many = length-append opened (drop (length opened) world.socks) in
@@ -148,14 +149,14 @@ module _ (world snapshot : WorldParts) (opened rest : List SockParts) (there : P
       let within = opened_within in
       omega (arith, many, left, within)
 
-  -- each has the limit
+  -- after the write, each socket has the limit
   pub written_limit : HaveLimit world.core.limits.buffer (opened ++ drop (length opened) world.socks)
   written_limit s sock at = elim (slice_get-written opened world.socks s sock at) [
     | inl first ↦ opened_limit s sock first
     | inr behind ↦ (there.socks s sock behind.1).limit
   ]
 
-  -- after them, the sockets without a lock are closed
+  -- after the opened sockets, those without a lock are closed
   pub written_closed : AreClosedFrom (length opened) (length world.core.locks.items) (opened ++ drop (length opened) world.socks)
   written_closed s sock at from none = elim (slice_get-written opened world.socks s sock at) [
     | inl first ↦ let within = slice_get_within opened s sock first in absurd (omega (arith, within, from))

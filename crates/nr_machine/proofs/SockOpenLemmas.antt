@@ -1,4 +1,4 @@
--- The step that opens a socket: the parts and the machine have the same outcome.
+-- Opening a socket has the same outcome in the parts and in the machine.
 use Rattle.std.proofs.Common.{◌≡◌, inl, inr, ℕ, ◌+◌, ◌-◌, ◌/◌, ◌<◌, ◌≤◌, true, false, List, [], ◌∷◌, ◌++◌, get_or, length, set, Option, Some, None, Ok, Err, refl, sym, ap, subst, ◌∙◌, arith, length-set}
 use Rattle.std.proofs.lemmas.Bool.Decides.{nat_tests}
 use Rattle.std.proofs.lemmas.List.{length-append}
@@ -87,14 +87,14 @@ module _ (m : WorldParts) (h : IsWorld m) where
   next_below : n < m.core.limits.sockets → n < length m.socks
   next_below room = let made = h.parts.socks_made in omega (arith, made, room)
 
-  -- the next socket's buffers, read at its index
+  -- the next socket's buffers are those that a read at its index returns
   pub next_found : (k : ℕ) (sock : SockParts) → k ≡ n → k < m.core.limits.sockets → sock ≡ get_or m.socks k sock → (n < m.core.limits.sockets) × (slice_get m.socks n ≡ Some sock)
   next_found k sock len within read =
       let room : n < m.core.limits.sockets = omega (arith, len, within) in
       (room, slice_get_read m.socks (length m.socks) n sock refl (next_below room) (subst (λ (j : ℕ). sock ≡ get_or m.socks j sock) len read))
 
   module _ (room : n < m.core.limits.sockets) (before : SockParts) (at : slice_get m.socks n ≡ Some before) where
-    -- they were never opened
+    -- the next socket's buffers were never opened
     was_closed : before ≡ never_opened m.core.limits.buffer
     was_closed =
         let fits : SockFits m.core n before = h.parts.socks n before at in
@@ -110,7 +110,7 @@ module _ (m : WorldParts) (h : IsWorld m) where
     takes_none None rc wc some = omega (arith, some)
     takes_none (Some opened) rc wc some = omega (arith, some)
 
-    -- a reason of the buffers is a reason of the step
+    -- the step is refused for the reason for which the buffers refuse it
     pub opening_refused : (step : Step) (e : Refusal) → IsOpening step → Refuses sock.sock_reason sock.TakesMemory before step e → parts_reason m step ≡ Some e
     opening_refused (SockOpen rc wc) e is (inl why) =
         ap refusal_of (at_buffers rc wc ∙ ap (lifted_opening (meant m)) (refused_for (sock.outcome before (SockOpen rc wc)) e why))
@@ -121,7 +121,7 @@ module _ (m : WorldParts) (h : IsWorld m) where
       semaphores_there : (both : Sides Semaphore) × (slice_get m.core.goroutines.semaphores n ≡ Some both)
       semaphores_there = get_within m.core.goroutines.semaphores n (let sockets = h.parts.core.semaphores in omega (arith, sockets, room))
 
-      -- the parts with one more socket represent a world with one more
+      -- adding a socket to the parts adds it to the world
       opening_means : meant (with_opening after m) ≡ record (meant m) { sockets = (meant m).sockets ++ put_back after.opened (new_socket 0 0) ∷ [] }
       opening_means =
           let new : (rest_at m.core.goroutines.semaphores m.socks n).semaphores ≡ twice new_semaphore =
@@ -194,7 +194,7 @@ module _ (m : WorldParts) (h : IsWorld m) where
           ),
         )
 
-    -- what the buffers make is a step
+    -- if the buffers carry out the step, the world's step is made
     pub opening_made : (step : Step) (answer : Answer) (delta : SockDelta) (after : SockParts) (k : ℕ) (core : Core) → IsOpening step → sock.StepTo before step answer after
         → sock_delta.LeadsBack delta after before → sock_delta.delta_weight delta ≤ 3 + (bytes_left step answer + 7) / 8 → k ≡ n → core ≡ with_lock_more m.core
         → Made (outcome (meant m) step) (asked_of m step) (MOST_WORDS + (bytes_left step (Number k) + 7) / 8) m (Number k) (Opened delta)

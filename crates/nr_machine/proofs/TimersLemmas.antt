@@ -1,4 +1,4 @@
--- The steps of the clock and of timers: the parts and the machine have the same outcome.
+-- Steps of the clock and of timers have the same outcome in the parts and in the machine.
 use Rattle.std.proofs.Common.{◌≡◌, false, [], ℤ, refl, lit≤}
 use Rattle.std.specs.Prelude.{int_lt}
 use Rattle.nr_rev.specs.declared.answer.Answer.TheVariants.{Done}

@@ -1,4 +1,4 @@
--- What a step touches, read from the parts.
+-- Reading what a step touches from the parts.
 use Rattle.std.proofs.Common.{◌≡◌, ℕ, ◌<◌, ◌≤◌, List, [], length, Option, Some, None, refl, ap, ◌∙◌}
 use Rattle.std.specs.Prelude.{option_and_then, option_map, slice_get}
 use Rattle.std.specs.Option.{option_map_or}
@@ -15,7 +15,7 @@ use Rattle.nr_machine.proofs.QueueLemmas.{no_queue, queue_here}
 use Rattle.nr_machine.proofs.RowsLemmas.{length-rows_of, row_at, row_past}
 
 module _ (m : WorldParts) (s : ℕ) (side : Side) where
-  -- the front of the queue of a socket, if it exists
+  -- the front of the queue of a socket, if the socket exists
   abbrev pub front_there : Option ℕ
   front_there = option_and_then (λ (x : Socket). front_of (of_side side x.semaphores)) (slice_get (meant m).sockets s)
 
@@ -38,12 +38,12 @@ pub held_here : (m : WorldParts) (d : ℕ) (x : Descriptor) → slice_get m.core
 held_here m d x at =
     ap (λ (o : Option DescriptorRow). option_map_or (λ (row : DescriptorRow). held_of row.descriptor) o []) (row_at m.core.descriptors.items m.core.timers.entries d x at)
 
--- no goroutine, if the descriptor doesn't exist
+-- the words of a descriptor that doesn't exist hold no goroutine
 pub held_nowhere : (m : WorldParts) (d : ℕ) → slice_get m.core.descriptors.items d ≡ None → held_at d (meant m) ≡ []
 held_nowhere m d at =
     ap (λ (o : Option DescriptorRow). option_map_or (λ (row : DescriptorRow). held_of row.descriptor) o []) (row_past m.core.descriptors.items m.core.timers.entries d at)
 
--- the next number is the first free one, or else a new one
+-- if no number is free, the next descriptor has a new number
 pub next_more : (m : WorldParts) → slice_get m.core.free.items 0 ≡ None → next_descriptor (meant m) ≡ length m.core.descriptors.items
 next_more m none =
     ap (λ (o : Option ℕ). option_map_or (λ (d : ℕ). d) o (length (meant m).descriptors)) none ∙ length-rows_of m.core.descriptors.items m.core.timers.entries

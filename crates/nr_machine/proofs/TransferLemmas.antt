@@ -1,4 +1,4 @@
--- The steps on the buffers of a socket: the parts and the machine have the same outcome.
+-- Steps on a socket's buffers have the same outcome in the parts and in the machine.
 use Rattle.std.proofs.Common.{◌≡◌, inl, inr, ℕ, ◌+◌, ◌/◌, ◌<◌, ◌≤◌, Bool, true, false, List, [], get_or, length, set, Option, Some, None, Result, Ok, Err, refl, sym, ap, subst, ◌∙◌, arith, length-set, set-set}
 use Rattle.std.proofs.lemmas.Option.{same_Some, slice_get_past, slice_get_read, slice_get_within}
 use Rattle.std.specs.Prelude.{IfErr, IfOk, OnErr, slice_get}
@@ -37,12 +37,12 @@ use Rattle.nr_machine.specs.World.{WorldParts, meant}
 use Rattle.nr_machine.proofs.ListLemmas.{get_within, set_same}
 use Rattle.nr_machine.proofs.SocketsLemmas.{length-sockets_of, sock_at, sock_set, socket_at, socket_past, socket_with}
 
--- ---- the steps are those of the machine
+-- ---- the outcome of the buffers is that of the machine
 
 goes_on : {r : Result (Unit {0}) Refusal} (x : Outcome) → r ≡ Ok tt → (r >> x) ≡ x
 goes_on x is = ap (λ r. r >> x) is
 
--- if the socket exists, its buffers decide
+-- if the socket exists, its buffers determine the outcome
 transfer_leads : (w : World) (s : ℕ) (socket : Socket) (step : Step) → IsTransfer s w step → IsThere s socket w → outcome w step ≡ lifted s socket w (sock.outcome (sock_of socket w) step)
 transfer_leads w s socket (Arrive t bytes) is there = rw (is) (arrive_agrees s bytes socket w there)
 transfer_leads w s socket (PeerClose t) is there = rw (is) (peerclose_agrees s socket w there)
@@ -52,7 +52,7 @@ transfer_leads w s socket (Drain t n) is there = rw (is) (drain_agrees s n socke
 transfer_leads w s socket (CloseWrite g t) is there = rw (is.0) (closewrite_agrees g s socket w there ∙ goes_on _ is.1)
 transfer_leads w s socket _ is there = absurd is
 
--- if it doesn't, the step is refused
+-- if the socket doesn't exist, the step is refused
 transfer_nowhere : (w : World) (s : ℕ) (step : Step) → IsTransfer s w step → slice_get w.sockets s ≡ None → outcome w step ≡ Err NoSuchSocket
 transfer_nowhere w s (Arrive t bytes) is none = rw (is, none) refl
 transfer_nowhere w s (PeerClose t) is none = rw (is, none) refl
@@ -78,7 +78,7 @@ open_again : (o : Option OpenSock) → is_opened o ≡ true → Some (buffers_in
 open_again None is = cc
 open_again (Some opened) is = refl
 
--- the socket's buffers are those that the world has
+-- the buffers in the parts are those of the world's socket
 sock_seen : (m : WorldParts) (s : ℕ) (lock : Lock) (before : SockParts) → PartsFit m → slice_get m.core.locks.items s ≡ Some lock → slice_get m.socks s ≡ Some before
     → sock_of (socket_with m s lock) (meant m) ≡ before
 sock_seen m s lock before h locked at =
@@ -95,14 +95,14 @@ put_means : (lock : Lock) (rest : SocketRest) (o : Option OpenSock) → is_opene
 put_means lock rest None is = cc
 put_means lock rest (Some opened) is = refl
 
--- parts with other buffers represent a world with these
+-- changing the buffers in the parts changes them in the world
 sock_means : (m : WorldParts) (s : ℕ) (lock : Lock) (after : SockParts) → slice_get m.core.locks.items s ≡ Some lock → s < length m.socks → is_opened after.opened ≡ true
     → meant (with_sock s after m) ≡ with_socket s (put_back after.opened (socket_with m s lock)) (meant m)
 sock_means m s lock after locked within is =
     ap (λ (sockets : List Socket). record (meant m) { sockets = sockets }) (sock_set m.core.locks.items m.core.goroutines.semaphores m.socks s lock after locked within)
     ∙ ap (λ (socket : Socket). with_socket s socket (meant m)) (put_means lock (rest_at m.core.goroutines.semaphores m.socks s) after.opened is)
 
--- parts with other buffers fit
+-- the parts still fit after the buffers change
 sock_fits : (m : WorldParts) (s : ℕ) (before after : SockParts) → PartsFit m → slice_get m.socks s ≡ Some before → SockFits m.core s after → PartsFit (with_sock s after m)
 sock_fits m s before after h at fits =
     record {
@@ -117,7 +117,7 @@ sock_fits m s before after h at fits =
       unarmed = h.unarmed;
     }
 
--- a delta of the buffers leads back
+-- undoing the delta of the buffers restores the parts
 pub sock_back : (m : WorldParts) (s : ℕ) (delta : SockDelta) (before after : SockParts) → slice_get m.socks s ≡ Some before → sock_delta.LeadsBack delta after before
     → SockBack s delta (with_sock s after m) m
 sock_back m s delta before after at back =
@@ -129,7 +129,7 @@ sock_back m s delta before after at back =
       rest = ap (λ (socks : List SockParts). record m { socks = socks }) (sym (set-set m.socks s after before ∙ set_same m.socks s before at));
     }
 
--- every socket has buffers, and those below the number of locks are open
+-- every opened socket has buffers
 sock_below : (m : WorldParts) (s : ℕ) → IsWorld m → s < length m.core.locks.items → s < length m.socks
 sock_below m s h below =
     let many : length (meant m).sockets ≡ length m.core.locks.items = length-sockets_of m.core.locks.items m.core.goroutines.semaphores m.socks in
@@ -137,7 +137,7 @@ sock_below m s h below =
     let made = h.parts.socks_made in
     omega (arith, below, many, most, made)
 
--- the buffers of an existing socket, read at its index
+-- the buffers of an existing socket are those that a read at its index returns
 pub sock_found : (m : WorldParts) (s n : ℕ) (sock : SockParts) → IsWorld m → n ≡ length m.core.locks.items → s < n → sock ≡ get_or m.socks s sock
     → (s < length m.core.locks.items) × (slice_get m.socks s ≡ Some sock)
 sock_found m s n sock h len within read =
@@ -165,7 +165,7 @@ module _ (m : WorldParts) (s : ℕ) (step : Step) (h : IsWorld m) (is : IsTransf
     abbrev seen : Socket
     seen = socket_with m s lock_there.0
 
-    -- otherwise its buffers decide
+    -- if the socket exists, its buffers determine the outcome
     at_buffers : outcome (meant m) step ≡ lifted s seen (meant m) (sock.outcome before step)
     at_buffers =
         transfer_leads (meant m) s seen step is (socket_at m.core.locks.items m.core.goroutines.semaphores m.socks s lock_there.0 lock_there.1)
@@ -178,7 +178,8 @@ module _ (m : WorldParts) (s : ℕ) (step : Step) (h : IsWorld m) (is : IsTransf
     no_reason (Ok left) why = refl
     no_reason (Err reason) why = cc
 
-    -- a reason of the buffers is a reason of the step, and memory is taken for bytes that leave
+    -- the step is refused for the buffers' reason, or because memory ran out for the bytes that
+    -- leave
     pub transfer_refused : (keeps : Bool) (e : Refusal) → keeps ≡ true → Refuses sock.sock_reason sock.TakesMemory before step e
         → Refuses parts_reason (λ (k : WorldParts) (op : Step). (keeps ≡ true) × TakesMemory k op) m step e
     transfer_refused keeps e is_kept (inl why) = inl (ap refusal_of (buffers_refused e why))
@@ -202,7 +203,7 @@ module _ (m : WorldParts) (s : ℕ) (step : Step) (h : IsWorld m) (is : IsTransf
       stays : (after.limit ≡ before.limit) × (is_opened after.opened ≡ true)
       stays = (leaves_open before step).value (answer, after) leads
 
-      -- what the buffers make is a step
+      -- if the buffers carry out the step, the world's step is made
       pub transfer_advanced : Advanced (outcome (meant m) step) (asked_of m step) m answer (with_sock s after m)
       transfer_advanced =
           let was : SockFits m.core s before = h.parts.socks s before at in
@@ -218,12 +219,12 @@ module _ (m : WorldParts) (s : ℕ) (step : Step) (h : IsWorld m) (is : IsTransf
             timers = subst (λ asked. TimersMade asked m.core.timers m.core.timers) (sym (asks_nothing m s step is)) refl;
           }
 
-      -- the delta of the buffers leads back
+      -- undoing the delta of the buffers undoes the step
       pub transfer_undoes : (delta : SockDelta) → sock_delta.LeadsBack delta after before → sock_delta.delta_weight delta ≤ 3 + (bytes_left step answer + 7) / 8
           → LeadsBackWithin (MOST_WORDS + (bytes_left step answer + 7) / 8) (with_sock s after m) m (Sock s delta)
       transfer_undoes delta back light = (sock_back m s delta before after at back, omega (arith, light))
 
-    -- the outcome of the buffers if no delta is kept
+    -- the outcome of the step if no delta is kept
     pub transfer_advances : {Place : Type 0} (keeps : Bool) (holds : Place → WorldUndo → Type 0) (place : Place) → keeps ≡ false → (after : SockParts) (r : Result Answer Refusal)
         → IfOk r (λ answer. sock.StepTo before step answer after) → IfErr r (λ e. sock.sock_reason before step ≡ Some e) → OnErr r (after ≡ before)
         → MakesStep keeps holds place step m r (with_sock s after m)

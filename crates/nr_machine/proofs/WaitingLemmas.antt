@@ -1,4 +1,4 @@
--- The steps of a wait: the parts and the machine have the same outcome.
+-- The steps of a wait have the same outcome in the parts and in the machine.
 use Rattle.std.proofs.Common.{◌≡◌, ℕ, ◌+◌, ◌^◌, ◌<◌, Bool, true, false, List, [], length, Option, Some, None, Result, Ok, Err, refl, sym, ap, subst, ◌∙◌, arith}
 use Rattle.std.proofs.lemmas.Option.{slice_get_within}
 use Rattle.std.specs.Prelude.{slice_get}
@@ -45,9 +45,9 @@ use Rattle.nr_machine.proofs.FitsLemmas.{IsTiedAs, counted_fits, descriptor_fits
 use Rattle.nr_machine.proofs.ListLemmas.{set_same}
 use Rattle.nr_machine.proofs.RowsLemmas.{descriptor_set, row_at, row_past, row_with}
 
--- ---- the kinds, as operations on a word
+-- ---- the steps, as operations on a word
 
--- the rest of a step on a descriptor's row
+-- two ways to continue from a row agree if they agree on the row that is found
 by_row : {A : Type 0} (r : Result DescriptorRow Refusal) (f h : DescriptorRow → Result A Refusal) → ((row : DescriptorRow) → r ≡ Ok row → f row ≡ h row) → (r >>= f) ≡ (r >>= h)
 by_row (Ok row) f h same = same row refl
 by_row (Err e) f h same = refl
@@ -103,18 +103,18 @@ module _ (m : WorldParts) (g d : ℕ) (o : DescOp) where
   by_descriptor None e at refused = rw (row_past m.core.descriptors.items m.core.timers.entries d at) (cc)
   by_descriptor (Some x) e at refused = rw (row_at m.core.descriptors.items m.core.timers.entries d x at, refused) refl
 
-  -- an operation that a descriptor of the parts refuses is refused in the world
+  -- if the descriptor in the parts refuses an operation, the world refuses it too
   pub waiting_refused : (e : Refusal) → desc_outcome d o m.core ≡ Err e → waiting g d o (meant m) ≡ Err e
   waiting_refused e refused = by_descriptor (slice_get m.core.descriptors.items d) e refl refused
 
-  -- an operation that it carries out leads there
+  -- if the descriptor in the parts carries out an operation, the world does too
   pub waiting_leads : (before after : Descriptor) (answer : DescAnswer) → slice_get m.core.descriptors.items d ≡ Some before → desc_op_auxiliary.StepTo before o answer after
       → waiting g d o (meant m)
       ≡ Ok (answer.answer, with_parked (parks o answer.answer) (with_status g (status_after d o answer.answer) (with_descriptor d (row_with m d before) after (meant m))))
   waiting_leads before after answer at leads =
       rw (row_at m.core.descriptors.items m.core.timers.entries d before at, leads.defined) refl
 
--- after such an operation, a goroutine may have this status
+-- the status after such an operation isn't one that only the table sets
 after_movable : (d : ℕ) (o : DescOp) (answer : Answer) → is_movable (status_after d o answer) ≡ true
 after_movable d (op.Arm side) Answer.Wait = refl
 after_movable d (op.Arm side) _ = refl
@@ -146,7 +146,7 @@ wait_moves m g d from o before after answer undo mid h there movable describes =
       queued = h.parts.core.queued;
     })
 
--- a status changes alone
+-- only a status changes
 pub moved_made : (old : WorldParts) (g : ℕ) (to : Status) (answer : Answer) (delta : GDelta) (new : Core) → PartsFit old → Moves old.core g to delta new
     → Made (Ok (answer, with_status g to (meant old))) [] MOST_WORDS old answer (Goroutine delta) (record old { core = new })
 moved_made old g to answer delta new parts moves =
@@ -190,7 +190,7 @@ described_means m g d to before after =
     ap (λ (rows : List DescriptorRow). record (with_status g to (meant m)) { descriptors = rows }) (descriptor_set m.core.descriptors.items m.core.timers.entries d after)
 
 module _ (old : WorldParts) (g d : ℕ) (o : DescOp) (answer : DescAnswer) (undo : DescUndo) (delta : GDelta) (mid moved new : Core) where
-  -- changing a descriptor and a status in this way is the step
+  -- changing a descriptor and a status in this way makes the step
   pub waiting_made : (before after : Descriptor) → PartsFit old → Describes old.core d o before after answer undo mid → Moves mid g (status_after d o answer.answer) delta moved
       → new ≡ core_parked (parks o answer.answer) moved → ParkBack (parks o answer.answer) new moved
       → Made (waiting g d o (meant old)) [] MOST_WORDS old answer.answer (Waited undo delta (parks o answer.answer)) (record old { core = new })
@@ -223,14 +223,14 @@ module _ (old : WorldParts) (g d : ℕ) (o : DescOp) (answer : DescAnswer) (undo
 
 -- ---- the number of goroutines that may wait
 
--- the number of waiters plus one has 64 bits
+-- the number of waiters plus one fits into 64 bits
 pub one_more_waits : (m : WorldParts) → IsWorld m → m.core.waiters + 1 < 2 ^ 64
 one_more_waits m h =
     let most = waiters_within (meant m) h.meaning in
     let range = h.parts.core.in_range.descriptors_most in
     omega (arith, most, range)
 
--- goroutines that were made have numbers below the greatest number of them
+-- a goroutine's number is below the maximum number of goroutines
 pub below_most : (m : WorldParts) (g : ℕ) (status : Status) → IsWorld m → status_of g (meant m) ≡ Ok status → g < MOST_GOROUTINES
 below_most m g status h there =
     let within : g < length m.core.goroutines.goroutines = slice_get_within m.core.goroutines.goroutines g status ((Ends-status_of g (meant m)).value status there) in

@@ -1,4 +1,5 @@
--- Goroutines that are woken: which they are, and that their outcome is what the machine says of wakes.
+-- The goroutines that an operation wakes: waking them has the same outcome in the parts and in the
+-- machine.
 use Rattle.std.proofs.Common.{◌≡◌, ℕ, ◌+◌, ◌-◌, ◌<◌, ◌≤◌, List, ◌++◌, length, get_or, set, Option, Some, None, inl, inr, refl, sym, ap, subst, ◌∙◌, arith, length-append}
 use Rattle.std.proofs.lemmas.List.Sums.{get_or-le-sum_by}
 use Rattle.std.proofs.lemmas.Option.{get_or_from_slice_get, slice_get_within}
@@ -75,7 +76,7 @@ sides_counted old new =
     let both = length-append (option_to_list (let_go old.read new.read)) (option_to_list (let_go old.write new.write)) in
     omega (arith, read, write, both)
 
--- they are no more than the words held
+-- an operation wakes no more goroutines than the words held
 woken_counted : (o : DescOp) (old new : Descriptor) → length (listed (woken_by o old new)) ≤ bit (is_held old.words.read) + bit (is_held old.words.write)
 woken_counted (op.SetDeadline clock mode t) old new = sides_counted old.words new.words
 woken_counted op.Evict old new = sides_counted old.words new.words
@@ -107,7 +108,7 @@ module _ (m : WorldParts) (d : ℕ) (x : Descriptor) (h : IsWorld m) (there : sl
       let counted = h.meaning.words.counted in
       omega (arith, one, counted)
 
-  -- so the goroutines that an operation on a descriptor wakes can be woken
+  -- the goroutines that an operation on a descriptor wakes are parked and counted
   pub can_wake : (o : DescOp) (after : Descriptor) (answer : DescAnswer) (core : Core) → StepTo x o answer after → core.goroutines ≡ m.core.goroutines → core.waiters ≡ m.core.waiters
       → CanWake d answer.woken core
   can_wake o after answer core step goroutines waiters =
@@ -125,7 +126,7 @@ module _ (m : WorldParts) (d : ℕ) (x : Descriptor) (h : IsWorld m) (there : sl
 
 -- ---- one after the other
 
--- the goroutine, if any, is parked at d's side and counted
+-- true if goroutine g is parked at d's side and counted
 abbrev pub Waits : ℕ → Side → Core → ℕ → Type 0
 Waits d side core g = (slice_get core.goroutines.goroutines g ≡ Some (Parked d side)) × (0 < core.waiters)
 
@@ -173,7 +174,7 @@ wakes_append : (read write : Option ℕ) (w : World) → after_wakes (option_to_
 wakes_append None write w = refl
 wakes_append (Some g) write w = refl
 
--- the woken goroutines, reading first
+-- waking the goroutines of both sides, reading first, has the same effect in parts and world
 pub both_mean : (m : WorldParts) (d : ℕ) (both : Sides (Option ℕ)) (core : Core) → CanWake d both core
     → meant (record m { core = woken_both d both core }) ≡ after_wakes (listed both) (meant (record m { core = core }))
 both_mean m d both core can =

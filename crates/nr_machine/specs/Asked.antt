@@ -1,4 +1,5 @@
--- The requests of steps to the timers, whose places in the heap the represented world doesn't show.
+-- The operations on the timers that steps request, because the represented world doesn't show
+-- places in the heap.
 use Rattle.std.specs.Prelude.{◌≡◌, ℕ, List, [], ◌∷◌, map, Ok, Err}
 use Rattle.nr_rev.specs.declared.step.Step.{Step}
 use Rattle.nr_rev.specs.declared.step.Step.TheVariants as step
@@ -14,27 +15,27 @@ use Rattle.nr_timers.specs.declared.op.TimersOp.TheVariants as timers
 use Rattle.nr_machine.specs.Changing.{desc_outcome}
 use Rattle.nr_machine.specs.World.{WorldParts}
 
--- true if these operations, one after another, make the new timers of the old ones
+-- true if these operations, one after another, turn the old timers into the new ones
 abbrev pub TimersMade : List TimersOp → State → State → Type 0
 TimersMade [] old new = new ≡ old
 TimersMade (op ∷ asked) old new =
     (mid : State) × TimersStep old op tt mid × TimersMade asked mid new
 
--- the operation for an order to the timers of descriptor d
+-- the operation that carries out an order to the timers of descriptor d
 abbrev pub timers_op : ℕ → TimerOrder → TimersOp
 timers_op d (order.Arm side due function sequence) = timers.Arm d side due function sequence
 timers_op d (order.Stop side) = timers.Stop d side
 
--- the operations on the timers of descriptor d that an outcome asks for
+-- the operations on the timers of descriptor d that an outcome requests
 abbrev pub asked_by : ℕ → Outcome → List TimersOp
 asked_by d (Ok left) = map (timers_op d) left.1.orders
 asked_by d (Err e) = []
 
--- the operations on its timers that an operation on descriptor d asks for
+-- the operations on the timers that an operation on descriptor d requests
 abbrev pub asked_at : ℕ → DescOp → WorldParts → List TimersOp
 asked_at d op m = asked_by d (desc_outcome d op m.core)
 
--- the operations on the timers that a step asks for
+-- the operations on the timers that a step requests
 abbrev pub asked_of : WorldParts → Step → List TimersOp
 asked_of m (step.SetDeadline g d mode t) = asked_at d (desc.SetDeadline m.core.clock mode t) m
 asked_of m (step.Evict g d) = asked_at d desc.Evict m

@@ -6,7 +6,7 @@ use Rattle.nr_desc.specs.Op as desc_op
 use Rattle.nr_desc.specs.declared.op.DescOp.{DescOp}
 use Rattle.nr_machine.specs.declared.world_core.Core.{Core}
 
--- the outcome of an operation on a descriptor; reason 5 if there is no such descriptor
+-- the outcome of an operation on a descriptor; refused for reason 5 if no such descriptor exists
 abbrev pub desc_outcome : ℕ → DescOp → Core → desc_op.Outcome
 desc_outcome d op core =
     found_or (slice_get core.descriptors.items d) NoSuchDescriptor

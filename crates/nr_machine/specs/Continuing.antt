@@ -1,5 +1,5 @@
--- The outcome of changing a descriptor with its timers: the timers follow orders, and goroutines
--- are woken.
+-- The outcome of changing a descriptor with its timers: orders are carried out, and goroutines are
+-- woken.
 use Rattle.std.specs.Prelude.{◌≡◌, ℕ, ◌≤◌, List, length, map, remove, slice_get, Option, Some, None, Result, Ok}
 use Rattle.nr_rev.specs.declared.refusal.Refusal.{Refusal}
 use Rattle.nr_rev.specs.declared.sides.Side.{Side}
@@ -26,7 +26,8 @@ use Rattle.nr_machine.specs.declared.world_core.Core.{Core}
 use Rattle.nr_machine.specs.Asked.{TimersMade, timers_op}
 use Rattle.nr_machine.specs.Auxiliary.Changing.{TimersBack, woken}
 
--- an operation on descriptor d: its orders are carried out, and its goroutines woken
+-- the outcome of an operation on descriptor d, whose orders are carried out and whose goroutines
+-- are woken
 abbrev pub changing : ℕ → DescOp → World → Outcome
 changing d op w = do
   row ← row_of d w
@@ -40,13 +41,13 @@ without_firing place w = record w { firings = remove w.firings place }
 
 -- ---- in the parts
 
--- the timers of descriptor d followed these orders, and nothing else changed
+-- true if the timers of descriptor d carried out these orders, and nothing else changed
 pub record Obeyed (old : Core) (d : ℕ) (orders : List TimerOrder) (new : Core) : Type 0 where
   pub timers : TimersMade (map (timers_op d) orders) old.timers new.timers
   pub rest : new ≡ record old { timers = new.timers }
   pub fits : IsTimers new.timers
 
--- the firing at this place was removed, and nothing else changed; the delta is light
+-- true if only the firing at this place was removed, with a delta of at most 8 words
 pub record TakesFiring (old : Core) (place : ℕ) (delta : TimersDelta) (new : Core) : Type 0 where
   pub rest : new ≡ record old { timers = new.timers }
   pub step : TimersStep old.timers (TakeFiring place) tt new.timers
@@ -54,21 +55,21 @@ pub record TakesFiring (old : Core) (place : ℕ) (delta : TimersDelta) (new : C
   pub back : TimersBack delta new old
   pub light : delta_weight delta ≤ 8
 
--- the outcome of orders to the timers of descriptor d: its timers, and the next arming number
+-- the outcome of orders to the timers of descriptor d: the timers and the next arming number
 abbrev pub orders_outcome : ℕ → List TimerOrder → Core → Result (Sides (Option Timer) × ℕ) Refusal
 orders_outcome d orders core =
     after_orders orders (timers_of core.timers.entries d, core.timers.next)
 
--- the goroutine, if any, continues from d's side
+-- the core after the goroutine, if any, is woken at d's side
 abbrev pub woken_any : ℕ → Side → Option ℕ → Core → Core
 woken_any d side None core = core
 woken_any d side (Some g) core = woken g d side core
 
--- the goroutines, if any, continue from d's sides, reading first
+-- the core after the goroutines, if any, are woken at d's sides, reading first
 abbrev pub woken_both : ℕ → Sides (Option ℕ) → Core → Core
 woken_both d both core = woken_any d Write both.write (woken_any d Read both.read core)
 
--- each goroutine, if any, is parked at d's side, and is counted
+-- true if each goroutine is parked at its side of d, and the number of waiters includes it
 pub record CanWake (d : ℕ) (both : Sides (Option ℕ)) (core : Core) : Type 0 where
   pub parked : (side : Side) (g : ℕ) → of_side side both ≡ Some g
       → slice_get core.goroutines.goroutines g ≡ Some (Parked d side)

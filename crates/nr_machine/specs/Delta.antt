@@ -19,14 +19,14 @@ use Rattle.nr_machine.specs.declared.delta.WorldUndo.TheVariants.{Still, Gorouti
 use Rattle.nr_machine.specs.Auxiliary.Changing.{DescBack, GoroutineBack, IfAny, LockBack, Same, Then, TimersBack, WakeBack}
 use Rattle.nr_machine.specs.World.{WorldParts}
 
--- ---- of the core
+-- ---- undos of the core
 
--- undoes one more waiter
+-- undoes adding a waiter
 abbrev pub ParkBack : Bool → Core → Core → Type 0
 ParkBack true new old = (0 < new.waiters) × (old ≡ record new { waiters = new.waiters - 1 })
 ParkBack false new old = old ≡ new
 
--- undoes one more descriptor, the last
+-- undoes adding a descriptor, which is the last one
 abbrev pub MadeBack : Core → Core → Type 0
 MadeBack new old =
     old ≡ record new {
@@ -34,7 +34,7 @@ MadeBack new old =
           { items = take (length new.descriptors.items - 1) new.descriptors.items };
     }
 
--- undoes one more lock, the last
+-- undoes adding a lock, which is the last one
 abbrev pub AddBack : Core → Core → Type 0
 AddBack new old =
     old ≡ record new {
@@ -42,25 +42,25 @@ AddBack new old =
           { items = take (length new.locks.items - 1) new.locks.items };
     }
 
--- undoes taking a descriptor from the front of the free ones
+-- undoes taking the first free descriptor
 abbrev pub TakeBack : ℕ → Core → Core → Type 0
 TakeBack d new old =
     (length new.free.items < new.free.room)
     × (old ≡ record new { free = record new.free { items = d ∷ new.free.items } })
 
--- undoes putting a descriptor at the front of the free ones
+-- undoes putting a descriptor at the front of the free list
 abbrev pub GiveBack : Core → Core → Type 0
 GiveBack new old = old ≡ record new { free = record new.free { items = drop 1 new.free.items } }
 
--- undoes orders to the timers of both sides, reading first
+-- undoes orders to the timers of both sides, of which the read side's came first
 abbrev pub ObeyBack : Sides (Option TimersDelta) → Core → Core → Type 0
 ObeyBack both = Then (IfAny TimersBack both.write) (IfAny TimersBack both.read)
 
--- undoes waking these goroutines, reading first
+-- undoes waking these goroutines, of which the reader was woken first
 abbrev pub WokenBack : Sides (Option ℕ) → Core → Core → Type 0
 WokenBack both = Then (IfAny WakeBack both.write) (IfAny WakeBack both.read)
 
--- ---- of the whole
+-- ---- undos of the whole world
 
 -- undoes a change of the core only
 abbrev pub OfCore : (Core → Core → Type 0) → WorldParts → WorldParts → Type 0
@@ -79,7 +79,7 @@ abbrev pub OpenedBack : SockDelta → WorldParts → WorldParts → Type 0
 OpenedBack delta new old =
     Then (OfCore AddBack) (SockBack (length new.core.locks.items - 1) delta) new old
 
--- true if an undo leads from the new parts back to the old ones
+-- true if the undo turns the new parts back into the old ones
 abbrev pub UndoBack : WorldUndo → WorldParts → WorldParts → Type 0
 UndoBack Still = OfCore Same
 UndoBack (Goroutine delta) = OfCore (GoroutineBack delta)
@@ -97,17 +97,17 @@ UndoBack (Timers delta) = OfCore (TimersBack delta)
 UndoBack (Changed desc both woken) =
     OfCore (Then (WokenBack woken) (Then (DescBack desc) (ObeyBack both)))
 
--- true if a delta leads from the new parts back to the old ones
+-- true if undoing the delta turns the new parts back into the old ones
 abbrev pub WorldBack : WorldDelta → WorldParts → WorldParts → Type 0
 WorldBack delta = UndoBack delta.undo
 
 -- ---- weights
 
--- the weight of a lock's old value, and of its socket
+-- the weight of a lock's old value and of its socket's number
 abbrev pub lock_weight : LockUndo → ℕ
 lock_weight undo = number_weight undo.socket + lock.delta_weight undo.before
 
--- the weight of a descriptor's old value, and of its number
+-- the weight of a descriptor's old value and of its number
 abbrev pub desc_weight : DescUndo → ℕ
 desc_weight undo = number_weight undo.descriptor + desc.delta_weight undo.before
 

@@ -1,4 +1,4 @@
--- Each undo leads back to one world.
+-- Each undo has only one result.
 use Rattle.std.proofs.Common.{◌≡◌, ℕ, ◌-◌, length, Bool, true, false, Option, Some, None, sym, ap, subst, ◌∙◌}
 use Rattle.std.proofs.lemmas.Option.{same_Some}
 use Rattle.std.specs.Prelude.{slice_set}
@@ -26,11 +26,11 @@ use Rattle.nr_machine.specs.Auxiliary.Changing.{DescBack, GoroutineBack, IfAny, 
 use Rattle.nr_machine.specs.Delta.{AddBack, GiveBack, MadeBack, ObeyBack, OfCore, ParkBack, SockBack, TakeBack, UndoBack, WokenBack, WorldBack}
 use Rattle.nr_machine.specs.World.{WorldParts}
 
--- true if undoing leads to only one state
+-- true if undoing a state has only one result
 abbrev pub LeadsToOne : {S : Type 0} → (S → S → Type 0) → Type 0
 LeadsToOne {S} back = (new a b : S) → back new a → back new b → a ≡ b
 
--- two undos, one after another
+-- two undos with only one result each, one after another, have only one result
 then_one : {S : Type 0} (first next : S → S → Type 0) → LeadsToOne first → LeadsToOne next
     → LeadsToOne (Then first next)
 then_one {S} first next one two new a b x y =
@@ -110,7 +110,7 @@ woken_one both =
     then_one (IfAny WakeBack both.write) (IfAny WakeBack both.read) (wakes_one both.write)
     (wakes_one both.read)
 
--- an undo leads back to one world
+-- an undo has only one result
 pub UndoBack-unique : (undo : WorldUndo) → LeadsToOne (UndoBack undo)
 UndoBack-unique Still = of_core_one Same (λ new a b x y. x ∙ sym y)
 UndoBack-unique (Goroutine delta) = of_core_one (GoroutineBack delta) (goroutine_one delta)
@@ -146,7 +146,7 @@ UndoBack-unique (Changed desc both woken) =
     (then_one (IfAny TimersBack both.write) (IfAny TimersBack both.read) (orders_one both.write)
     (orders_one both.read))))
 
--- a delta leads back to one world
+-- undoing a delta has only one result
 pub WorldBack-unique : (delta : WorldDelta) (new a b : WorldParts) → WorldBack delta new a
     → WorldBack delta new b → a ≡ b
 WorldBack-unique delta = UndoBack-unique delta.undo

@@ -1,4 +1,4 @@
--- The invariant of packed worlds, besides well-formedness: how their parts fit together.
+-- How the parts of a packed world fit together: the invariant in addition to well-formedness.
 use Rattle.std.specs.Prelude.{◌≡◌, ℕ, ◌<◌, ◌≤◌, true, length, slice_get, Some, None}
 use Rattle.nr_rev.specs.declared.descriptor.Descriptor.{Descriptor}
 use Rattle.nr_rev.specs.declared.lock.Lock.{Lock}
@@ -15,7 +15,7 @@ use Rattle.nr_timers.specs.TimersOf.{timers_of}
 use Rattle.nr_machine.specs.declared.world_core.Core.{Core}
 use Rattle.nr_machine.specs.World.{WorldParts, meant}
 
--- each part of the core is well formed and has the capacity that the limits allow
+-- true if each part of the core is well formed and has the capacity that the limits specify
 pub record CoreFits (core : Core) : Type 0 where
   pub in_range : AreInRange core.limits
   pub queued : IsQueuedUp core.goroutines
@@ -30,13 +30,15 @@ pub record CoreFits (core : Core) : Type 0 where
   pub timers : IsTimers core.timers
   pub timers_room : core.timers.descriptors ≡ core.limits.descriptors
 
--- the buffers of socket s have the recording's limit, and are open exactly if it has a lock
+-- true if the buffers of socket s have the recording's limit, and are open exactly if the socket
+-- has a lock
 pub record SockFits (core : Core) (s : ℕ) (sock : SockParts) : Type 0 where
   pub limit : sock.limit ≡ core.limits.buffer
   pub opened : s < length core.locks.items → is_opened sock.opened ≡ true
   pub closed : length core.locks.items ≤ s → sock.opened ≡ None
 
--- the parts fit together: what belongs to no opened socket and no descriptor is as it was made
+-- true if the parts fit together, and those that belong to no opened socket or descriptor are
+-- unused
 pub record PartsFit (m : WorldParts) : Type 0 where
   pub core : CoreFits m.core
   pub socks_made : length m.socks ≡ m.core.limits.sockets
@@ -48,7 +50,7 @@ pub record PartsFit (m : WorldParts) : Type 0 where
   pub unarmed : (d : ℕ) → length m.core.descriptors.items ≤ d
       → timers_of m.core.timers.entries d ≡ twice None
 
--- a packed world: it represents a well-formed one, and its parts fit
+-- a packed world, which represents a well-formed one, and whose parts fit together
 pub record IsWorld (m : WorldParts) : Type 0 where
   pub meaning : WellFormed (meant m)
   pub parts : PartsFit m

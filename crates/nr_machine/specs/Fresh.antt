@@ -26,7 +26,7 @@ empty_core limits =
       waiters = 0;
     }
 
--- the whole world: the core, and the buffers of each socket, none of which is open
+-- the whole world before the first step: the core, and closed buffers for each socket
 abbrev pub empty_parts : Limits → WorldParts
 empty_parts limits =
     record {

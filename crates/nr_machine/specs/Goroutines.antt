@@ -1,4 +1,4 @@
--- Operations on goroutines and semaphores only, as steps.
+-- Steps as operations on the goroutine table, which contains goroutines and semaphores.
 use Rattle.std.specs.Prelude.{Err}
 use Rattle.nr_rev.specs.declared.refusal.Refusal.TheVariants.{NotThere}
 use Rattle.nr_rev.specs.Step.{Outcome, acquire, exit, release, spawn}
@@ -11,7 +11,7 @@ abbrev pub IsStep : GOperation → Type 0
 IsStep (op.Move g from to) = ⊥
 IsStep _ = Unit {0}
 
--- the outcome of that step
+-- the outcome of the step that the operation makes
 abbrev pub goroutine_outcome : GOperation → World → Outcome
 goroutine_outcome op.Spawn w = spawn w
 goroutine_outcome (op.Exit g) w = exit g w

@@ -8,11 +8,11 @@ pub mod Sockets
 pub mod Rows
 pub mod Changing
 pub mod Asked
--- what callers need besides
+-- what callers need as well
 pub mod Delta
 pub mod DeltaLaws
 pub mod ReversibleLaws
--- inner: what only definitions and proofs of this crate use
+-- inner: used only within this crate
 pub mod NumberedLaws
 pub mod SameLaws
 pub mod Worlds
@@ -24,5 +24,5 @@ pub mod Waiting
 pub mod Locking
 pub mod Continuing
 pub mod Opening
--- what goes on with the files that the laws rest on
+-- helpers for those definitions
 pub mod Auxiliary

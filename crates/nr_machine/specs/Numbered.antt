@@ -1,7 +1,7 @@
--- Numbered items, each combined with another value of its number.
+-- Numbered items, each combined with a second value for its number.
 use Rattle.std.specs.Prelude.{ℕ, suc, List, [], ◌∷◌}
 
--- each item, combined with the value of its number; the first has number k
+-- each item combined with the value for its number; the first item has number k
 abbrev pub numbered : {A B C : Type 0} → (A → B → C) → ℕ → List A → (ℕ → B) → List C
 numbered make k [] beside = []
 numbered make k (x ∷ xs) beside = make x (beside k) ∷ numbered make (suc k) xs beside

@@ -4,7 +4,7 @@ use Rattle.std.specs.Prelude.{slice_get}
 use Rattle.nr_machine.specs.Numbered.{numbered}
 
 module _ {A B C : Type 0} (make : A → B → C) where
-  -- the item at a place, combined with the value of its number
+  -- the combined item at index i is the original item combined with the value for its number
   pub numbered_at : (k i n : ℕ) (xs : List A) (beside : ℕ → B) (x : A) → n ≡ k + i
       → slice_get xs i ≡ Some x
       → slice_get (numbered make k xs beside) i ≡ Some (make x (beside n))

@@ -1,4 +1,4 @@
--- The outcome of opening a descriptor, once its number is taken.
+-- The outcome of opening a descriptor after its number is taken.
 use Rattle.std.specs.Prelude.{ℕ, List, Ok}
 use Rattle.nr_rev.specs.declared.answer.Answer.TheVariants.{Number}
 use Rattle.nr_rev.specs.Descriptor.{opened_for}
@@ -6,14 +6,14 @@ use Rattle.nr_rev.specs.Refusing.{◌>>=◌}
 use Rattle.nr_rev.specs.Step.{Outcome, row_of, taken}
 use Rattle.nr_rev.specs.World.{World, with_descriptor}
 
--- descriptor d is opened for socket s, in a world in which its number is taken
+-- the outcome of opening descriptor d for socket s in a world in which its number is taken
 abbrev pub opening : ℕ → ℕ → World → Outcome
 opening s d w = do
   row ← row_of d w
   descriptor ← opened_for s row.descriptor
   Ok (Number d, with_descriptor d row descriptor w)
 
--- takes a number, one of these free ones or a new one, and opens its descriptor for socket s
+-- takes a free number or a new one, and opens its descriptor for socket s
 abbrev pub opening_of : ℕ → List ℕ → World → Outcome
 opening_of s free w = do
   (d, next) ← taken free w

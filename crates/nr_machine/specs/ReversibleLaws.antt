@@ -1,5 +1,4 @@
--- The contract of a machine whose steps can be undone, for a packed world: the laws that
--- `Reversible` requires.
+-- The laws that `Reversible` requires, for packed worlds.
 use Rattle.std.proofs.Common.{◌≡◌, ◌≤◌, List, [], ◌∷◌, Some, None, Ok, Err, sym, ap, subst, ◌∙◌, lit≤}
 use Rattle.nr_rev.specs.declared.answer.Answer.{Answer}
 use Rattle.nr_rev.specs.declared.refusal.Refusal.{Refusal}
@@ -20,13 +19,13 @@ use Rattle.nr_machine.specs.SameLaws.{same_parts}
 use Rattle.nr_machine.specs.Step.{StepTo}
 use Rattle.nr_machine.specs.World.{WorldParts, meant}
 
--- a step that has a reason does not apply
+-- a step for which there is a reason doesn't apply
 pub refused_has_no_step : (old : WorldParts) (step : Step) (e : Refusal) (answer : Answer)
     (new : WorldParts) → parts_reason old step ≡ Some e → StepTo old step answer new → ⊥
 refused_has_no_step old step e answer new reason is =
     absurd (let none : Some e ≡ None = sym reason ∙ ap refusal_of is.leads in cc)
 
--- operations on the timers have one result
+-- operations on the timers have only one result
 TimersMade-unique : (asked : List TimersOp) (old new other : State) → TimersMade asked old new
     → TimersMade asked old other → new ≡ other
 TimersMade-unique [] old new other x y = x ∙ sym y
@@ -35,7 +34,7 @@ TimersMade-unique (op ∷ asked) old new other x y =
     TimersMade-unique asked y.0 new other
     (subst (λ (mid : State). TimersMade asked mid new) mids x.2) y.2
 
--- a step has one outcome
+-- a step has only one outcome
 pub steps_unique : (old : WorldParts) (step : Step) (a b : Answer) (new other : WorldParts)
     → StepTo old step a new → StepTo old step b other → (a ≡ b) × (new ≡ other)
 steps_unique old step a b new other p q =
@@ -46,11 +45,11 @@ steps_unique old step a b new other p q =
           p.timers q.timers),
     )
 
--- each step has the whole allowance
+-- the bound on a delta's weight is the same for each step
 pub weight_is_within : (step : Step) → MOST_WORDS ≤ MOST_WORDS
 weight_is_within step = lit≤ tt
 
--- the reason of an outcome that is refused
+-- an outcome with a reason is that refusal
 refused_for : (o : Outcome) (e : Refusal) → refusal_of o ≡ Some e → ◌≡◌ {A = Outcome} o (Err e)
 refused_for (Ok left) e is = cc
 refused_for (Err reason) e is = cc

@@ -12,6 +12,6 @@ use Rattle.nr_machine.specs.Numbered.{numbered}
 abbrev pub row_of : Descriptor → Sides (Option Timer) → DescriptorRow
 row_of descriptor timers = record { descriptor = descriptor; timers = timers }
 
--- the row of each descriptor, with the timers that the entries have for its number
+-- the row of each descriptor, with its timers among the entries
 abbrev pub rows_of : List Descriptor → List Entry → List DescriptorRow
 rows_of descriptors entries = numbered row_of 0 descriptors (timers_of entries)

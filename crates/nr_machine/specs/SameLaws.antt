@@ -1,4 +1,4 @@
--- Parts that fit, represent the same world and have the same timers are the same.
+-- Two packed worlds are equal if they represent the same world and have the same timers.
 use Rattle.std.proofs.Common.{◌≡◌, ℕ, suc, ◌<◌, ◌≤◌, true, List, [], ◌∷◌, length, map, refl, sym, ap, ◌∙◌, subst, Some, None, Option, arith, ⊎_elim}
 use Rattle.std.proofs.lemmas.Bool.{cases_lt}
 use Rattle.std.proofs.lemmas.List.{ext_get_or}
@@ -22,7 +22,7 @@ use Rattle.nr_machine.specs.Rows.{row_of}
 use Rattle.nr_machine.specs.Sockets.{buffers_in, rest_at, socket_of}
 use Rattle.nr_machine.specs.World.{WorldParts, meant}
 
--- the items of a numbered list, if they can be read from it
+-- the original items can be read from the combined list
 map-numbered : {A B C : Type 0} (make : A → B → C) (part : C → A)
     → ((x : A) (b : B) → part (make x b) ≡ x) → (k : ℕ) (xs : List A) (beside : ℕ → B)
     → map part (numbered make k xs beside) ≡ xs
@@ -54,7 +54,7 @@ module _ (a b : WorldParts) (fits_a : PartsFit a) (fits_b : PartsFit b) (means :
         sym (of a)
         ∙ ap (λ (w : World). map (λ (r : DescriptorRow). r.descriptor) w.descriptors) means ∙ of b
 
-    -- the parts of an opened socket other than its lock
+    -- the socket with number s and this lock
     abbrev seen_at : WorldParts → ℕ → Lock → Socket
     seen_at m s lock = socket_of lock (rest_at m.core.goroutines.semaphores m.socks s)
 
@@ -73,7 +73,8 @@ module _ (a b : WorldParts) (fits_a : PartsFit a) (fits_b : PartsFit b) (means :
     within_b : (n m : ℕ) → n ≡ m → (s : ℕ) → s < n → s < m
     within_b n m same s lt = subst (λ (k : ℕ). s < k) same lt
 
-    -- equal limits give equal numbers of whatever each socket below the limit has
+    -- two lists with an item for each socket below the limit have equal lengths if the limits are
+    -- equal
     same_many : (n m : ℕ) → n ≡ a.core.limits.sockets → m ≡ b.core.limits.sockets → n ≡ m
     same_many n m is_n is_m = is_n ∙ ap (λ limits. limits.sockets) same_limits ∙ sym is_m
 
@@ -83,7 +84,7 @@ module _ (a b : WorldParts) (fits_a : PartsFit a) (fits_b : PartsFit b) (means :
     abbrev sock_at : WorldParts → ℕ → SockParts
     sock_at m s = slice_index_or m.socks s (never_opened 0)
 
-    -- the lock of socket s, if it was opened
+    -- socket s has a lock if it was opened
     opened_lock : (s : ℕ) → s < length a.core.locks.items
         → slice_get a.core.locks.items s ≡ Some (slice_index_or a.core.locks.items s open_lock)
     opened_lock s lt = slice_get-get_or a.core.locks.items s open_lock lt
@@ -110,7 +111,7 @@ module _ (a b : WorldParts) (fits_a : PartsFit a) (fits_b : PartsFit b) (means :
         (cases_lt s (length a.core.locks.items))
         )
 
-    -- open buffers with the same contents are the same
+    -- two open buffers with the same contents are equal
     same_opened : (x y : Option OpenSock) → is_opened x ≡ true → is_opened y ≡ true
         → (buffers_in x).buffers ≡ (buffers_in y).buffers
         → (buffers_in x).peer_closed ≡ (buffers_in y).peer_closed
@@ -149,7 +150,7 @@ module _ (a b : WorldParts) (fits_a : PartsFit a) (fits_b : PartsFit b) (means :
         ext_get_or (never_opened 0) a.socks b.socks many
         (λ s lt. same_sock s lt (within_b (length a.socks) (length b.socks) many s lt))
 
-    -- a list with as much room as a limit allows
+    -- lists with the same items and the same room are equal
     same_roomed : {A : Type 0} (x y : Roomed A) → x.items ≡ y.items → x.room ≡ y.room → x ≡ y
     same_roomed x y items room = λ i. record { items = items i; room = room i }
 

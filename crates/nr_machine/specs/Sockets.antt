@@ -37,6 +37,6 @@ rest_at semaphores socks s =
       sock = (slice_index_or socks s (never_opened 0)).opened;
     }
 
--- a socket for each lock
+-- the socket for each lock
 abbrev pub sockets_of : List Lock → List (Sides Semaphore) → List SockParts → List Socket
 sockets_of locks semaphores socks = numbered socket_of 0 locks (rest_at semaphores socks)

@@ -1,4 +1,5 @@
--- A step of a packed world: the machine's step, and the places of the timers.
+-- A step of a packed world: the machine's step, which also determines the timers' places in the
+-- heap.
 use Rattle.std.specs.Prelude.{◌≡◌, Ok}
 use Rattle.nr_rev.specs.declared.answer.Answer.{Answer}
 use Rattle.nr_rev.specs.declared.step.Step.{Step}
@@ -7,8 +8,8 @@ use Rattle.nr_machine.specs.Asked.{TimersMade, asked_of}
 use Rattle.nr_machine.specs.Fits.{IsWorld, PartsFit}
 use Rattle.nr_machine.specs.World.{WorldParts, meant}
 
--- From a packed world, the step leads to parts that fit and represent the machine's next world. The
--- timers are those that it asks for, so each entry has only one place in the heap.
+-- The step turns a packed world into parts that fit and represent the machine's next world. The
+-- operations that the step requests make the timers, so each entry has only one place in the heap.
 pub record StepTo (old : WorldParts) (step : Step) (answer : Answer) (new : WorldParts) : Type 0
   where
     pub world : IsWorld old

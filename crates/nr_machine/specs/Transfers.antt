@@ -10,7 +10,7 @@ abbrev pub IsOpening : Step → Type 0
 IsOpening (SockOpen rc wc) = Unit {0}
 IsOpening _ = ⊥
 
--- true if the step is on the buffers of socket s, by goroutine g
+-- true if goroutine g makes the step on the buffers of socket s
 abbrev pub IsTransferOf : ℕ → ℕ → Step → Type 0
 IsTransferOf g s (SysRead h t n) = (h ≡ g) × (t ≡ s)
 IsTransferOf g s (SysWrite h t bytes) = (h ≡ g) × (t ≡ s)

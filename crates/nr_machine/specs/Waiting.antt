@@ -1,4 +1,4 @@
--- The outcome of an operation on a word, by a goroutine that is inside its wait.
+-- The outcome of an operation on a word by a goroutine that is inside the word's wait.
 use Rattle.std.specs.Prelude.{ℕ, ◌+◌, Bool, true, false, Ok}
 use Rattle.nr_rev.specs.declared.answer.Answer.{Answer}
 use Rattle.nr_rev.specs.declared.status.Status.{Status}
@@ -11,7 +11,7 @@ use Rattle.nr_desc.specs.declared.op.DescOp.{DescOp}
 use Rattle.nr_desc.specs.declared.op.DescOp.TheVariants as op
 use Rattle.nr_machine.specs.declared.world_core.Core.{Core}
 
--- the status of a goroutine after an operation on the word of its wait, by the answer
+-- the status of a goroutine after an operation on the word of its wait, given the answer
 abbrev pub status_after : ℕ → DescOp → Answer → Status
 status_after d (op.Arm side) Answer.Wait = Armed d side
 status_after d (op.Commit side g) Answer.Yes = Parked d side
@@ -19,22 +19,22 @@ status_after d (op.Commit side g) _ = Swapping d side
 status_after d (op.Swap side) Answer.No = Checking d side
 status_after d _ _ = Idle
 
--- true if the goroutine is parked then
+-- true if the goroutine is parked after an operation with this answer
 abbrev pub parks : DescOp → Answer → Bool
 parks (op.Commit side g) Answer.Yes = true
 parks _ _ = false
 
--- the world with one more waiter, if one parked
+-- the world with one more waiter if a goroutine parked
 abbrev pub with_parked : Bool → World → World
 with_parked true w = record w { waiters = w.waiters + 1 }
 with_parked false w = w
 
--- the core with one more waiter, if one parked
+-- the core with one more waiter if a goroutine parked
 abbrev pub core_parked : Bool → Core → Core
 core_parked true core = record core { waiters = core.waiters + 1 }
 core_parked false core = core
 
--- the outcome of the operation, by goroutine g inside a wait of descriptor d
+-- the outcome of an operation by goroutine g inside a wait for descriptor d
 abbrev pub waiting : ℕ → ℕ → DescOp → World → Outcome
 waiting g d op w = do
   row ← row_of d w

@@ -9,7 +9,8 @@ use crate::world::World;
 use nr_rev::{Answer, Keeper, Refusal, Reversible, Step};
 
 impl World {
-    /// Applies a step as changes of the parts, or changes nothing and returns the reason why it does not apply.
+    /// Applies a step by changing the parts. If the step does not apply, changes nothing and
+    /// returns the reason.
     #[inline(always)]
     #[tactic(auto, using(crate::proofs::MadeLemmas::makes_step))]
     pub(crate) fn make<K: Keeper<WorldUndo>>(

@@ -21,7 +21,7 @@ impl World {
         requires { IsWorld self.now }
         ensures { result ≡ cell (meant self.now) cell.Timers }
     {
-        // A law without effect: there are as many entries as descriptors have timers.
+        // A law without effect: the heap has as many entries as the descriptors have timers.
         entries_are_the_descriptors();
         CellValue::Number(self.core.timers.len() as u64)
     }
@@ -164,7 +164,7 @@ impl World {
         }
     }
 
-    /// Returns a descriptor that was made.
+    /// Returns the descriptor, if it exists.
     fn desc(&self, descriptor: u32) -> Option<Desc>
         ensures { result ≡ slice_get self.now.core.descriptors.items descriptor }
     {

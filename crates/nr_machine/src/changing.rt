@@ -72,8 +72,8 @@ impl Core {
         Ok((answer, LockUndo { socket, before }))
     }
 
-    /// Restores a lock. Steps never remove a lock, so the branch without one is never taken; `LockBack` sets nothing
-    /// there either, which spares each caller a premise.
+    /// Restores a lock. Steps never remove a lock, so the branch for a missing lock is never taken.
+    /// `LockBack` also changes nothing there, so callers don't have to prove that the lock exists.
     #[inline(always)]
     #[tactic(auto, using(crate::proofs::ChangingLemmas::lock_nowhere))]
     pub(crate) fn unlock(&mut self, undo: LockUndo)
@@ -87,7 +87,7 @@ impl Core {
         let _ = self.locks.replace(socket as usize, word);
     }
 
-    /// Applies an operation to a descriptor that gives its timers no orders and wakes no goroutine.
+    /// Applies an operation that has no timer orders and wakes no goroutine to a descriptor.
     #[inline(always)]
     pub(crate) fn describe(
         &mut self,
@@ -115,8 +115,9 @@ impl Core {
         let _ = self.descriptors.replace(descriptor as usize, desc);
     }
 
-    /// Restores a descriptor. Steps never remove a descriptor, so the branch without one is never taken; `DescBack`
-    /// sets nothing there either, which spares each caller a premise.
+    /// Restores a descriptor. Steps never remove a descriptor, so the branch for a missing
+    /// descriptor is never taken. `DescBack` also changes nothing there, so callers don't have to
+    /// prove that the descriptor exists.
     #[inline(always)]
     #[tactic(auto, using(crate::proofs::ChangingLemmas::descriptor_nowhere))]
     pub(crate) fn undescribe(&mut self, undo: DescUndo)
@@ -157,7 +158,7 @@ impl Core {
         self.waiters -= 1;
     }
 
-    /// Parks a goroutine again that was woken.
+    /// Parks a woken goroutine again.
     #[inline(always)]
     pub(crate) fn unwake(&mut self, goroutine: u32)
         requires { (old : Parts) × WakeBack goroutine self.old old }
@@ -174,7 +175,7 @@ impl Core {
         self.waiters += 1;
     }
 
-    /// Adds a waiter, if a goroutine parked.
+    /// Adds a waiter if a goroutine parked.
     #[inline(always)]
     pub(crate) fn park(&mut self, parked: bool)
         requires { self.old.waiters + 1 < 2 ^ 64 }

@@ -1,5 +1,5 @@
-//! The common part of steps that change a descriptor with its timers: its timers follow orders, and goroutines are
-//! woken.
+//! The common part of steps that change a descriptor with its timers: carrying out timer orders and
+//! waking goroutines.
 
 ghost use Rattle.std.specs.Prelude.{◌≡◌, ◌∷◌, [], ◌<◌, ◌≤◌, length, slice_get, option_to_list, Some, Ok, Err, IfSome, IfErr, OnErr, OnOk};
 ghost use Rattle.nr_rev.specs.Step as step;
@@ -29,8 +29,8 @@ use nr_rev::{Answer, Keeper, Refusal, Reversible, Side, Sides, TimerOrder};
 use nr_timers::{TimersDelta, TimersOp};
 
 impl World {
-    /// Applies an operation to a descriptor that has been read: its timers follow the orders, and the goroutines that
-    /// its words held are woken.
+    /// Applies an operation to a descriptor that has been read, carries out its timer orders, and
+    /// wakes the goroutines that its words held.
     #[inline(always)]
     pub(crate) fn change<K: Keeper<WorldUndo>>(
         &mut self,
@@ -64,8 +64,9 @@ impl World {
         }
     }
 
-    /// Applies the operation of a firing to a descriptor that has been read. It gives no orders: the firing is removed,
-    /// and the goroutines that the descriptor's words held are woken.
+    /// Applies the operation of a firing to a descriptor that has been read. The operation has no
+    /// timer orders: this removes the firing, and wakes the goroutines that the descriptor's words
+    /// held.
     #[inline(always)]
     pub(crate) fn change_by_firing<K: Keeper<WorldUndo>>(
         &mut self,
@@ -114,8 +115,8 @@ impl Core {
         }
     }
 
-    /// Carries out the orders to both sides' timers, reading first, or none of them. Without orders, it doesn't touch
-    /// the heap.
+    /// Carries out either all orders to both sides' timers, reading first, or none of them. Doesn't
+    /// touch the heap if there are no orders.
     #[inline(always)]
     fn obey(
         &mut self,
@@ -138,7 +139,7 @@ impl Core {
         self.obey_both(descriptor, orders, deltas)
     }
 
-    /// Carries out orders to both sides' timers, at least one of which isn't empty.
+    /// Carries out the orders to both sides' timers, at least one of which exists.
     #[inline(always)]
     fn obey_both(
         &mut self,

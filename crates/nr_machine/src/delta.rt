@@ -7,7 +7,7 @@ use nr_rev::{Keeper, Sides};
 use nr_sockbuf::SockDelta;
 use nr_timers::TimersDelta;
 
-/// The most words in a delta, besides the bytes that left a buffer.
+/// The maximum number of words in a delta, not counting the bytes that left a buffer.
 pub(crate) const MOST_WORDS: u32 = 40;
 
 /// The delta of a step: the old values of the parts that it changed, and nothing else.
@@ -23,7 +23,7 @@ pub(crate) enum WorldUndo {
     Still,
     /// Goroutines, or a semaphore, changed.
     Goroutine(GDelta),
-    /// A lock changed, and so did the status of the goroutine that used it, unless that is the same.
+    /// A lock changed, and perhaps the status of the goroutine that used it.
     Locked {
         lock: LockUndo,
         moved: Option<GDelta>,
@@ -43,8 +43,8 @@ pub(crate) enum WorldUndo {
     Closed(DescUndo),
     /// A descriptor changed.
     Described(DescUndo),
-    /// A descriptor changed, and so did the status of the goroutine inside its wait. If it parked, there is one more
-    /// waiter.
+    /// A descriptor changed, and so did the status of the goroutine inside its wait. If the
+    /// goroutine parked, there is one more waiter.
     Waited {
         desc: DescUndo,
         moved: GDelta,
@@ -85,7 +85,7 @@ impl Default for WorldDelta {
     }
 }
 
-/// An undo is a place in which an undo is kept.
+/// An undo can serve as the place that stores a step's undo.
 impl Keeper<WorldUndo> for WorldUndo {
     ghost use Rattle.std.specs.Prelude.{◌≡◌, true};
 

@@ -100,8 +100,8 @@ impl World {
         self.lock(goroutine, Status::Idle, socket, LockOp::RwUnlock(side), way)
     }
 
-    /// Applies an operation to a socket's lock, by a goroutine that may try it, and changes the goroutine's status
-    /// accordingly.
+    /// Applies an operation to a socket's lock for a goroutine that may try it, and changes the
+    /// goroutine's status accordingly.
     #[inline(always)]
     fn lock<K: Keeper<WorldUndo>>(
         &mut self,

@@ -37,7 +37,7 @@ impl World {
         }
     }
 
-    /// Opens the descriptor with the first free number again.
+    /// Reopens the descriptor with the first free number.
     #[inline(always)]
     fn reopen<K: Keeper<WorldUndo>>(
         &mut self,

@@ -1,4 +1,4 @@
-//! The lookups of steps, with the reasons for which they fail.
+//! Lookups that steps use, with the reasons for which they fail.
 
 ghost use Rattle.std.specs.Prelude.{◌≡◌};
 ghost use Rattle.nr_rev.specs.Step as step;
@@ -13,7 +13,7 @@ use nr_desc::Desc;
 use nr_rev::{Refusal, Side, Status};
 
 impl World {
-    /// Returns the status of a goroutine that was made and hasn't ended.
+    /// Returns the status of a goroutine that exists and hasn't ended.
     #[inline(always)]
     pub(crate) fn status_of(&self, goroutine: u32) -> Result<Status, Refusal>
         ensures { result ≡ step.status_of goroutine (meant self.now) }
@@ -35,7 +35,7 @@ impl World {
         }
     }
 
-    /// Returns a descriptor that was made.
+    /// Returns a descriptor that exists.
     #[inline(always)]
     #[tactic(auto, using(crate::proofs::RowsLemmas::row_at, crate::proofs::RowsLemmas::row_past))]
     pub(crate) fn desc_of(&self, descriptor: u32) -> Result<Desc, Refusal>
@@ -60,7 +60,7 @@ impl World {
         self.desc_of(descriptor)
     }
 
-    /// Returns whether a descriptor is one of the free ones.
+    /// Returns whether a descriptor is free.
     #[inline(always)]
     pub(crate) fn is_free(&self, descriptor: u32) -> bool
         ensures { result ≡ is_free_number descriptor (meant self.now).free }
@@ -72,7 +72,7 @@ impl World {
             .any(|free| descriptor == *free)
     }
 
-    /// Returns whether a goroutine is inside a wait of the descriptor and side.
+    /// Returns whether a goroutine is inside a wait for this side of the descriptor.
     #[inline(always)]
     pub(crate) fn is_waited(&self, descriptor: u32, side: Side) -> bool
         ensures { result ≡ is_waited descriptor side (meant self.now).goroutines }

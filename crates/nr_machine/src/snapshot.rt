@@ -11,8 +11,8 @@ use nr_sockbuf::{Sock, SockSnapshot};
 use std::alloc::Global;
 use std::marker::Model;
 
-/// A snapshot of a packed world; contracts see it as they see the world: the core, and the bytes in the buffers. Of the
-/// sockets after the last opened one, it stores only the number.
+/// A snapshot of a packed world. Contracts see it as the core and the bytes in the buffers, as they
+/// see the world. It stores only the number of sockets after the last opened one, not the sockets.
 #[derive(Drop)]
 pub struct WorldSnapshot {
     pub(crate) alloc: Global,
@@ -49,8 +49,8 @@ pub(crate) fn count_opened(socks: &[Sock], buffer: u32) -> usize
     count
 }
 
-/// Returns snapshots of these sockets' buffers, whatever `last` holds. If `last` has the same bytes for a socket's
-/// side, they are shared.
+/// Returns snapshots of these sockets' buffers. If `last` has the same bytes for a socket's side,
+/// the two snapshots share the bytes; the contents don't depend on `last`.
 pub(crate) fn snapshots(
     alloc: Global,
     socks: &[Sock],
@@ -65,7 +65,8 @@ pub(crate) fn snapshots(
     Ok(snapshots)
 }
 
-/// Returns the buffers of a number of sockets: those of the snapshots first, and then sockets that were never opened.
+/// Returns the buffers of this number of sockets: first those of the snapshots, then ones that were
+/// never opened.
 pub(crate) fn restored_socks(
     alloc: Global,
     opened: &[SockSnapshot],
@@ -101,7 +102,8 @@ impl World {
         }
     }
 
-    /// Resets the sockets from number `first` on to ones that were never opened. Those without a lock are that already.
+    /// Resets the sockets from number `first` on, as if they had never been opened. Those without a
+    /// lock already are in that state.
     pub(crate) fn reset_from(&mut self, first: usize)
         requires first { first ≤ length self.old.socks }
         requires locks { self.old.core.locks.room ≡ length self.old.socks }

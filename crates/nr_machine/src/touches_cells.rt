@@ -1,4 +1,4 @@
-//! The parts of a world that a step will touch.
+//! Finds the parts of a world that a step will touch.
 
 ghost use Rattle.std.specs.Prelude.{◌≡◌, ◌<◌, ◌≤◌, [], ◌∷◌, ◌++◌, length, slice_get};
 ghost use Rattle.nr_changes.specs.Touched.{descriptor_at, front_for, held_at, held_by, next_descriptor, released_by, socket_at, touched_by_firing};
@@ -22,7 +22,7 @@ fn one(goroutine: u32) -> Numbers
     numbers
 }
 
-// Appends the goroutine that a word holds, if it holds one.
+// Appends the goroutine that a word holds, if any.
 fn push_held(numbers: &mut Numbers, word: WaitWord)
     requires { length numbers.old.items < 3 }
     ensures { numbers.new.items ≡ numbers.old.items ++ held_by word }
@@ -33,7 +33,7 @@ fn push_held(numbers: &mut Numbers, word: WaitWord)
 }
 
 impl World {
-    // Returns the socket that a goroutine's status names, if it is one of a lock or a semaphore.
+    // Returns the socket whose lock or semaphore a goroutine's status names, if any.
     fn socket_at(&self, goroutine: u32) -> Option<u32>
         ensures { result ≡ socket_at goroutine (meant self.now) }
     {
@@ -46,7 +46,7 @@ impl World {
         }
     }
 
-    // Returns the descriptor whose wait a goroutine is inside.
+    // Returns the descriptor for which a goroutine is inside a wait, if any.
     fn descriptor_at(&self, goroutine: u32) -> Option<u32>
         ensures { result ≡ descriptor_at goroutine (meant self.now) }
     {
@@ -54,7 +54,8 @@ impl World {
         Some(descriptor)
     }
 
-    // Returns the front of the queue of the next semaphore that a goroutine with this status releases.
+    // Returns the first goroutine in the queue of the semaphore that a goroutine with this status
+    // releases next.
     fn front_for(&self, status: Status) -> Option<u32>
         requires { IsWorld self.now }
         ensures { result ≡ front_for status (meant self.now) }
@@ -69,7 +70,7 @@ impl World {
         self.core.goroutines.front_of(socket, side)
     }
 
-    // Returns a goroutine, and the one that tries again after its release.
+    // Returns this goroutine and the one that tries again after this one releases a semaphore.
     fn with_released(&self, goroutine: u32) -> Numbers
         requires { IsWorld self.now }
         ensures { result.items ≡ goroutine ∷ released_by goroutine (meant self.now) }

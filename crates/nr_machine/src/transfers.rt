@@ -1,4 +1,4 @@
-//! The steps that open sockets, and that move bytes into their buffers and out of them.
+//! The steps that open sockets and move bytes into and out of their buffers.
 
 ghost use Rattle.nr_machine.specs.Fits.{IsWorld};
 ghost use Rattle.nr_machine.specs.Auxiliary.Made.{MakesStep};
@@ -55,7 +55,7 @@ impl World {
         sock.advance(step)
     }
 
-    /// Applies a step to the buffers of one socket, by a goroutine that must be idle.
+    /// Applies a step to the buffers of one socket for a goroutine that must be idle.
     #[inline(always)]
     pub(crate) fn transfer_of<K: Keeper<WorldUndo>>(
         &mut self,

@@ -35,7 +35,7 @@ impl Core {
         self.unlock(lock);
     }
 
-    /// Removes a waiter, if a goroutine parked.
+    /// Removes a waiter if a goroutine parked.
     #[inline(always)]
     fn unpark(&mut self, parked: bool)
         requires { (old : Parts) × ParkBack parked self.old old }
@@ -59,7 +59,7 @@ impl Core {
         self.undescribe(desc);
     }
 
-    /// Makes the opened descriptor the first free one again.
+    /// Makes the reopened descriptor the first free one again.
     #[inline(always)]
     fn free_again(&mut self, desc: DescUndo)
         requires { (old : Parts) × Then (DescBack desc) (TakeBack desc.descriptor) self.old old }
@@ -162,7 +162,7 @@ impl World {
         self.untransfer(socket, delta);
     }
 
-    /// Undoes the step that this undo is for, and leaves the undo as it is.
+    /// Undoes the step that made this undo, and doesn't change the undo.
     #[inline(always)]
     pub(crate) fn lead_back(&mut self, undo: &WorldUndo)
         requires { (old : WorldParts) × UndoBack undo.now self.old old }

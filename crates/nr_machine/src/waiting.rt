@@ -169,7 +169,8 @@ impl World {
         Ok(self.go_on(Answer::Code(code), goroutine, from, to, way))
     }
 
-    /// Applies an operation to the word of a wait, by the goroutine inside it, and changes its status accordingly.
+    /// Applies an operation to the word of a wait for the goroutine inside the wait, and changes
+    /// the goroutine's status accordingly.
     #[inline(always)]
     fn wait<K: Keeper<WorldUndo>>(
         &mut self,
@@ -198,7 +199,7 @@ impl World {
         Ok(answer)
     }
 
-    /// Changes the status of a goroutine inside a wait, or lets it leave the wait, and changes nothing else.
+    /// Changes only the status of a goroutine inside a wait, which may leave the wait.
     #[inline(always)]
     fn go_on<K: Keeper<WorldUndo>>(
         &mut self,
@@ -222,7 +223,7 @@ impl World {
     }
 }
 
-/// Returns the status of a goroutine after an operation on the word of its wait, by the answer.
+/// Returns the status of a goroutine after an operation on the word of its wait, given the answer.
 #[inline(always)]
 fn status_after(descriptor: u32, op: &DescOp, answer: Answer) -> Status
     ensures { result ≡ status_after descriptor op.now answer }
@@ -256,7 +257,7 @@ fn status_after(descriptor: u32, op: &DescOp, answer: Answer) -> Status
     }
 }
 
-/// Returns whether the goroutine is parked then.
+/// Returns whether the goroutine is parked after an operation with this answer.
 #[inline(always)]
 fn parks(op: &DescOp, answer: Answer) -> bool
     ensures { result ≡ parks op.now answer }

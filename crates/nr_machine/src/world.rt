@@ -9,8 +9,9 @@ use nr_timers::Timers;
 use std::alloc::Global;
 use std::marker::Model;
 
-/// A world in five packed parts, which takes all its memory when it is made. Contracts see it as the core, and the
-/// buffers of all sockets below the limit; `meant` gives the world that it represents.
+/// A world in five packed parts, which takes all its memory when it is made. Contracts see it as
+/// the core and the buffers of all sockets below the limit; `meant` is the world that it
+/// represents.
 #[derive(Drop)]
 pub struct World {
     pub(crate) alloc: Global,
@@ -27,14 +28,14 @@ impl Model for World {
 }
 
 impl World {
-    /// Returns the goroutines with the semaphores' queues, for reading: their order.
+    /// Returns the goroutines and the semaphores' queues, for reading their order.
     pub fn goroutines(&self) -> &GTable
         ensures { result.now ≡ self.now.core.goroutines }
     {
         &self.core.goroutines
     }
 
-    /// Returns the timers and firings, for reading: the place of each entry in the heap.
+    /// Returns the timers and firings, for reading each entry's place in the heap.
     pub fn timers(&self) -> &Timers
         ensures { result.now ≡ self.now.core.timers }
     {

@@ -68,7 +68,7 @@ impl Core {
         })
     }
 
-    /// Becomes equal to another core with the same limits, within its own memory. It takes no memory.
+    /// Copies another core with the same limits into this one. Allocates no memory.
     fn copy_from(&mut self, other: &Core)
         requires fits { CoreFits self.old }
         requires other { CoreFits other.now }
@@ -85,7 +85,7 @@ impl Core {
     }
 }
 
-/// Returns the buffers of this number of sockets, none of which is open.
+/// Returns closed buffers for this number of sockets.
 fn closed_socks(alloc: Global, sockets: u32, buffer: u32) -> Result<Vec<Sock>, Memory>
     ensures { IfOk result (λ socks. socks.items ≡ replicate sockets (never_opened buffer)) }
 {
@@ -108,7 +108,8 @@ fn copied_socks(alloc: Global, socks: &[Sock]) -> Result<Vec<Sock>, Memory>
 }
 
 impl World {
-    /// Returns the queued goroutines, from front to back. It takes no memory if the queue is empty.
+    /// Returns the queued goroutines, from front to back. Allocates no memory if the queue is
+    /// empty.
     fn queued(&self, socket: u32, side: Side) -> Result<Vec<u32>, Memory>
         ensures ok { IfOk result (λ items. items.items ≡ queue_at socket side self.now.core.goroutines) }
         ensures some { OnErr result (0 < length (queue_at socket side self.now.core.goroutines)) }

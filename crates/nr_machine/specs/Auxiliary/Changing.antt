@@ -1,4 +1,4 @@
--- Definitions that contracts and proofs cite beside `Changing`. No law of THEOREM.md rests on them.
+-- Helper definitions for `Changing`. The laws in THEOREM.md don't use them.
 use Rattle.std.specs.Prelude.{◌≡◌, ℕ, ◌+◌, ◌-◌, ◌^◌, ◌<◌, ◌≤◌, true, length, slice_get, slice_set, Option, Some, None, Result}
 use Rattle.nr_rev.specs.declared.descriptor.Descriptor.{Descriptor}
 use Rattle.nr_rev.specs.declared.lock.Lock.{Lock}
@@ -45,17 +45,17 @@ with_descriptor d x core =
     record core
     { descriptors = record core.descriptors { items = slice_set core.descriptors.items d x } }
 
--- the core with one waiter less, who continues from d's side
+-- the core after goroutine g, which was parked at d's side, continues
 abbrev pub woken : ℕ → ℕ → Side → Core → Core
 woken g d side core = record (with_status g (Swapping d side) core) { waiters = core.waiters - 1 }
 
--- the core with one waiter more, who is parked at d's side
+-- the core after goroutine g parks at d's side
 abbrev pub parked : ℕ → ℕ → Side → Core → Core
 parked g d side core = record (with_status g (Parked d side) core) { waiters = core.waiters + 1 }
 
 -- ---- undoing
 
--- undoes one change, and then another
+-- undoes a change with first, and then another with next
 abbrev pub Then : {S : Type 0} → (S → S → Type 0) → (S → S → Type 0) → S → S → Type 0
 Then {S} first next new old = (mid : S) × first new mid × next mid old
 
@@ -63,7 +63,7 @@ Then {S} first next new old = (mid : S) × first new mid × next mid old
 abbrev pub Same : Core → Core → Type 0
 Same new old = old ≡ new
 
--- undoes a change, if there was one
+-- undoes a change, if one was made
 abbrev pub IfAny : {A : Type 0} → (A → Core → Core → Type 0) → Option A → Core → Core → Type 0
 IfAny back None = Same
 IfAny back (Some a) = back a
@@ -87,7 +87,7 @@ abbrev pub TimersBack : TimersDelta → Core → Core → Type 0
 TimersBack delta new old =
     timers.TimersBack delta new.timers old.timers × (old ≡ record new { timers = old.timers })
 
--- undoes a wake: a goroutine that continues from a side was parked there
+-- undoes a wake: goroutine g, which continues from a side, is parked there again
 pub record WakeBack (g : ℕ) (new old : Core) : Type 0 where
   pub d : ℕ
   pub side : Side
@@ -98,7 +98,7 @@ pub record WakeBack (g : ℕ) (new old : Core) : Type 0 where
 
 -- ---- the results of operations
 
--- socket s had the first lock, and has the second after the operation
+-- true if the operation changes the lock of socket s from before to after
 pub record Locks (old : Core) (s : ℕ) (op : LockOp) (before after : Lock) (answer : LockAnswer)
     (undo : LockUndo) (new : Core) : Type 0 where
   pub there : slice_get old.locks.items s ≡ Some before
@@ -107,17 +107,17 @@ pub record Locks (old : Core) (s : ℕ) (op : LockOp) (before after : Lock) (ans
   pub fits : LockFits after
   pub back : LockBack undo new old
 
--- socket s had some lock, and has another
+-- true if the operation changes the lock of socket s
 abbrev pub LocksSome : Core → ℕ → LockOp → LockAnswer × LockUndo → Core → Type 0
 LocksSome old s op (answer, undo) new =
     (before : Lock) × (after : Lock) × Locks old s op before after answer undo new
 
--- the outcome of the operation; reason 4 if the socket has no lock
+-- the outcome of the operation; refused for reason 4 (no such socket) if socket s has no lock
 abbrev pub lock_outcome : ℕ → LockOp → Core → Result LockOutcome Refusal
 lock_outcome s op core =
     found_or (slice_get core.locks.items s) NoSuchSocket >>= λ lock. lock_op.outcome lock op
 
--- descriptor d was the first, and is the second after the operation
+-- true if the operation changes descriptor d from before to after
 pub record Describes (old : Core) (d : ℕ) (op : DescOp) (before after : Descriptor)
     (answer : DescAnswer) (undo : DescUndo) (new : Core) : Type 0 where
   pub there : slice_get old.descriptors.items d ≡ Some before
@@ -126,20 +126,20 @@ pub record Describes (old : Core) (d : ℕ) (op : DescOp) (before after : Descri
   pub fits : DescFits after
   pub back : DescBack undo new old
 
--- descriptor d was one, and is another
+-- true if the operation changes descriptor d
 abbrev pub DescribesSome : Core → ℕ → DescOp → DescAnswer × DescUndo → Core → Type 0
 DescribesSome old d op (answer, undo) new =
     (before : Descriptor) × (after : Descriptor)
     × Describes old d op before after answer undo new
 
--- goroutine g moves to a status, and the delta is light
+-- true if goroutine g moves to a status, with a delta of at most 6 words
 pub record Moves (old : Core) (g : ℕ) (to : Status) (delta : GDelta) (new : Core) : Type 0 where
   pub rest : new ≡ with_status g to old
   pub queued : IsQueuedUp new.goroutines
   pub back : GoroutineBack delta new old
   pub light : goroutine.delta_weight delta ≤ 6
 
--- goroutine g moves to a status, or has it already
+-- true if goroutine g moves to a status or already has it
 pub record MovesOn (old : Core) (g : ℕ) (to : Status) (delta : Option GDelta) (new : Core) : Type 0
   where
     pub rest : new ≡ with_status g to old
@@ -147,7 +147,7 @@ pub record MovesOn (old : Core) (g : ℕ) (to : Status) (delta : Option GDelta) 
     pub back : IfAny GoroutineBack delta new old
     pub light : option_weight goroutine.delta_weight delta ≤ 7
 
--- goroutine g has the first status, and may move to the second
+-- true if goroutine g has the first status and may move to the second
 pub record CanMove (core : Core) (g : ℕ) (from to : Status) : Type 0 where
   pub there : slice_get core.goroutines.goroutines g ≡ Some from
   pub from_movable : step.is_movable from ≡ true

@@ -1,4 +1,4 @@
--- Definitions that contracts and proofs cite beside `Made`. No law of THEOREM.md rests on them.
+-- Helper definitions for `Made`. The laws in THEOREM.md don't use them.
 use Rattle.std.specs.Prelude.{◌≡◌, ℕ, ◌+◌, ◌/◌, ◌≤◌, Bool, true, List, Result, Ok, Err}
 use Rattle.nr_rev.specs.declared.answer.Answer.{Answer}
 use Rattle.nr_rev.specs.declared.refusal.Refusal.{Refusal}
@@ -16,34 +16,34 @@ use Rattle.nr_machine.specs.Fits.{PartsFit}
 use Rattle.nr_machine.specs.World.{WorldParts, meant}
 use Rattle.nr_machine.specs.Made.{TakesMemory, parts_reason}
 
--- The new parts represent the definition's next world and still fit together. The timers are
--- exactly those that the requested operations make.
+-- True if the new parts represent the definition's next world and fit together, and the requested
+-- operations make the new timers.
 pub record Advanced (due : Outcome) (asked : List TimersOp) (old : WorldParts) (answer : Answer)
     (new : WorldParts) : Type 0 where
   pub leads : due ≡ Ok (answer, meant new)
   pub parts : PartsFit new
   pub timers : TimersMade asked old.core.timers new.core.timers
 
--- true if an undo leads from the new parts to the old ones, and holds at most this many words
+-- true if the undo turns the new parts into the old ones, and has at most this many words
 abbrev pub LeadsBackWithin : ℕ → WorldParts → WorldParts → WorldUndo → Type 0
 LeadsBackWithin most new old undo = UndoBack undo new old × (undo_weight undo ≤ most)
 
--- true if the new parts are the definition's, and the undo leads back
+-- true if the new parts are those of the definition, and the undo restores the old parts
 abbrev pub Made : Outcome → List TimersOp → ℕ → WorldParts → Answer → WorldUndo → WorldParts
     → Type 0
 Made due asked most old answer undo new =
     Advanced due asked old answer new × LeadsBackWithin most new old undo
 
--- true if a step's outcome is made, with an undo in the place if the place keeps any; or if the
--- step has the machine's reason and changes nothing
+-- true if the step is made and the place holds its undo, or if the step is refused for the
+-- machine's reason and changes nothing
 abbrev pub Makes : {Place : Type 0} → (Place → WorldUndo → Type 0) → Place → Outcome
     → List TimersOp → WorldParts → Result Answer Refusal → WorldParts → Type 0
 Makes {Place} holds place due asked old (Ok answer) new =
     (undo : WorldUndo) × holds place undo × Made due asked MOST_WORDS old answer undo new
 Makes {Place} holds place due asked old (Err e) new = (due ≡ Err e) × (new ≡ old)
 
--- True if a whole step is made, with an undo in the place if the place keeps any; or if the step
--- has its reason; or if memory ran out for bytes to keep.
+-- True if the step is made and the place holds its undo if undos are kept, or if nothing changes
+-- because the step is refused or memory runs out for bytes to keep.
 abbrev pub MakesStep : {Place : Type 0} → Bool → (Place → WorldUndo → Type 0) → Place → Step
     → WorldParts → Result Answer Refusal → WorldParts → Type 0
 MakesStep {Place} keeps holds place step old (Ok answer) new =

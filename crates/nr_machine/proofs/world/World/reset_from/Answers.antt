@@ -29,7 +29,7 @@ loop-socket-preserved c =
           (reset-next before.core.limits.buffer c.args.first socket (length before.core.locks.items) socks old there i.reset);
     }
 
--- all sockets from the first one on are closed
+-- all sockets from `first` on are closed
 pub returns : goal.returns
 returns c =
     let i = c.loop-socket.invariant in

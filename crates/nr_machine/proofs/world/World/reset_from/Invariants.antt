@@ -2,7 +2,7 @@ use Rattle.std.proofs.Common.{◌≡◌, length, take}
 use Rattle.nr_machine.proofs.SnapshotLemmas.{AreReset}
 use Rattle.nr_machine.proofs.world.World.reset_from.Given as goal
 
--- the sockets from the first one up to this one are closed, and those before them are unchanged
+-- the sockets from `first` up to this one are closed, and those before `first` are unchanged
 abbrev pub invariant-loop-socket : goal.invariant-loop-socket
 invariant-loop-socket l =
     record {

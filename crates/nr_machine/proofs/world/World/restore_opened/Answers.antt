@@ -5,7 +5,7 @@ use Rattle.nr_machine.specs.World.{WorldParts}
 use Rattle.nr_machine.proofs.SnapshotLemmas.{same_at}
 use Rattle.nr_machine.proofs.world.World.restore_opened.Goals as goal
 
--- the socket is that of the snapshot, and has its limit
+-- the socket is the snapshot's, and has the snapshot's limit
 pub restore-requires : goal.restore-requires
 restore-requires c =
     let i = c.loop-socket.invariant in

@@ -1,7 +1,7 @@
 use Rattle.std.proofs.Common.{◌≡◌, drop, length, take}
 use Rattle.nr_machine.proofs.world.World.restore_opened.Given as goal
 
--- the buffers so far are those of the snapshot, and the others are unchanged
+-- the buffers restored so far are those of the snapshot, and the others are unchanged
 abbrev pub invariant-loop-socket : goal.invariant-loop-socket
 invariant-loop-socket l =
     record {

@@ -8,7 +8,7 @@ use Rattle.nr_machine.proofs.worlds.WorldWorlds.restore.Goals as goal
 pub restore_opened-requires-clause-limit : goal.restore_opened-requires-clause-limit
 restore_opened-requires-clause-limit c = λ s sock at. (c.requires.well_formed.parts.socks s sock at).limit
 
--- the snapshot's sockets are sockets of its world, which has the same limits
+-- the snapshot's sockets are those of the world that it represents, which has the same limits
 pub restore_opened-requires-clause-kept : goal.restore_opened-requires-clause-kept
 restore_opened-requires-clause-kept c =
     let inside = c.snapshot.inside in
