@@ -1,4 +1,4 @@
--- The last words that a pass reads complete the history.
+-- The words that the last pass reads complete the history.
 use Rattle.std.proofs.Common.{◌≡◌, ◌≢◌, ◌<◌, ◌+◌, ℕ, zero, suc, add-one, inl, inr, List, [], ◌∷◌, ◌++◌, map, refl, ◌∙◌, sym, ap, subst, arith, append_assoc, append-nil, Result, Ok, Err}
 use Rattle.std.specs.Prelude.{IfOk, IfSome}
 use Rattle.std.specs.Global.{Vec}
@@ -16,22 +16,22 @@ use Rattle.nr_serving.specs.Session.{IsHistory, IsTheirs, numbers_below}
 use Rattle.nr_serving.specs.Auxiliary.Session.{HasItsOwnWords, IsSeenBy, words_of}
 use Rattle.nr_serving.specs.declared.fronts.Done.{Done}
 
--- a property of all items of a list is one of those in front
+-- if all items of a list have a property, so have the items of its first part
 all_front : (P : ℕ → Type 0) (xs ys : List ℕ) → All P (xs ++ ys) → All P xs
 all_front P [] ys h = All-nil P
 all_front P (x ∷ xs) ys h = All-cons P x xs (All-head P x (xs ++ ys) h) (all_front P xs ys (All-tail P x (xs ++ ys) h))
 
--- the words of others, and then more of them
+-- words of other passes followed by more words of other passes
 covers_on : (tag : ℕ) (xs ys zs : List ℕ) → Covers ys tag xs → Covers zs tag ys → Covers zs tag xs
 covers_on tag xs ys zs (a, p, others) (b, q, more) = (a ++ b, q ∙ ap (λ (l : List ℕ). l ++ b) p ∙ append_assoc xs a b, All-append (IsOthers tag) a b others more)
 
--- a pass that read the history has all of its own words in it
+-- the history that a pass read contains all of the pass's own words
 pub own_seen : (room : ℕ) (words : List ℕ) (pass_state : PassState) → IsSeenBy room words pass_state → HasItsOwnWords words pass_state
 own_seen room words pass_state s =
     let more : Covers s.after.seen pass_state.tag s.before.seen = subst (λ (t : ℕ). Covers s.after.seen t s.before.seen) s.tag (s.sees_others.0, s.sees_others.1, s.sees_others.2) in
     subst (λ (w : List ℕ). Covers w pass_state.tag pass_state.seen) (sym s.is) (covers_on pass_state.tag pass_state.seen s.before.seen s.after.seen s.others more)
 
--- the pass that reads last
+-- what the pass that reads last has read is the history
 pub seen_last : (room : ℕ) (given : Result (Vec ℕ) Memory) (old new : PassState) → SeesOthers old new → CatchesUp room old new → IfOk given (λ words. words.items ≡ new.seen)
     → IfOk given (λ words. IsSeenBy room words.items old)
 seen_last room (Ok words) old new sees_others caught_up is = record {
@@ -45,7 +45,7 @@ seen_last room (Ok words) old new sees_others caught_up is = record {
 }
 seen_last room (Err fault) old new sees_others caught_up is = tt
 
--- the pass has taken in what another had read before
+-- a pass that first reads what another pass has read, and then the history, has read the history
 pub seen_before : (room : ℕ) (given : Result (Vec ℕ) Memory) (old mid : PassState) (reported : List ℕ) → SeesOthers (informed old reported) mid
     → IfOk given (λ words. IsSeenBy room words.items mid) → IfOk given (λ words. IsSeenBy room words.items old)
 seen_before room (Ok words) old mid reported g s = record {
@@ -59,7 +59,8 @@ seen_before room (Ok words) old mid reported g s = record {
 }
 seen_before room (Err fault) old mid reported g s = tt
 
--- What a pass had read was taken in, and then it read the history, with no new word of its own.
+-- A pass whose words the last pass has read then reads the history, so none of the words that are
+-- new to it are its own.
 own_more : (room : ℕ) (words fin reported : List ℕ) (mid own later : PassState) → IsSeenBy room words mid → words ≡ fin → StartsWith mid.seen own.seen → SeesOthers (informed own reported) later
     → StartsWith later.seen fin → HasItsOwnWords words own
 own_more room words fin reported mid own later s is (x, p) g (y, q) =
@@ -69,7 +70,7 @@ own_more room words fin reported mid own later s is (x, p) g (y, q) =
     sym (append_assoc own.seen (x ++ c.0) y) ∙ ap (λ (l : List ℕ). l ++ y) (sym whole ∙ is) ∙ sym q ∙ g.1 in
     (x ++ c.0, whole, all_front (IsOthers own.tag) (x ++ c.0) y (subst (All (IsOthers own.tag)) (sym (append_cancel_left own.seen ((x ++ c.0) ++ y) g.0 long)) g.2))
 
--- one more pass has its own words in the history
+-- the history contains all own words of one more pass
 pub others_more : (room : ℕ) (given : Result (Vec ℕ) Memory) (rest all : List Done) (other : Done) (met mid fin later : PassState) (reported more : List ℕ) → all ≡ rest ++ other ∷ []
     → IfOk given (λ words. IsSeenBy room words.items mid) → IfOk given (λ words. words.items ≡ fin.seen) → StartsWith mid.seen other.pass.pass_state.seen
     → met ≡ informed other.pass.pass_state reported → SeesOthers (informed met more) later → StartsWith later.seen fin.seen → IfOk given (λ words. All (λ d. HasItsOwnWords words.items d.pass.pass_state) rest)
@@ -80,7 +81,7 @@ others_more room (Ok words) rest all other met mid fin later reported more split
     (All-push (λ d. HasItsOwnWords words.items d.pass.pass_state) rest other own (own_more room words.items fin.seen more mid other.pass.pass_state later s is first g last))
 others_more room (Err fault) rest all other met mid fin later reported more split s is first was sees_others last own = tt
 
--- the tags of the words, for an equal number of passes
+-- a bound on the tags of the words holds for any equal number of passes
 pub below_as : (given : Result (Vec ℕ) Memory) (passes passes' : ℕ) → passes' ≡ passes → IfOk given (λ words. All (HasTagBelow passes') words.items) → IfOk given (λ words. All (HasTagBelow passes) words.items)
 below_as given passes passes' is below = subst (λ (n : ℕ). IfOk given (λ words. All (HasTagBelow n) words.items)) is below
 
@@ -89,34 +90,34 @@ pub below_seen : (given : Result (Vec ℕ) Memory) (passes passes' : ℕ) (seen 
 below_seen (Ok words) passes passes' seen is are below = subst (All (HasTagBelow passes)) (sym are) (subst (λ (n : ℕ). All (HasTagBelow n) seen) is below)
 below_seen (Err fault) passes passes' seen is are below = tt
 
--- none of the others is left
+-- no other pass is left
 pub others_none : (given : Result (Vec ℕ) Memory) (all : List Done) → all ≡ [] → IfOk given (λ words. All (λ d. HasItsOwnWords words.items d.pass.pass_state) all)
 others_none (Ok words) all none = subst (All (λ d. HasItsOwnWords words.items d.pass.pass_state)) (sym none) (All-nil (λ d. HasItsOwnWords words.items d.pass.pass_state))
 others_none (Err fault) all none = tt
 
--- the numbers of a list with one more item
+-- the numbers of the items of a list after one more item
 pub numbers_more : {A : Type 0} (number : A → ℕ) (xs all : List A) (x : A) (n : ℕ) → all ≡ xs ++ x ∷ [] → map number xs ≡ numbers_below n → number x ≡ n → map number all ≡ numbers_below (n + 1)
 numbers_more number xs all x n split so_far is =
     ap (map number) split ∙ map-append number xs (x ∷ []) ∙ ap (λ (l : List ℕ). l ++ number x ∷ []) so_far ∙ ap (λ (m : ℕ). numbers_below n ++ m ∷ []) is ∙ ap numbers_below (sym (add-one n))
 
--- each number below n is among them
+-- each number below n is in the list of numbers below n
 pub among_below : (n k : ℕ) → k < n → Contains (numbers_below n) k
 among_below zero k below = absurd (omega (arith, below))
 among_below (suc n) k below = dite (ℕ_discrete k n)
     (λ (same : k ≡ n). subst (λ (m : ℕ). Contains (numbers_below n ++ n ∷ []) m) (sym same) (Contains-push (numbers_below n) n))
     (λ (other : k ≢ n). Contains-append_left (numbers_below n) (n ∷ []) k (among_below n k (omega (arith, below, other))))
 
--- a property of all items of a list is one of the last
+-- if all items of a list have a property, so has the last item
 all_last : (P : Done → Type 0) (xs : List Done) (x : Done) → All P (xs ++ x ∷ []) → P x
 all_last P [] x h = All-head P x [] h
 all_last P (y ∷ xs) x h = all_last P xs x (All-tail P y (xs ++ x ∷ []) h)
 
--- the tags that the passes know
+-- the tags in the states of the passes are the tags of the passes
 tags_known : (all : List Done) → map (λ p. p.tag) (map (λ d. d.pass.pass_state) all) ≡ map (λ d. d.pass.pass_state.tag) all
 tags_known [] = refl
 tags_known (d ∷ all) = ap (λ (l : List ℕ). d.pass.pass_state.tag ∷ l) (tags_known all)
 
--- if the passes have all tags, each word is one of theirs
+-- if the passes have all tags, each word has the tag of one of the passes
 theirs : (words : List ℕ) (n : ℕ) (all : List Done) (passes : ℕ) → map (λ d. d.pass.pass_state.tag) all ≡ numbers_below n → passes ≡ n → All (HasTagBelow passes) words
     → All (IsTheirs (map (λ d. d.pass.pass_state) all)) words
 theirs words n all passes tags is below =
@@ -144,7 +145,7 @@ history_of room n (Ok words) rest all last split s own below tags passes = recor
 }
 history_of room n (Err fault) rest all last split s own below tags passes = tt
 
--- there was no front
+-- the session has no front
 pub no_history : (room : ℕ) (all : List Done) (words : List ℕ) → all ≡ [] → words ≡ [] → IsHistory room (map (λ d. d.pass.pass_state) all) words
 no_history room all words none empty = record {
   own = subst (λ (l : List Done). All (HasItsOwnWords words) (map (λ d. d.pass.pass_state) l)) (sym none) (All-nil (HasItsOwnWords words));

@@ -20,7 +20,8 @@ pub serving_more : (callers : List Conversation) (a b d : FrontState) (c : Conve
 serving_more [] a b d c is last = (d, subst (λ (s : FrontState). ServesCaller c s d) is last, refl)
 serving_more (one ∷ callers) a b d c (mid, first, rest) last = (mid, first, serving_more callers mid b d c rest last)
 
--- the result says that there was a failure exactly if a caller's did, also with one more caller
+-- after one more caller, the result still reports a failure if and only if serving one of the
+-- callers failed
 pub reported_more : (callers : List Conversation) (c : Conversation) (was now : Bool) → was ≡ list_any is_failure callers → now ≡ (was || is_failure c)
     → now ≡ list_any is_failure (callers ++ c ∷ [])
 reported_more callers c was now reported is =
@@ -31,11 +32,11 @@ pub came_more : (callers conversations : List Conversation) (c : Conversation) (
     → arrived ≡ came (callers ++ c ∷ [])
 came_more callers conversations c before arrived is was now = now ∙ ap (λ (l : List Arrival). l ++ Came ∷ []) was ∙ sym (map-append (λ c. Came) callers (c ∷ []))
 
--- all callers who came were served, and the next wait had this result
+-- all callers that came were served, and the next wait had this result
 pub ended_with : (last : Arrival) (p : Passed) → p.arrivals ≡ came p.callers → with_arrival last p ≡ record { arrivals = came p.callers ++ last ∷ []; callers = p.callers }
 ended_with last p is = ap (λ (l : List Arrival). record { arrivals = l ++ last ∷ []; callers = p.callers }) is
 
--- the last of some pairs was taken
+-- the last pair of a list was removed
 pub last_taken : {A B : Type 0} (old new : List (A × B)) (taken : Option (A × B)) → old ≡ new ++ option_to_list taken
     → IfSome taken (λ f. map {A = A × B} {B = A} (λ p. p.0) old ≡ map {A = A × B} {B = A} (λ p. p.0) new ++ f.0 ∷ [])
 last_taken old new None e = tt
@@ -58,14 +59,14 @@ adds_one starts all old mid new start one whole (more, behind, are) is put = (
   subst (λ (l : List FrontState). AreServed l (more ++ one ∷ [])) (sym whole) (served_more starts more start one are is),
 )
 
--- no front was left
+-- no front is left
 pub adds_none : (starts : List FrontState) (old : List (Done × Passed)) → starts ≡ [] → Adds starts old old
 adds_none starts old none = ([], sym (append-nil old), subst (λ (l : List FrontState). AreServed l []) (sym none) tt)
 
--- the facts after the first ten
+-- the part of a conjunction after its first ten parts
 pub behind_ten : {A B C D E F G H I J R : Type 0} → A × (B × (C × (D × (E × (F × (G × (H × (I × (J × R))))))))) → R
 behind_ten (a, (b, (c, (d, (e, (f, (g, (h, (i, (j, rest)))))))))) = rest
 
--- ten facts, and others after them
+-- a conjunction of ten parts and of others after them
 pub ten_before : {A B C D E F G H I J R : Type 0} → A × (B × (C × (D × (E × (F × (G × (H × (I × J)))))))) → R → A × (B × (C × (D × (E × (F × (G × (H × (I × (J × R)))))))))
 ten_before (a, (b, (c, (d, (e, (f, (g, (h, (i, j))))))))) rest = (a, (b, (c, (d, (e, (f, (g, (h, (i, (j, rest))))))))))

@@ -1,4 +1,4 @@
--- Fronts that were served have shared the session.
+-- Fronts that were served have shared a session.
 use Rattle.std.proofs.Common.{◌≡◌, ◌||◌, Bool, ℕ, suc, ◌+◌, List, [], ◌∷◌, ◌++◌, length, map, refl, ◌∙◌, sym, ap, subst, Option, append_assoc, add-one, arith}
 use Rattle.std.specs.Prelude.{IfSome}
 use Rattle.std.specs.List.{All, list_any}
@@ -18,7 +18,7 @@ use Rattle.nr_serving.specs.Auxiliary.Session.{IsFresh, any_failed}
 use Rattle.nr_serving.specs.declared.fronts.Done.{Done}
 use Rattle.nr_serving.proofs.TagLemmas.{serving_keeps_tag}
 
--- the fronts of pairs, their results, and their logs
+-- the fronts, results and logs in lists of pairs
 abbrev pub fronts_of : List (FrontState × Passed) → List FrontState
 fronts_of pairs = map {A = FrontState × Passed} {B = FrontState} (λ f. f.0) pairs
 
@@ -59,7 +59,7 @@ ran table r fronts depth workers (s ∷ starts) (o ∷ ones) (is, are) fresh =
       passed_is = ap (λ (t : Passed). t ∷ passed_of ones) is.passed_is ∙ ap (λ (l : List Passed). passed_in c ∷ l) rest.passed_is;
     }
 
--- the passes of the fronts are of the same journal
+-- the passes of all fronts belong to the same journal
 pub same_journal : (table : TableId) (r : Recording) (fronts depth workers : ℕ) (starts : List FrontState) (ones : List (Done × Passed)) → AreServed starts ones → All (IsFresh table r fronts depth workers) starts
     → All (λ d. d.pass.table ≡ table) (dones_of ones)
 same_journal table r fronts depth workers [] [] are fresh = All-nil (λ d. d.pass.table ≡ table)
@@ -69,7 +69,7 @@ same_journal table r fronts depth workers (s ∷ starts) (o ∷ ones) (is, are) 
     All-cons (λ d. d.pass.table ≡ table) o.0 (dones_of ones) (ap (λ (p : Entered). p.table) is.pass ∙ is.same ∙ ap (λ (k : FrontState). k.table) (All-head (IsFresh table r fronts depth workers) s starts fresh).2)
     (same_journal table r fronts depth workers starts ones are (All-tail (IsFresh table r fronts depth workers) s starts fresh))
 
--- the passes still know the number of passes
+-- each pass still has the right number of passes in its state
 pub same_passes : (table : TableId) (r : Recording) (fronts depth workers : ℕ) (starts : List FrontState) (ones : List (Done × Passed)) → AreServed starts ones
     → All (IsFresh table r fronts depth workers) starts → All (λ d. d.pass.pass_state.passes ≡ fronts) (dones_of ones)
 same_passes table r fronts depth workers [] [] are fresh = All-nil (λ d. d.pass.pass_state.passes ≡ fronts)
@@ -81,7 +81,7 @@ same_passes table r fronts depth workers (s ∷ starts) (o ∷ ones) (is, are) f
     ∙ ap (λ (k : FrontState). k.pass_state.passes) (All-head (IsFresh table r fronts depth workers) s starts fresh).2)
     (same_passes table r fronts depth workers starts ones are (All-tail (IsFresh table r fronts depth workers) s starts fresh))
 
--- the passes have the same tags
+-- the passes have the tags that they had at the start
 pub same_tags : (starts : List FrontState) (ones : List (Done × Passed)) → AreServed starts ones → map (λ d. d.pass.pass_state.tag) (dones_of ones) ≡ map (λ start. start.pass_state.tag) starts
 same_tags [] [] are = refl
 same_tags [] (o ∷ ones) are = absurd are
@@ -99,7 +99,7 @@ ready table r fronts depth workers (f ∷ pairs) fresh none =
     (ap (λ (k : FrontState). k.table) (All-head (IsFresh table r fronts depth workers) f.0 (fronts_of pairs) fresh).2, All-head (λ f. f.1 ≡ none_passed) f pairs none)
     (ready table r fronts depth workers pairs (All-tail (IsFresh table r fronts depth workers) f.0 (fronts_of pairs) fresh) (All-tail (λ f. f.1 ≡ none_passed) f pairs none))
 
--- one more front with its callers, before any has come
+-- the list of fronts after one more front was appended, with callers that haven't come yet
 pub fronts_more : (old new : List (FrontState × Passed)) (f : FrontState × Passed) (before : List FrontState) → new ≡ old ++ f ∷ [] → fronts_of old ≡ before → fronts_of new ≡ before ++ f.0 ∷ []
 fronts_more old new f before is was =
     ap fronts_of is ∙ map-append (λ g. g.0) old (f ∷ []) ∙ ap (λ (l : List FrontState). l ++ f.0 ∷ []) was
@@ -134,16 +134,16 @@ port_more old mid new number next was =
     next ∙ ap (λ (l : FrontsLog). record l { opened = l.opened ++ number ∷ [] }) was
     ∙ ap (λ (l : List ℕ). record { opened = l; ended = old.ended }) (append_assoc old.opened (numbers_below number) (number ∷ []) ∙ ap (λ (n : ℕ). old.opened ++ numbers_below n) (sym (add-one number)))
 
--- the ports of a number of fronts were opened, and then their callers ended with these logs
+-- the ports of this number of fronts were opened, and then their callers ended with these logs
 pub opens : (old mid new : FrontsLog) (n fronts : ℕ) (passed : List Passed) → mid ≡ record old { opened = old.opened ++ numbers_below n } → new ≡ record mid { ended = mid.ended ++ passed } → n ≡ fronts
     → Opens fronts passed old new
 opens old mid new n fronts passed first then is =
     then ∙ ap (λ (x : FrontsLog). record x { ended = x.ended ++ passed }) first ∙ ap (λ (k : ℕ). record { opened = old.opened ++ numbers_below k; ended = old.ended ++ passed }) is
 
--- there are as many results as opened fronts
+-- there are as many results as fronts that were opened
 pub as_many : {none : ℕ} (fronts opened ready served done : ℕ) → opened ≡ fronts → ready ≡ opened → served ≡ none + ready → none ≡ 0 → done ≡ served → fronts ≡ done
 as_many fronts opened ready served done a b c d e = omega (arith, a, b, c, d, e)
 
--- if there were no results before, these are all
+-- if there were no results before, these are all results
 pub served_all : (starts : List FrontState) (old new : List (Done × Passed)) → Adds starts old new → old ≡ [] → AreServed starts new
 served_all starts old new (more, behind, are) none = subst (AreServed starts) (sym (behind ∙ ap (λ (l : List (Done × Passed)). l ++ more) none)) are

@@ -1,4 +1,4 @@
--- A front keeps its tag, and the number of passes of its journal, in all its calls.
+-- All calls of a front leave its tag and its number of passes unchanged.
 use Rattle.std.proofs.Common.{◌≡◌, ℕ, Bool, ap, ◌∙◌, List, [], ◌∷◌, Result, Ok, Err}
 use Rattle.nr_journal.specs.declared.view.PassState.{PassState}
 use Rattle.nr_command.specs.Command.{meaning_of}
@@ -30,7 +30,7 @@ ends_keep Prompt (Ok ends.Quit) ended d lines out d' e = turns_keep HasSameTag t
 ends_keep Prompt (Err Read) ended d lines out d' e = turns_keep HasSameTag tag d _ _ d' e.1.turns
 ends_keep Prompt (Err (Write whole part)) ended d lines out d' e = tag.joins d e.mid d' (turns_keep HasSameTag tag d _ _ e.mid e.turns) (turn_keeps HasSameTag tag (meaning_of e.line) e.mid e.turn.0 d' e.turn.1)
 
--- the front keeps them with each caller
+-- serving callers leaves the tag and the number of passes unchanged
 pub serving_keeps_tag : (callers : List Conversation) (d d' : FrontState) → ServesCallers callers d d' → HasSameTag d d'
 serving_keeps_tag [] d d' is = tag.stays d d' (ap (λ (t : FrontState). t.pass_state) is)
 serving_keeps_tag (c ∷ callers) d d' (mid, first, rest) = tag.joins d mid d' (ends_keep _ c.ending first.serves.ended d _ _ mid first.serves.ends) (serving_keeps_tag callers mid d' rest)

@@ -18,8 +18,8 @@ pub record Passed : Type 0 where
   pub arrivals : List Arrival
   pub callers : List Conversation
 
--- The log of a session's fronts: the numbers of those whose callers were opened, and the log of
--- each that has ended, in order.
+-- The log of the fronts of a session: the numbers of the fronts whose ports were opened, and the
+-- log of each front that has ended, in order.
 pub record FrontsLog : Type 0 where
   pub opened : List ℕ
   pub ended : List Passed

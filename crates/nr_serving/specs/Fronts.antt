@@ -1,4 +1,4 @@
--- The course of a front that is served.
+-- The course of a front, from its opening to its end.
 use Rattle.std.specs.Prelude.{Bool, ◌||◌, List, [], ◌∷◌, ◌++◌, map, is_err, if◌then◌else◌}
 use Rattle.std.specs.List.{list_any}
 use Rattle.nr_front.specs.FrontState.{FrontState}
@@ -6,7 +6,7 @@ use Rattle.nr_serving.specs.Conversations.{Conversation, Passed}
 use Rattle.nr_serving.specs.declared.conversations.Arrival.{Arrival}
 use Rattle.nr_serving.specs.declared.conversations.Arrival.TheVariants as arrivals
 
--- the arrivals of as many callers as there were conversations
+-- one arrival of a caller for each conversation
 abbrev pub came : List Conversation → List Arrival
 came callers = map (λ c. arrivals.Came) callers
 
@@ -14,19 +14,19 @@ came callers = map (λ c. arrivals.Came) callers
 abbrev pub is_failure : Conversation → Bool
 is_failure c = is_err c.ending
 
--- The course of a front: its conversations with each of its callers, whether its callers failed,
--- and the state of the front in the end.
+-- The course of a front: its conversation with each caller, whether its callers failed, and the
+-- final state of the front.
 pub record Course : Type 0 where
   pub callers : List Conversation
   pub cut_off : Bool
   pub last : FrontState
 
--- true if the front's callers failed, or a connection did
+-- true if the front's callers failed, or serving one of them failed
 abbrev pub has_failed : Course → Bool
 has_failed course = course.cut_off || list_any is_failure course.callers
 
--- The log of a front that had this course: each caller who came was served, in turn, and then no
--- further caller came, or the callers failed.
+-- The log of a front that had this course: each caller that came was served, in turn, and then no
+-- further caller came or the callers failed.
 abbrev pub passed_in : Course → Passed
 passed_in course = record {
   arrivals =

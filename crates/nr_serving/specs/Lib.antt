@@ -1,8 +1,8 @@
--- what the laws of THEOREM.md rest on, whole files
+-- definitions that the laws in THEOREM.md use
 pub mod Fronts
 pub mod Session
 pub mod Conversations
--- inner: what only definitions and proofs of this crate use
+-- inner: used only within this crate
 pub mod Logged
--- what goes on with the files that the laws rest on
+-- helpers for those definitions
 pub mod Auxiliary

@@ -20,7 +20,7 @@ with_arrival arrival p = record p { arrivals = p.arrivals ++ arrival ∷ [] }
 abbrev pub with_conversation : Conversation → Passed → Passed
 with_conversation c p = record p { callers = p.callers ++ c ∷ [] }
 
--- True if nothing was received from a caller who comes, and nothing was sent.
+-- True if nothing was received from the caller and nothing was sent to it, or if no caller came.
 abbrev pub IsNewCaller : Next Incoming Outgoing → Type 0
 IsNewCaller (nexts.Serve input output) =
     (known : Option (List ℕ)) × (held : Option (List ℕ)) × (input ≡ unread known)
@@ -28,7 +28,7 @@ IsNewCaller (nexts.Serve input output) =
 IsNewCaller nexts.Ended = Unit {0}
 IsNewCaller nexts.Failed = Unit {0}
 
--- The effect of one wait: the front served one more caller, or none came.
+-- The effect of one wait: the front served one more caller, or no caller came.
 abbrev pub WaitsOnce : Passed → Passed → FrontState → FrontState → Came → Type 0
 WaitsOnce old new d d' (came.Served ending) =
     (c : Conversation) × (new ≡ with_conversation c (with_arrival arrivals.Came old))

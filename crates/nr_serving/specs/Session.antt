@@ -20,8 +20,8 @@ numbers_below (suc n) = numbers_below n ++ n ∷ []
 abbrev pub IsTheirs : List PassState → ℕ → Type 0
 IsTheirs pass_states word = Contains (map (λ p. p.tag) pass_states) (tag_of word)
 
--- The history, given what the passes know in the end: it has all of each pass's words and no
--- others, and one of the passes read it to its end. Without passes it is empty.
+-- The history, given the final states of the passes: it has all words of each pass and no other
+-- words, and one of the passes read it to its end. Without passes, the history is empty.
 pub record IsHistory (room : ℕ) (pass_states : List PassState) (history : List ℕ) : Type 0 where
   pub own : All (HasItsOwnWords history) pass_states
   pub theirs : All (IsTheirs pass_states) history
@@ -29,20 +29,20 @@ pub record IsHistory (room : ℕ) (pass_states : List PassState) (history : List
       × IsSeenBy room history pass_state)
       ⊎ ((pass_states ≡ []) × (history ≡ []))
 
--- The course began with a new front.
+-- The course is that of a front that was new at its start.
 pub record BeginsFresh (table : TableId) (r : Recording) (fronts depth workers : ℕ)
     (course : Course) : Type 0 where
   pub start : FrontState
   pub fresh : IsFresh table r fronts depth workers start
   pub serving : ServesCallers course.callers start course.last
 
--- the final knowledge of the front's pass
+-- the final state of the front's pass
 abbrev pub last_pass_state : Course → PassState
 last_pass_state course = course.last.pass_state
 
 -- Fronts shared the session, each with a walker of this depth and this number of workers. Their
--- tags are their numbers, from 0. The history is what was placed, unless memory ran out for it.
--- `failed` says exactly if one of the fronts failed. These are the fronts' logs.
+-- tags are their numbers, from 0. The history is the words that were placed, unless memory ran out
+-- for it. `failed` says whether one of the fronts failed. `passed` is the logs of the fronts.
 pub record IsShared (r : Recording) (room fronts depth workers : ℕ) (passed : List Passed)
     (history : Option (List ℕ)) (failed : Bool) : Type 0 where
   pub table : TableId
@@ -55,8 +55,8 @@ pub record IsShared (r : Recording) (room fronts depth workers : ℕ) (passed : 
   pub reported : failed ≡ list_any has_failed courses
   pub passed_is : passed ≡ map passed_in courses
 
--- True if the callers of this number of fronts were opened, each once, by its number. All of them
--- have ended with these logs, and nothing else was logged.
+-- True if the ports of this number of fronts were opened, each once, by the front's number; if all
+-- of the fronts have ended, with these logs; and if nothing else was logged.
 abbrev pub Opens : ℕ → List Passed → FrontsLog → FrontsLog → Type 0
 Opens fronts passed old new =
     new ≡ record {

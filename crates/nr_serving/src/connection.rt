@@ -9,15 +9,15 @@ ghost use Rattle.nr_serving.specs.declared.conversations.Arrival.{Arrival};
 use std::io;
 use std::io::{Read, Write};
 
-/// The number of bytes that `read_away` reads at once.
+/// The maximum number of bytes in one read of `read_away`.
 const AT_ONCE: usize = 512;
 
-/// The most reads that `read_away` makes.
+/// The maximum number of reads that `read_away` makes.
 const MOST_READS: usize = 64;
 
 /// What a front does after waiting for a caller.
 pub enum Next<I, O> {
-    /// It serves a caller: it reads lines from the one, and writes the replies to the other.
+    /// It serves a caller: it reads lines from the reader, and writes the replies to the writer.
     Serve(I, O),
     /// It ends, since no further caller will come.
     Ended,
@@ -40,28 +40,29 @@ pub trait Connections {
     fn next(&mut self) -> Next<Self::Reader, Self::Writer>
         ensures { arrivals self.new ≡ arrivals self.old ++ arrival_of result ∷ [] };
 
-    /// Ends the replies: the caller reads an end after the last one. After this call, a read waits only briefly, and
-    /// fails if nothing comes. If this call fails, nothing more is read.
+    /// Ends the replies: the caller reads the end of its input after the last reply. After this
+    /// call, a read waits only briefly, and fails if no bytes come. If this call fails, nothing
+    /// more is read.
     fn end_replies(_writer: &Self::Writer) -> io::Result<()> {
         Ok(())
     }
 }
 
-/// The source of each front's callers.
+/// The ports of a session, one for each front.
 pub trait Ports {
     type Callers: Connections + Drop + Send;
 
     /// The numbers of the fronts whose callers were returned, in order. `Fronts` can log them.
     ghost opened: { Self → List ℕ };
 
-    /// Returns the callers of the front with this number, counted from 0, before any of them has come. If there is an
-    /// error, the first `next` returns it.
+    /// Returns the callers of the front with this number, counted from 0, before any of them has
+    /// come. If the port can't be opened, the first `next` returns the error.
     fn open(&mut self, front: usize) -> Self::Callers
         ensures opened { opened self.new ≡ opened self.old ++ front ∷ [] }
         ensures none { Self.Callers.arrivals result ≡ [] };
 }
 
-/// Reads and drops bytes until no more come or a read fails, but at most 64 times 512 bytes.
+/// Reads and drops bytes until no more bytes come or a read fails, but at most 64 times 512 bytes.
 pub fn read_away<R: Read>(reader: &mut R)
     ensures { (bytes : List ℕ) × Consumes (R.remaining reader.old) (R.remaining reader.new) bytes
         × (length bytes ≤ MOST_READS * AT_ONCE) }

@@ -1,4 +1,5 @@
-//! The conversations between a front and its callers. Only proofs read them: nothing of them is kept at run time.
+//! The conversations between a front and its callers. They exist only in proofs, and take no memory
+//! at run time.
 
 ghost use Rattle.std.specs.Prelude.{◌≡◌, ℕ, [], ◌∷◌, ◌++◌, List};
 ghost use Rattle.std.specs.Borrow.{ftrue};
@@ -33,7 +34,7 @@ impl Model for Conversations {
     ghost also_owns = { λ _. ftrue };
 }
 
-// A log owns nothing.
+// A log has no fields, so it may go to another thread.
 unsafe impl Send for Conversations {}
 
 impl Conversations {
@@ -53,7 +54,7 @@ impl Conversations {
         Conversations {}
     }
 
-    // Returns the log with one more conversation, as its streams remember it.
+    // Returns the log with one more conversation, as recorded by its streams.
     #[inline(always)]
     pub(crate) fn and<I: Read, O: Write>(
         &self,
@@ -68,7 +69,8 @@ impl Conversations {
     }
 }
 
-/// The log of a session's fronts: the numbers of those that were opened, and the log of each that has ended.
+/// The log of the fronts of a session: the numbers of the fronts whose ports were opened, and the
+/// log of each front that has ended.
 #[derive(Drop)]
 pub struct Fronts {
     pub ghost opened: { List ℕ } by { numbers_code },
@@ -79,7 +81,7 @@ impl Model for Fronts {
     ghost also_owns = { λ _. ftrue };
 }
 
-// A log owns nothing.
+// A log has no fields, so it may go to another thread.
 unsafe impl Send for Fronts {}
 
 impl Fronts {
@@ -90,7 +92,7 @@ impl Fronts {
         Fronts {}
     }
 
-    /// Returns the log with one more opened front, by its number.
+    /// Returns the log with the number of one more front whose port was opened.
     #[inline(always)]
     pub fn opened(&self, _number: &usize) -> Fronts
         ensures { (result.opened ≡ self.now.opened ++ _number.now ∷ []) × (result.ended ≡ self.now.ended) }
@@ -98,7 +100,7 @@ impl Fronts {
         Fronts {}
     }
 
-    // Returns the log with one more front that has ended, and its conversations.
+    // Returns the log with the conversations of one more front that has ended.
     #[inline(always)]
     pub(crate) fn ended(&self, _conversations: &Conversations) -> Fronts
         ensures { (result.opened ≡ self.now.opened) × (result.ended ≡ self.now.ended

@@ -17,12 +17,12 @@ use std::thread::{Threads, join};
 #[derive(Drop)]
 pub(crate) struct Done {
     pub(crate) pass: Pass,
-    /// Whether its callers failed, or a read or a write did.
+    /// True if its callers failed, or if a read or a write failed.
     pub(crate) failed: bool,
 }
 
-// Serves a front's callers one after the other, until no further caller comes or they fail. It always returns: after
-// `u64::MAX` callers, they count as failed.
+// Serves a front's callers one after the other, until no further caller comes or the callers fail.
+// It always returns: after `u64::MAX` callers, it treats the callers as failed.
 fn serve_one<W, F, C>(
     journal: &Journal,
     mut front: Front<'_, W, F>,
@@ -63,7 +63,7 @@ where
     }
 }
 
-// Serves a front's callers, and returns the front's result with them.
+// Serves a front's callers, and returns the front's result and the callers.
 fn serve_front<W, F, C>(
     journal: &Journal,
     front: Front<'_, W, F>,
@@ -83,8 +83,9 @@ where
     (done, callers)
 }
 
-/// Serves each front in a thread of its own. If no thread can be started, the calling thread serves the front once all
-/// others are started. Appends the results, in the order of the fronts.
+/// Serves each front in a thread of its own. If no thread can be started, the calling thread serves
+/// the front once the threads of all other fronts are started. Appends the results, in the order of
+/// the fronts.
 pub(crate) fn serve_each<R, W, F, C>(
     rt: &R,
     journal: &Journal,

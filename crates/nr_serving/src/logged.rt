@@ -1,5 +1,6 @@
-//! Ports and callers that are logged. Only this file has access to a caller: its reader and its writer are wrapped at
-//! once when it comes, and the conversation is logged when it leaves.
+//! Ports and callers that are logged. Only this file has access to a caller. It wraps the caller's
+//! reader and writer at once when the caller comes, and logs the conversation when the caller
+//! leaves.
 
 ghost use Rattle.std.specs.Prelude.{◌≡◌, ◌-◌, ◌^◌, ◌≤◌, ◌∷◌, ◌++◌, [], length};
 ghost use Rattle.nr_serving.specs.Auxiliary.Fronts.{arrival_of, none_passed};
@@ -26,11 +27,12 @@ pub(crate) enum Came {
     Failed,
 }
 
-/// The callers of a front, one after the other. Contracts see the result of each wait, and the conversation with each
-/// caller. The number of waits is the one that the connections have.
+/// The callers of a front, one after the other. Contracts describe them by the result of each wait
+/// and the conversation with each caller. The connections have the same number of waits.
 #[derive(Drop)]
 pub(crate) struct LoggedCallers<C: Connections> {
-    /// `None` once no further caller comes, so that a front that has ended holds no port while others go on.
+    /// `None` after the last caller, so that a front that has ended doesn't keep its port open
+    /// while other fronts still serve callers.
     connections: Option<C>,
     conversations: Conversations,
 }
@@ -47,7 +49,7 @@ impl<C: Connections> Model for LoggedCallers<C> {
 }
 
 impl<C: Connections + Drop> LoggedCallers<C> {
-    // Makes the callers before any has come.
+    // Makes the callers of a front, before any of them has come.
     fn new(connections: C) -> LoggedCallers<C>
         requires { C.arrivals connections ≡ [] }
         ensures { result ≡ none_passed }
@@ -86,8 +88,9 @@ impl<C: Connections + Drop> LoggedCallers<C> {
         }
     }
 
-    // Logs the conversation with a caller, and drops the caller. `read_away` drops what the caller sends after `quit`:
-    // closing a connection with unread bytes may lose the last reply on its way.
+    // Logs the conversation with a caller, and drops the caller. `read_away` drops what the caller
+    // sends after `quit`, because closing a connection with unread bytes may lose the last reply on
+    // its way.
     fn let_go(
         &mut self,
         source: Source<C::Reader>,
@@ -102,8 +105,8 @@ impl<C: Connections + Drop> LoggedCallers<C> {
         }
     }
 
-    // Waits for the next caller, and serves it with the front: answers its lines, up to the first `quit`, and sends
-    // each reply in one piece.
+    // Waits for the next caller, and serves it with the front: answers the caller's lines, up to
+    // the first `quit`, and sends each reply in one piece.
     pub(crate) fn serve_next<W, F>(
         &mut self,
         front: &mut Front<'_, W, F>,
@@ -129,7 +132,7 @@ impl<C: Connections + Drop> LoggedCallers<C> {
         }
     }
 
-    // Gives up after 2^64 - 1 callers: they count as failed.
+    // Gives up after 2^64 - 1 callers, and logs that the callers failed.
     pub(crate) fn give_up(&mut self)
         requires { 2 ^ 64 - 1 ≤ length self.old.arrivals }
         ensures { self.new ≡ with_arrival Arrival.Failed self.old }
@@ -139,8 +142,9 @@ impl<C: Connections + Drop> LoggedCallers<C> {
     }
 }
 
-/// Ports whose callers are logged. Contracts see the numbers of the fronts whose callers were opened, and the log of
-/// each front that has ended. The ports' own list has the same fronts, opened since the ports were wrapped.
+/// Ports whose callers are logged. Contracts describe them by the numbers of the fronts whose ports
+/// were opened, and the log of each front that has ended. The ports' own list ends with the same
+/// numbers, which are those of the ports opened since the wrapping.
 #[derive(Drop)]
 pub struct LoggedPorts<P: Ports> {
     ports: P,

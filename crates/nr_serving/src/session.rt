@@ -25,9 +25,10 @@ use std::thread::Threads;
 /// The result of a session.
 #[derive(Drop)]
 pub struct Ended {
-    /// The words of the placed commands, in order, or the error if memory ran out for them.
+    /// The words of the commands that were placed, in order, or the error if memory ran out for
+    /// them.
     pub history: Result<Vec<u64>, Memory>,
-    /// Whether a front's callers failed, or a read or a write did.
+    /// True if the callers of a front failed, or if a read or a write failed.
     pub failed: bool,
 }
 
@@ -42,7 +43,7 @@ pub struct Shape {
     pub depth: usize,
 }
 
-// Opens the next front over the film, with the next of the remaining passes.
+// Opens the next front over the film, with the next remaining pass.
 fn open_front<'f, W: Worlds + Drop + Sync, F: Finder + Drop>(
     alloc: Global,
     journal: &Journal,
@@ -163,8 +164,9 @@ fn finish(alloc: Global, journal: &Journal, mut done: Vec<Done>) -> Ended
     Ended { history, failed }
 }
 
-// Lets a pass read all words that the others had read, and then to the end of the journal. Returns what it has read
-// then. It also lets each of the others read that, which proves that none of the words new to it are its own.
+// Lets a pass read all words that the other passes have read, and then the journal to its end.
+// Returns all that the pass has read. Each other pass then reads the same words, which proves that
+// no word that is new to it is its own.
 fn collect(journal: &Journal, last: &mut Pass, mut done: Vec<Done>) -> Result<Vec<u64>, Memory>
     requires last { last.old.table ≡ journal.now }
     requires done { All (λ d. d.pass.table ≡ journal.now) done.items }
@@ -195,12 +197,14 @@ fn take_done(journal: &Journal, done: &mut Vec<Done>) -> Option<Done>
     done.pop()
 }
 
-/// Opens the fronts, each with a debugger of its own over the film. Serves each in a thread of its own until its
-/// callers end, and returns the history that they placed. The ports log the conversations: the port of each front was
-/// opened once, by its number from 0, no other was, and all of them have ended.
+/// Opens the fronts, each with a debugger of its own over the film. Serves each front in a thread
+/// of its own until its callers end, and returns the history that they placed. The ports log the
+/// conversations. The port of each front was opened once, by the front's number, counted from 0; no
+/// other port was opened, and all fronts have ended.
 ///
-/// Fails only for lack of memory, and before any port is opened: no caller was sent a byte. The contract doesn't say
-/// when memory runs out. If it runs out for the history, after the last caller, `Ended` says so instead.
+/// Fails only if memory runs out before any port is opened, so no caller was sent a byte. The
+/// contract doesn't say when memory runs out. If it runs out for the history, after the last
+/// caller, `Ended` says so instead.
 pub fn share<W, F, R, P>(
     rt: &R,
     alloc: Global,

@@ -1,5 +1,4 @@
--- Definitions that contracts and proofs cite beside `Conversations`. No law of THEOREM.md rests on
--- them.
+-- Helper definitions for `Conversations`. The laws in THEOREM.md don't use them.
 use Rattle.std.specs.Prelude.{◌≡◌, ℕ, Bool, true, false, List, Option, Some, None, Result, Ok, Err, refl}
 use Rattle.std.specs.Coded.{Coded, code_by, coded×, coded_ℕ, coded_bool, coded_list, coded_option}
 use mathlib.Core.Path.{ap}
@@ -13,7 +12,7 @@ use Rattle.nr_serving.specs.declared.conversations.Arrival.{Arrival}
 use Rattle.nr_serving.specs.declared.conversations.Arrival.TheVariants as arrivals
 use Rattle.nr_serving.specs.Conversations.{Conversation, Passed}
 
--- ---- how the prover stores these
+-- ---- how the prover encodes logs
 
 abbrev number_of : Arrival → Option Bool
 number_of arrivals.Came = None

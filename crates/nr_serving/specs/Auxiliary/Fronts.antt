@@ -1,4 +1,4 @@
--- Definitions that contracts and proofs cite beside `Fronts`. No law of THEOREM.md rests on them.
+-- Helper definitions for `Fronts`. The laws in THEOREM.md don't use them.
 use Rattle.std.specs.Prelude.{◌≡◌, ℕ, List, [], ◌∷◌, ◌++◌, Option}
 use Rattle.atomic_table.specs.Seated.{TableId}
 use Rattle.nr_text.specs.Auxiliary.Streams.{unread, unwritten}
@@ -13,9 +13,9 @@ use Rattle.nr_serving.specs.declared.conversations.Arrival.{Arrival}
 use Rattle.nr_serving.specs.declared.conversations.Arrival.TheVariants as arrivals
 use Rattle.nr_serving.specs.Fronts.{Course, has_failed, passed_in}
 
--- A front that was d served a caller, with a new reader and writer, and is d' now: what was sent is
--- the answer to the lines of what was received, according to the result. The result says that there
--- was a failure exactly if a read or a write failed.
+-- A front in state d served a caller, with a new reader and writer, and is in state d' now. What
+-- was sent answers the lines that were received, as far as the result says. The result reports a
+-- failure if and only if a read or a write failed.
 pub record ServesCaller (c : Conversation) (d d' : FrontState) : Type 0 where
   pub remaining : Option (List ℕ)
   pub contents : Option (List ℕ)
@@ -24,8 +24,8 @@ pub record ServesCaller (c : Conversation) (d d' : FrontState) : Type 0 where
   pub read_failed : c.input.failed ≡ is_read_failure c.ending
   pub write_failed : c.output.failed ≡ is_write_failure c.ending
 
--- True if the callers are served one after the other: the front continues from one to the next,
--- with these conversations.
+-- True if the front served the callers one after the other, with these conversations, and kept its
+-- state from one caller to the next.
 abbrev pub ServesCallers : List Conversation → FrontState → FrontState → Type 0
 ServesCallers [] d d' = d' ≡ d
 ServesCallers (c ∷ callers) d d' =
@@ -41,12 +41,12 @@ arrival_of nexts.Failed = arrivals.Failed
 abbrev pub none_passed : Passed
 none_passed = record { arrivals = []; callers = [] }
 
--- True of a front over this journal, and its log, before any caller has come.
+-- True if the front is over this journal and its log is that of a front before any caller has come.
 abbrev pub IsReady : TableId → FrontState × Passed → Type 0
 IsReady table f = (f.0.table ≡ table) × (f.1 ≡ none_passed)
 
--- This front was served, with this result and these conversations with its callers, as the streams
--- remember them. The result says that there was a failure exactly if there was one.
+-- This front was served with this result, and this log has its conversations with its callers as
+-- their streams recorded them. The result reports a failure if and only if there was a failure.
 pub record IsServed (start : FrontState) (done : Done) (passed : Passed) : Type 0 where
   pub course : Course
   pub passed_is : passed ≡ passed_in course
@@ -55,13 +55,13 @@ pub record IsServed (start : FrontState) (done : Done) (passed : Passed) : Type 
   pub pass : done.pass ≡ pass_of course.last
   pub same : course.last.table ≡ start.table
 
--- True if these fronts were served, with these results and conversations.
+-- True if these fronts were served with these results and logs.
 abbrev pub AreServed : List FrontState → List (Done × Passed) → Type 0
 AreServed [] [] = Unit {0}
 AreServed (start ∷ starts) (one ∷ ones) = IsServed start one.0 one.1 × AreServed starts ones
 AreServed [] (one ∷ ones) = ⊥
 AreServed (start ∷ starts) [] = ⊥
 
--- True if their results are appended to the earlier ones.
+-- True if these fronts were served, and their results were appended to the earlier results.
 abbrev pub Adds : List FrontState → List (Done × Passed) → List (Done × Passed) → Type 0
 Adds starts old new = (more : List (Done × Passed)) × (new ≡ old ++ more) × AreServed starts more

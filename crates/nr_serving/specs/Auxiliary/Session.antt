@@ -1,4 +1,4 @@
--- Definitions that contracts and proofs cite beside `Session`. No law of THEOREM.md rests on them.
+-- Helper definitions for `Session`. The laws in THEOREM.md don't use them.
 use Rattle.std.specs.Prelude.{◌≡◌, ℕ, Bool, List, Option, Some, None, Result, Ok, Err}
 use Rattle.std.specs.List.{list_any}
 use Rattle.std.specs.Global.{Vec}
@@ -14,30 +14,30 @@ use Rattle.nr_front.specs.Auxiliary.FrontState.{opened_front}
 use Rattle.nr_front.specs.Auxiliary.Replica.{at_start}
 use Rattle.nr_serving.specs.declared.fronts.Done.{Done}
 
--- True of a front over this recording and this journal, which is for this number of fronts. It has
--- read no word. Its walker hasn't moved and has this depth; and this number of workers search.
+-- True if the front is new: it is over this recording and over this journal, which has this number
+-- of fronts; it has read no word; its walker has this depth and hasn't moved; and it has this
+-- number of workers.
 abbrev pub IsFresh : TableId → Recording → ℕ → ℕ → ℕ → FrontState → Type 0
 IsFresh table r fronts depth workers front_state =
     (tag : ℕ) × (every : ℕ)
     × (front_state ≡ opened_front (record { table = table; pass_state = entering fronts tag }) r
     workers (at_start every depth))
 
--- true if one of them failed
+-- true if one of the fronts failed
 abbrev pub any_failed : List Done → Bool
 any_failed done = list_any (λ d. d.failed) done
 
--- the words, unless memory ran out for them
+-- the words, or `None` if memory ran out for them
 abbrev pub words_of : Result (Vec ℕ) Memory → Option (List ℕ)
 words_of (Ok words) = Some words.items
 words_of (Err fault) = None
 
--- True if the history begins with what this pass has read, and contains all words of the pass's
--- own.
+-- True if the history begins with what this pass has read and contains all of the pass's own words.
 abbrev pub HasItsOwnWords : List ℕ → PassState → Type 0
 HasItsOwnWords history pass_state = Covers history pass_state.tag pass_state.seen
 
--- The pass read words of others, until no further word was found or all were read that there is
--- room for. What it had read then is the history.
+-- The pass read words of other passes until it found no further word or had read a full journal.
+-- What it had read then is the history.
 pub record IsSeenBy (room : ℕ) (history : List ℕ) (pass_state : PassState) : Type 0 where
   pub before : PassState
   pub after : PassState

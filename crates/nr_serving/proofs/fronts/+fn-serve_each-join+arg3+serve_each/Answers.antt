@@ -16,7 +16,8 @@ fn::serve_each::join+arg3+FnOnce::call_once-join+arg3-requires g t c κs within 
     let s = r.1 in
     (search rules, ten_before within (s.0, (s.1, (s.2, (s.3, (s.4, (s.5, (s.6, (s.7, (s.8, (s.9, (s.10, r.0))))))))))))
 
--- by position: with names for the parts the kernel's check doesn't end within its steps
+-- The parts are selected by position: if they had names, the kernel's check would exceed its step
+-- limit.
 pub join-one-requires-after_bounds : goal.join-one-requires-after_bounds
 join-one-requires-after_bounds g t c κs within =
     let b = c.requires-raw.1.1.1.1.1.1.1.1.1.1.1 in

@@ -11,7 +11,7 @@ use Rattle.nr_serving.specs.declared.conversations.Arrival.TheVariants as arriva
 use Rattle.nr_serving.proofs.ServingLemmas.{came_more, ended_with, reported_more, serving_more}
 use Rattle.nr_serving.proofs.fronts.serve_one.Goals as goal
 
--- one caller more was served
+-- one more caller was served
 pub loop-preserved : goal.loop-preserved
 loop-preserved g c =
     let i = c.loop.invariant in
@@ -31,7 +31,7 @@ loop-preserved g c =
       (omega (arith, same, more, i.4)),
     )
 
--- the callers have come to an end
+-- no further caller will come
 pub returns-in-Ended : goal.returns-in-Ended
 returns-in-Ended g c =
     let i = c.loop.invariant in
@@ -45,7 +45,7 @@ returns-in-Ended g c =
       same = i.0 ∙ sym c.requires.table;
     }
 
--- or they can't be had any more
+-- the callers failed
 pub returns-in-Failed : goal.returns-in-Failed
 returns-in-Failed g c =
     let i = c.loop.invariant in
@@ -59,7 +59,7 @@ returns-in-Failed g c =
       same = i.0 ∙ sym c.requires.table;
     }
 
--- or no more are waited for
+-- the front gave up waiting for callers
 pub returns : goal.returns
 returns g c =
     let i = c.loop.invariant in

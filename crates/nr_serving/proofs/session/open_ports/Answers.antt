@@ -4,7 +4,7 @@ use Rattle.nr_serving.specs.Session.{numbers_below}
 use Rattle.nr_serving.proofs.SessionLemmas.{fronts_more, none_more, port_more}
 use Rattle.nr_serving.proofs.session.open_ports.Goals as goal
 
--- the port of one more front is opened
+-- the port of one more front was opened
 pub loop-front-preserved : goal.loop-front-preserved
 loop-front-preserved g c =
     let at = c.loop-front in
@@ -23,7 +23,7 @@ loop-front-preserved g c =
       opened = port_more _ _ _ at.number c.open.ensures.opened i.opened;
     }
 
--- as many ports are opened as there are fronts
+-- as many ports were opened as there are fronts
 pub returns-clause-opened : goal.returns-clause-opened
 returns-clause-opened g c =
     let at = c.loop-front in

@@ -1,4 +1,4 @@
--- A log owns nothing, so it may go to another thread.
+-- A log is a struct without fields, so it may go to another thread.
 use denote.Param.Send.{IsSend, owning_send}
 use Rattle.nr_serving.specs.contracts.conversations.Conversations.{the_row, the_type}
 

@@ -1,4 +1,4 @@
--- `new` makes a struct of no fields, and picks that no front was opened.
+-- `new` makes a struct without fields, and picks the log in which no front was opened.
 use Rattle.std.proofs.Common.{[], ◌∷◌, refl}
 use Rattle.std.proofs.raw_atomic.Walks.{proved}
 use Rattle.nr_text.proofs.CallWalks.{nothing_made, of_no_fields}

@@ -1,4 +1,4 @@
--- `opened` makes a struct of no fields, and picks what passed that its clause names.
+-- `opened` makes a struct without fields, and picks the log that its clause names.
 use Rattle.std.proofs.Common.{[], ◌∷◌, ◌++◌, refl}
 use Rattle.std.proofs.raw_atomic.Walks.{proved}
 use Rattle.nr_text.proofs.CallWalks.{nothing_made, of_no_fields}

@@ -1,7 +1,7 @@
 use Rattle.std.proofs.Common.{ℕ, List, ◌++◌, ap, sym, ◌∙◌, append-nil}
 use Rattle.nr_serving.proofs.logged.LoggedPorts.new.Goals as goal
 
--- none was opened since
+-- no port has been opened since the ports were wrapped
 pub invariant_of-result : goal.invariant_of-result
 invariant_of-result g c =
     let before = g.P.Ports.opened c.args.ports in
