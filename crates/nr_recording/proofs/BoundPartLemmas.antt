@@ -1,4 +1,4 @@
--- The results of the parts of a reading whose whole gave a value.
+-- If a computation succeeds, so do its parts.
 use Rattle.std.proofs.Common.{◌≡◌, ◌⊎◌, Bool, true, false, cond, Option, Some, None, Result, Ok, Err, refl, inl, inr}
 use Rattle.std.specs.Prelude.{option_map, option_and_then}
 use Rattle.nr_recording.specs.declared.fault.Fault.{Fault}
@@ -10,22 +10,22 @@ ok x = Ok x
 pub same_ok : {A E : Type 0} (x y : A) → ok {E = E} x ≡ ok y → x ≡ y
 same_ok x y e = cc
 
--- the value of a step that did not fail
+-- if two computations in sequence succeed, so does each of them
 pub bind_ok : {A B E : Type 0} (r : Result A E) (f : A → Result B E) (y : B) → (r >>= f) ≡ Ok y → (x : A) × (r ≡ Ok x) × (f x ≡ Ok y)
 bind_ok (Ok x) f y e = (x, refl, e)
 bind_ok (Err d) f y e = absurd cc
 
--- a test with a fault on its first side
+-- if a test whose true branch fails succeeds, it took the false branch
 pub guard_ok : {A E : Type 0} (b : Bool) (d : E) (r : Result A E) (y : A) → cond b (Err d) r ≡ Ok y → (b ≡ false) × (r ≡ Ok y)
 guard_ok true d r y e = absurd cc
 guard_ok false d r y e = (refl, e)
 
--- a test with a fault on its second side
+-- if a test whose false branch fails succeeds, it took the true branch
 pub passed_ok : {A E : Type 0} (b : Bool) (d : E) (r : Result A E) (y : A) → cond b r (Err d) ≡ Ok y → (b ≡ true) × (r ≡ Ok y)
 passed_ok true d r y e = (refl, e)
 passed_ok false d r y e = absurd cc
 
--- the side of a test that was taken
+-- the result of a test is that of one of its branches
 pub choice : {A : Type 0} (b : Bool) (x y z : A) → cond b x y ≡ z → ((b ≡ true) × (x ≡ z)) ⊎ ((b ≡ false) × (y ≡ z))
 choice true x y z e = inl (refl, e)
 choice false x y z e = inr (refl, e)
@@ -42,7 +42,7 @@ pub then_some : {A B : Type 0} (f : A → Option B) (o : Option A) (y : B) → o
 then_some f (Some x) y e = (x, refl, e)
 then_some f None y e = absurd cc
 
--- a test with nothing on its first side
+-- if a test whose true branch is None has a value, it took the false branch
 pub kept_some : {A : Type 0} (b : Bool) (o : Option A) (y : A) → cond b None o ≡ Some y → (b ≡ false) × (o ≡ Some y)
 kept_some true o y e = absurd cc
 kept_some false o y e = (refl, e)

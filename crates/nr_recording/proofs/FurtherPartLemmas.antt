@@ -1,4 +1,4 @@
--- One more part after the arguments of a line.
+-- Adding a part after the arguments of a line.
 use Rattle.std.proofs.Common.{◌≡◌, ℕ, List, [], ◌∷◌, ◌++◌, refl, sym, ap, ◌∙◌}
 use Rattle.serde_json.specs.Data.{Data, string, array, Items, no_items, item}
 use Rattle.serde_json.specs.View.{view, items_view}
@@ -6,7 +6,7 @@ use Rattle.serde_json.specs.declared.value.Value.{Value}
 use Rattle.nr_recording.specs.Spelling.{Argument}
 use Rattle.nr_recording.specs.Auxiliary.Spelling.{argument_data, arguments_data, IsInType, AreInTypes, IsSpelling}
 
--- the values, and one more after them
+-- the values followed by one more
 abbrev push : Items → Data → Items
 push no_items d = item d no_items
 push (item e ds) d = item e (push ds d)

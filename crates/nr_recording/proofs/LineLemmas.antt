@@ -12,7 +12,7 @@ use Rattle.nr_recording.proofs.PlainLemmas.{split_front}
 abbrev HasNoLineFeed : List ℕ → Type 0
 HasNoLineFeed line = All (λ b. (b == 10) ≡ false) line
 
--- the front of a text, up to which no line feed was found
+-- if a search finds no line feed before an index, the text before the index contains none
 no_line_feed : (text line : List ℕ) (end : ℕ) → Nowhere (Passes (is_byte 10) text) 0 end → length line ≡ end → ((k : ℕ) → k < end → get_or line k 0 ≡ get_or text k 0) → HasNoLineFeed line
 no_line_feed text line end nowhere long front k d below =
     let inside : k < end = omega (arith, below, long) in
@@ -23,7 +23,7 @@ no_line_feed text line end nowhere long front k d below =
 pub one_line : (text : List ℕ) → Nowhere (Passes (is_byte 10) text) 0 (length text) → lines text ≡ text ∷ []
 one_line text nowhere = slice_split_none (λ b. b == 10) text (no_line_feed text text (length text) nowhere refl (λ k below. refl))
 
--- the line up to the first line feed, and the lines of the text after it
+-- the lines of a text are the text up to the first line feed, and the lines of the rest
 pub line_then : (text line rest : List ℕ) (end : ℕ) → Nowhere (Passes (is_byte 10) text) 0 end → Passes (is_byte 10) text end → text ≡ line ++ rest → length line ≡ end
     → ((k : ℕ) → k < end → get_or line k 0 ≡ get_or text k 0) → get_or rest 0 0 ≡ get_or text end 0 → 0 < length rest
     → lines text ≡ line ∷ lines (take (length rest - 1) (drop 1 rest))

@@ -1,4 +1,4 @@
--- The value of a line, from the result of the JSON reader.
+-- The result of the JSON reader determines the value of a line.
 use Rattle.std.proofs.Common.{◌≡◌, ℕ, Bool, true, false, List, Some, None, Result, Ok, Err, refl}
 use Rattle.std.specs.Str.{IsUtf8, is_utf8}
 use Rattle.std.proofs.lemmas.Str.{IsUtf8-from_is_utf8, is_utf8-from_IsUtf8}
@@ -25,7 +25,7 @@ value_of_refused line h =
       | false ↦ λ e. rw e refl
     ]) refl
 
--- an error other than running out of memory is reported as this fault
+-- an error of the JSON reader other than running out of memory becomes the fault NotJson
 reported : {Y : Type 0} (category : Category) (read : Result Y Fault) → (¬ (category ≡ categories.Memory) → read ≡ Err fault.NotJson) → Fails (of_category category) read
 reported categories.Io read h = h (λ e. cc)
 reported categories.Syntax read h = h (λ e. cc)

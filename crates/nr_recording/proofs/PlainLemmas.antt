@@ -1,4 +1,4 @@
--- The tokens of items in the usual spelling, and that they are read as the parts that they spell.
+-- The tokens of items in the usual spelling are read as the parts that the items denote.
 use Rattle.std.proofs.Common.{◌≡◌, ◌≤◌, ◌<◌, ◌^◌, ◌/◌, ◌%◌, ◌*◌, ◌+◌, ℕ, true, false, ◌==◌, List, [], ◌∷◌, ◌++◌, length, take, drop, ◌-◌, get_or, get_or-take, decimal, lit≤, Some, option_map, refl, sym, ap, ap₂, ◌∙◌, append_assoc, append-nil, inl, inr, ◌⊎◌, arith}
 use Rattle.std.proofs.lemmas.Bool.{eqb-true, ne_eqb, or_cases, false≢true, le-ltb}
 use Rattle.std.proofs.lemmas.Fmt.{decimal_digit, decimal_step}
@@ -26,7 +26,7 @@ use Rattle.nr_recording.proofs.ReadBackLemmas.{tokens_read}
 
 -- ---- one item
 
--- a comma or a closing bracket ends a word, and no text is a key before it
+-- a comma or a closing bracket ends a word, and a text before it isn't a key
 ended : (x : ℕ) (xs : List ℕ) → (x ≡ 44) ⊎ (x ≡ 93) → (ends_word (x ∷ xs) ≡ true) × (begins_colon (lex between (x ∷ xs)) ≡ false)
 unfolding lex
 ended x xs (inl e) = rw e (refl, refl)
@@ -40,7 +40,7 @@ pub item_ends : (text : List ℕ) → ends_item text ≡ true → (ends_word tex
 item_ends [] e = absurd (false≢true e)
 item_ends (x ∷ xs) e = ended x xs (either x (or_cases (x == 44) (x == 93) e))
 
--- a text that no colon follows is an item, if an item may begin there
+-- a text that isn't followed by a colon is an item if an item may begin there
 string_placed : (place : Place) (s : List ℕ) (ls : List Lexeme) → may_begin place ≡ true → begins_colon ls ≡ false
     → punctuate place (Lexeme.token (Token.string s) ∷ ls) ≡ Token.string s ∷ punctuate after_value ls
 unfolding punctuate
@@ -65,7 +65,7 @@ array_placed after_value ls may = absurd (false≢true may)
 array_placed after_comma ls may = refl
 array_placed after_key ls may = absurd (false≢true may)
 
--- a text whose bytes are all literal is lexed as one string
+-- a quoted text whose bytes are all literal is lexed as one string
 text_lexed : (s left : List ℕ) → escape s ≡ s → lex between (34 ∷ (s ++ 34 ∷ left)) ≡ Lexeme.token (Token.string s) ∷ lex between left
 unfolding lex
 text_lexed s left plain =
@@ -75,7 +75,8 @@ text_lexed s left plain =
 plain_byte : (x : ℕ) → (x ≡ 34 → ⊥) → (x ≡ 92 → ⊥) → 32 ≤ x → is_plain x ≡ true
 plain_byte x quote backslash control = rw (ne_eqb x 34 quote, ne_eqb x 92 backslash, le-ltb x 32 control) refl
 
--- true if the bytes contain no quote, backslash or control character: each stands for itself in a string
+-- true if each byte stands for itself in a string, so none is a quote, backslash or control
+-- character
 pub record AreLiteral (s : List ℕ) : Type 0 where
   pub none : (k : ℕ) → k < length s → (get_or s k 0 ≡ 34 → ⊥) × (get_or s k 0 ≡ 92 → ⊥)
   pub printable : (k : ℕ) → k < length s → 32 ≤ get_or s k 0
@@ -148,7 +149,7 @@ items_spelled (part ∷ parts) =
     append_assoc (part_tokens part) (parts_tokens parts) (Token.end_array ∷ [])
     ∙ ap (λ more. part_tokens part ++ more) (items_spelled parts)
 
--- true if all parts read back
+-- true if all parts can be read back from their tokens
 abbrev pub AllReadBack : List Part → Type 0
 AllReadBack [] = Unit {0}
 AllReadBack (part ∷ parts) = ReadsBack part × AllReadBack parts
@@ -178,9 +179,9 @@ digit_added n d some small fits =
     let ones : m % 10 ≡ d = omega arith in
     decimal_step m (omega arith) fits ∙ ap₂ (λ a b. decimal a ++ (48 + b) ∷ []) tens ones
 
--- ---- the front of a text
+-- ---- the beginning of a text
 
--- the first byte, and the rest of the text
+-- a text that isn't empty consists of its first byte and the rest
 pub split_front : (x : ℕ) (text : List ℕ) → 0 < length text → get_or text 0 0 ≡ x → text ≡ x ∷ take (length text - 1) (drop 1 text)
 split_front x [] some is = absurd (omega arith)
 split_front x (y ∷ ys) some is = ap₂ (λ a l. a ∷ l) is (sym (take_all (length (y ∷ ys) - 1) ys (omega arith)))
@@ -197,13 +198,13 @@ first_digit n text some small is = split_front (48 + n) text some is ∙ ap (λ 
 pub pair_back : (word : Bor (List ℕ)) (n : ℕ) → n < 2 ^ 64 → ReadsBack (Part.Pair word n)
 pair_back word n small = record { flat = lit≤ tt; same = rw (number_of-decimal n small) refl }
 
--- one more part, with which the rest begins
+-- moves a part from the beginning of the rest to the end of the parts
 pub part_taken : (all : List Token) (parts : List Part) (part : Part) (ts more : List Token) → all ≡ Token.begin_array ∷ (parts_tokens parts ++ ts) → ts ≡ part_tokens part ++ more
     → all ≡ Token.begin_array ∷ (parts_tokens (parts ++ part ∷ []) ++ more)
 part_taken all parts part ts more is begins =
     is ∙ ap (λ l. Token.begin_array ∷ (parts_tokens parts ++ l)) begins ∙ ap (λ l. Token.begin_array ∷ l) (one_more parts part more)
 
--- the bytes before the first quote or backslash, with no control character among them
+-- the bytes before the first quote or backslash are literal if none is a control character
 pub no_escape_before : (word inside : List ℕ) (len : ℕ) → Nowhere (Passes (is_byte2 34 92) inside) 0 len → length word ≡ len → word ≡ take len inside
     → ((k : ℕ) → k < length word → 32 ≤ get_or word k 0) → AreLiteral word
 no_escape_before word inside len nowhere long is printable = record { none = none; printable = printable }

@@ -31,7 +31,7 @@ use Rattle.nr_rev.specs.declared.answer.Answer.TheVariants as answers
 
 -- ---- bytes
 
--- true for a byte of ASCII that is not a control character below 32
+-- true for an ASCII byte of at least 32
 abbrev pub is_printable : ℕ → Bool
 is_printable b = leb 32 b && ltb b 128
 
@@ -39,7 +39,7 @@ is_printable b = leb 32 b && ltb b 128
 abbrev pub are_printable : List ℕ → Bool
 are_printable bs = list_all is_printable bs
 
--- true for a byte that stands for itself in a string
+-- true for a byte from 0 to z in ASCII, except the backslash
 abbrev is_plain : ℕ → Bool
 is_plain b = leb 48 b && ltb b 123 && not (eqb b 92)
 
@@ -188,7 +188,7 @@ argument_printable (bit true) h = decimal_printable 1
 argument_printable (digits bytes) h = quoted_printable (encode_lower bytes) (hex_plain bytes h)
 argument_printable (answer a) h = answer_printable a
 
--- the most bytes that an argument and its comma take
+-- the maximum number of bytes that an argument and its comma take
 abbrev pub width : Argument → ℕ
 width (digits bytes) = 2 * length bytes + 3
 width _ = 76
@@ -261,7 +261,7 @@ member_short later k n ms p =
 abbrev with_number : List ℕ → ℕ → Members → Members
 with_number k n ms = member k (number (unsigned n)) ms
 
--- the header's members from a key on
+-- the header's members from a key to the end
 abbrev from_sock : Limits → Members
 from_sock l = with_number (codes "sock") l.sockets no_members
 
@@ -292,7 +292,7 @@ header_short version l =
     let buf = member_short false (codes "buf") l.buffer (from_desc version l) refl in
     omega (arith, sock, number, gor, desc, buf)
 
--- ---- what is visible
+-- ---- printable texts
 
 ascii_printable : (bs : List ℕ) → are_printable bs ≡ true → are_ascii bs ≡ true
 ascii_printable [] h = refl
@@ -310,7 +310,7 @@ split_line (x ∷ xs) ys h =
     let low = leb-true 32 x (and_parts (leb 32 x) (ltb x 128) p.0).0 in
     rw (ne_eqb x 10 (λ e. omega arith), split_line xs ys p.1) refl
 
--- a written line is the first line of the text that it begins
+-- if a text begins with a written line, that line is its first line
 pub lines-line_text : (d : Data) (more : List ℕ) → are_printable (compact_text d) ≡ true → lines (line_text d ++ more) ≡ compact_text d ∷ lines more
 unfolding line_text
 lines-line_text d more h = ap lines (append_assoc (compact_text d) (10 ∷ []) more) ∙ split_line (compact_text d) more h

@@ -1,4 +1,4 @@
--- A recording that was read keeps the ranges.
+-- The numbers in a recording that `read` returns are in their ranges.
 use Rattle.std.proofs.Common.{◌≡◌, ◌<◌, ◌≤◌, ℕ, ℤ, pos, negsuc, Bool, true, false, if◌then◌else◌, ltb, leb, List, [], ◌∷◌, ◌++◌, ◌∙◌, length, Option, Some, None, Result, Ok, Err, refl, subst, arith}
 use Rattle.std.specs.Prelude.{option_map, option_and_then, codes, ◌==◌}
 use Rattle.std.specs.Result.{result_ok}
@@ -102,7 +102,7 @@ bytes_few d bytes e =
     from_ok (Ok x) h = cc
     from_ok (Err x) h = absurd cc
 
--- true if the values that these arguments are read as, wherever they are, have a property
+-- true if this function reads only values that have the property P
 abbrev OnlyReads : {A : Type 0} → (A → Type 0) → (Items → Result (A × Items) Fault) → Type 0
 OnlyReads {A = A} P read = (ds : Items) (p : A × Items) → read ds ≡ Ok p → P p.0
 
@@ -150,19 +150,19 @@ of_found {A = A} kind step found kinded h ds p e = from (found ds) p (h ds) e
     from (Ok q) p h e = subst (λ (s : Step × Items). Makes kind s.0) (same_ok {E = Fault} (step q.0, q.1) p e) (record { kinded = kinded q.0; fitting = h q refl })
     from (Err f) p h e = absurd cc
 
--- a kind whose steps always fit
+-- the steps of a kind without bytes always fit in a line
 usual : {A : Type 0} (kind : Kind) (step : A → Step) (found : Items → Result (A × Items) Fault) → ((x : A) → kind_of (step x) ≡ kind) → ((x : A) → fits (step x) ≡ true)
     → MakesFitting kind (λ ds. step_from step (found ds))
 usual kind step found kinded h = of_found kind step found kinded (λ ds p e. h p.0)
 
--- only these kinds make steps that may not fit
+-- a step that is read is of its kind and fits in a line
 kind_made : (kind : Kind) → MakesFitting kind (step_in kind)
 kind_made Kind.Arrive = of_found _ _ _ (λ x. refl) (second_only AreFew number bytes few_bytes)
 kind_made Kind.SysWrite = of_found _ _ _ (λ x. refl) (second_only (λ p. AreFew p.1) number (number and bytes) (second_only AreFew number bytes few_bytes))
 kind_made Kind.Tick = of_found _ _ _ (λ x. refl) time_least
 kind_made _ = usual _ _ _ (λ x. refl) (λ x. refl)
 
--- a kind that is read is one of the version's
+-- the version has each kind that is read
 kind_had : (version : Version) (name : List ℕ) (kind : Kind) → kind_in version name ≡ Some kind → has_kind version kind ≡ true
 unfolding kind_in
 kind_had version name kind e =
@@ -173,7 +173,7 @@ kind_had version name kind e =
     from named true is e = subst (λ (k : Kind). has_kind version k ≡ true) (same_Some named kind e) is
     from named false is e = absurd cc
 
--- an answer is read after the arguments exactly if the version has answers
+-- an answer is read after the arguments if and only if the version has answers
 answer_had : (version : Version) (ds : Items) (p : Option Answer × Items) → answer_in version ds ≡ Ok p → may_have version p.0 ≡ true
 answer_had One ds p e = subst (λ (q : Option Answer × Items). may_have One q.0 ≡ true) (same_ok {E = Fault} (None, ds) p e) refl
 answer_had Two ds p e =
@@ -197,12 +197,12 @@ step_writable version d step e =
 
 -- ---- the lines so far
 
--- before the header there are no steps
+-- no steps come before the header
 pub none_before : (header : Option Header) (steps : List RecordedStep) → AreOfHeader header steps → ((h : Header) → ¬ (header ≡ Some h)) → steps ≡ []
 none_before None steps are none = are
 none_before (Some h) steps are none = absurd (none h refl)
 
--- one more step of the header's version
+-- adding a step of the header's version
 pub one_more_of : (header : Option Header) (begun : Header) (steps : List RecordedStep) (step : RecordedStep) → header ≡ Some begun → AreOfHeader header steps → is_writable begun.version step ≡ true
     → AreOfHeader header (steps ++ step ∷ [])
 one_more_of None begun steps step is are one = absurd cc

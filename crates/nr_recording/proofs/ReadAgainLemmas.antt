@@ -1,4 +1,4 @@
--- The written form of a step or of limits is read as that step or those limits.
+-- The written form of a step is read as that step, and that of limits as those limits.
 use Rattle.std.proofs.Common.{◌≡◌, ◌≤◌, ◌<◌, ◌^◌, ℕ, ℤ, pos, negsuc, Bool, true, false, ◌&&◌, ltb, leb, List, [], ◌∷◌, ◌++◌, length, get_or, Option, Some, None, Ok, refl, arith}
 use Rattle.std.proofs.lemmas.Bool.{and_parts, lt-ltb, le-ltb, le-leb, leb-true}
 use Rattle.hex.specs.Hex.{encode_lower, lower_digits}
@@ -80,7 +80,7 @@ answer_again answers.Again h = refl
 answer_again answers.Stale h = refl
 answer_again answers.Pipe h = refl
 
--- the arguments of a step, read as those of its kind, make that step, and leave what follows them
+-- reading the arguments of a step returns that step and what follows the arguments
 arguments_again : (s : Step) (more : List Argument) → AreInTypes (arguments_of s) → fits s ≡ true → step_in (kind_of s) (arguments_data (arguments_of s ++ more)) ≡ Ok (s, arguments_data more)
 unfolding none
 arguments_again (Step.Tick t) more h w = rw (moment_again t h.0, from_zero_again t w) refl
@@ -88,7 +88,7 @@ arguments_again (Step.Arrive s bytes) more h w = rw (number_again s h.0, bytes_a
 arguments_again (Step.SysWrite g s bytes) more (g_typed, (s_typed, (bytes_typed, rest))) w = rw (number_again g g_typed, number_again s s_typed, bytes_again bytes bytes_typed w) refl
 arguments_again s more h w = grind (arith, number_again, side_again, mode_again, bit_again, moment_again)
 
--- the recorded answer after a step's arguments, read in its version, is that answer
+-- reading a written answer returns that answer
 answer_in_again : (version : Version) (a : Option Answer) → may_have version a ≡ true → AreInTypes (answer_arguments a) → answer_in version (arguments_data (answer_arguments a)) ≡ Ok (a, no_items)
 answer_in_again One None may h = refl
 answer_in_again One (Some a) may h = absurd cc

@@ -1,4 +1,4 @@
--- JSON reads the text of a written line as the value that was written.
+-- The JSON reader reads the text of a written line as the value that was written.
 use Rattle.std.proofs.Common.{◌≡◌, ◌≤◌, ◌<◌, ◌^◌, ℕ, pos, negsuc, true, false, List, [], ◌∷◌, codes, Some, refl, sym, ap, ◌∙◌, append-nil, arith, lit≤, lit<}
 use Rattle.std.specs.Prelude.{option_map, option_and_then}
 use Rattle.json.specs.Lex.{tokens}

@@ -1,4 +1,4 @@
--- Reading one line after the other in a loop.
+-- Reading lines in a loop.
 use Rattle.std.proofs.Common.{◌≡◌, ℕ, suc, ◌+◌, true, List, [], ◌∷◌, length, Option, Some, None, Result, Ok, Err, refl, sym, ◌∙◌, arith}
 use Rattle.std.proofs.lemmas.List.Folds.{list_any_at}
 use Rattle.std.specs.List.{list_any}
@@ -36,13 +36,13 @@ ends bytes seen i is so_far =
     let one : with_lines (suc i) seen [] ≡ Ok seen = refl in
     rw (sym so_far ∙ one, ← is) refl
 
--- a line whose reading ran out of memory takes memory
+-- if reading a line ran out of memory, the line takes memory
 pub wanted : (line : List ℕ) (rest : List (List ℕ)) (n : ℕ) (e : LineError) → (e ≡ errors.Memory refused_memory → line_takes_memory line ≡ true) → read_fault_at n e ≡ faults.Memory refused_memory
     → list_any line_takes_memory (line ∷ rest) ≡ true
 wanted line rest n (errors.Memory refused) h reported = list_any_at line_takes_memory (line ∷ rest) 0 line (omega arith) (h refl)
 wanted line rest n (errors.Fault f) h reported = absurd cc
 
--- the end of the text takes no memory
+-- reading the end of the text doesn't run out of memory
 pub never_wanted : (n : ℕ) (header : Option Header) (steps : List RecordedStep) → ¬ (with_header n header steps ≡ Err (faults.Memory refused_memory))
 never_wanted n None steps = λ e. cc
 never_wanted n (Some header) steps = λ e. cc

@@ -1,4 +1,4 @@
--- Steps and their answers, in two lists and as one list of rows.
+-- Steps and their answers, as two lists and as one list of rows.
 use Rattle.std.proofs.Common.{◌≡◌, ◌≤◌, ℕ, zero, suc, true, false, eqb, ltb, List, [], ◌∷◌, ◌++◌, length, map, Bor, Option, Some, None, Ok, refl, sym, ap, subst, arith}
 use Rattle.std.specs.Prelude.{option_and_then, option_to_list, slice_get, IfSome}
 use Rattle.std.specs.Option.{option_copied}
@@ -22,7 +22,7 @@ use Rattle.nr_recording.specs.declared.version.Version.TheVariants.{One, Two}
 
 -- ---- the abstract values
 
--- a lent item is the one at its place
+-- an item borrowed from a list is the item at its index
 pub lent_there : {X : Type 0} (xs : List X) (i : ℕ) (lent : Option (Bor X)) → IsItemAt xs i lent → option_copied lent ≡ slice_get xs i
 lent_there xs i None found = sym (slice_get_past xs i found.3)
 lent_there xs i (Some x) found = sym (slice_get_read xs (length xs) i x.now refl found.3.0 found.1)
@@ -37,7 +37,7 @@ steps_are [] answers = refl
 steps_are (s ∷ steps) [] = ap (λ more. s ∷ more) (steps_are steps [])
 steps_are (s ∷ steps) (a ∷ answers) = ap (λ more. s ∷ more) (steps_are steps answers)
 
--- the answer of a step is the one at its place
+-- the answer in row n is answer n
 pub answer_there : (steps : List Step) (answers : List Answer) (n : ℕ) → length answers ≤ length steps
     → option_and_then (λ (r : RecordedStep). r.answer) (slice_get (recorded steps answers) n) ≡ slice_get answers n
 answer_there [] [] n few = refl
@@ -47,7 +47,7 @@ answer_there (s ∷ steps) [] (suc n) few = answer_there steps [] n (omega arith
 answer_there (s ∷ steps) (a ∷ answers) zero few = refl
 answer_there (s ∷ steps) (a ∷ answers) (suc n) few = answer_there steps answers n (omega (arith, few))
 
--- the step of a run, and its recorded answer
+-- a row consists of the run's step and its recorded answer
 pub both_there : (rows : List RecordedStep) (n : ℕ) (s : Step) → slice_get (map (λ (r : RecordedStep). r.step) rows) n ≡ Some s
     → slice_get rows n ≡ Some (record { step = s; answer = option_and_then (λ (r : RecordedStep). r.answer) (slice_get rows n) })
 both_there [] n s read = absurd cc
@@ -67,7 +67,7 @@ fits_at : (s : Step) (steps : List Step) (n : ℕ) → fits s ≡ true → ((k :
 fits_at s steps zero first behind = first
 fits_at s steps (suc n) first behind = behind n
 
--- a step fits in its line
+-- each step of a writable recording fits in its line
 pub step_fits : (version : Version) (steps : List Step) (answers : List Answer) (n : ℕ) → are_writable version (recorded steps answers) ≡ true
     → IfSome (slice_get steps n) (λ s. fits s ≡ true)
 step_fits version [] answers n h = tt
@@ -93,12 +93,12 @@ lines_written Two (s ∷ steps) (a ∷ answers) lines count =
     let both = and_parts (has_line Two s) (have_lines Two steps) lines in
     rw (both.0, lines_written Two steps answers both.1 (omega (arith, count))) refl
 
--- a property of the step at a place is one of the lent step
+-- if a step fits in its line, so does a borrowed reference to it
 pub lent_fits : (lent : Option (Bor Step)) (o : Option Step) → option_copied lent ≡ o → IfSome o (λ s. fits s ≡ true) → IfSome lent (λ s. fits s.now ≡ true)
 lent_fits None o is fit = tt
 lent_fits (Some x) o is fit = subst (λ (q : Option Step). IfSome q (λ s. fits s ≡ true)) (sym is) fit
 
--- steps that have lines, with as many answers as the version requires
+-- steps that have lines and as many answers as the version requires are writable
 pub are_written : (version : Version) (steps : List Step) (answers : List Answer) → make_lines version steps answers ≡ true
     → (are_writable version (recorded steps answers) ≡ true) × (length answers ≡ answer_count version (length steps))
 are_written version steps answers made =
@@ -123,12 +123,12 @@ count_wanted Two (s ∷ steps) (a ∷ answers) h few =
     let both = and_parts (is_writable Two (record { step = s; answer = Some a })) (are_writable Two (recorded steps answers)) h in
     ap suc (count_wanted Two steps answers both.1 (omega (arith, few)))
 
--- so there are no more answers than steps
+-- a recording has no more answers than steps
 pub few_answers : (version : Version) (steps : List Step) (answers : List Answer) → length answers ≡ answer_count version (length steps) → length answers ≤ length steps
 few_answers One steps answers count = omega (arith, count)
 few_answers Two steps answers count = omega (arith, count)
 
--- ---- one more
+-- ---- adding a step
 
 one_more_step : (steps : List Step) (s : Step) → recorded (steps ++ s ∷ []) [] ≡ recorded steps [] ++ record { step = s; answer = None } ∷ []
 one_more_step [] s = refl
@@ -142,7 +142,7 @@ one_more_answered (first ∷ steps) [] s a same = absurd cc
 one_more_answered (first ∷ steps) (other ∷ answers) s a same =
     ap (λ more. record { step = first; answer = Some other } ∷ more) (one_more_answered steps answers s a (omega (arith, same)))
 
--- one more step of the version, with its answer
+-- adding a step and its answer to the two lists adds a row
 pub one_more : (version : Version) (steps : List Step) (answers : List Answer) (s : Step) (answer : Option Answer) → length answers ≡ answer_count version (length steps)
     → may_have version answer ≡ true → recorded (steps ++ s ∷ []) (answers ++ option_to_list answer) ≡ recorded steps answers ++ record { step = s; answer = answer } ∷ []
 one_more One steps [] s None count may = one_more_step steps s
@@ -159,7 +159,7 @@ one_more_few One steps answers s (Some a) count may = absurd cc
 one_more_few Two steps answers s None count may = absurd cc
 one_more_few Two steps answers s (Some a) count may = omega (arith, count, length-append answers (a ∷ []), length-append steps (s ∷ []))
 
--- ---- the recording that is made
+-- ---- making a recording
 
 pub recording_made : (version : Version) (l : Limits) (steps : List Step) (answers : List Answer) → are_in_range l ≡ true → l.buffer ≤ most_buffer version → length steps ≤ MOST_STEPS
     → make_lines version steps answers ≡ true → recording_of version l steps answers ≡ Ok (record { version = version; limits = l; steps = recorded steps answers })

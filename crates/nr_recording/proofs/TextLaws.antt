@@ -1,4 +1,4 @@
--- A text that is read is in the grammar, and a text in the grammar is read.
+-- `read` accepts exactly the texts in the grammar.
 use Rattle.std.proofs.Common.{◌≡◌, ◌≤◌, ◌+◌, ◌⊎◌, ℕ, suc, false, cond, ltb, eqb, List, [], ◌∷◌, ◌++◌, length, Some, None, Result, Ok, Err, refl, sym, subst, ◌∙◌, inl, inr, append_assoc, append-nil, arith}
 use Rattle.std.proofs.lemmas.Bool.{ltb-false, le-ltb}
 use Rattle.std.proofs.lemmas.List.{length-append}
@@ -25,7 +25,7 @@ at_line_ok : {A : Type 0} (n : ℕ) (r : Result A Fault) (x : A) → at_line n r
 at_line_ok n (Ok y) x e = cc
 at_line_ok n (Err f) x e = absurd cc
 
--- the state after a line without a fault
+-- true if next is the state after a line without a fault
 abbrev Passes : Seen → List ℕ → Seen → Type 0
 Passes seen line next = (IsSkipped line × (seen ≡ next)) ⊎ ((d : Data) × IsValueLine line d × (with_value seen seen.header d ≡ Ok next))
 
@@ -62,7 +62,7 @@ first_ok n seen last line rest e =
     let b = bind_ok (at_line n (with_line seen line)) (λ next. with_lines (suc n) next rest) last e in
     (b.0, at_line_ok n (with_line seen line) b.0 b.1, b.2)
 
--- ---- a text that is read
+-- ---- a text that `read` accepts is in the grammar
 
 abbrev after_header : Header → List RecordedStep → Seen
 after_header header steps = record { header = Some header; steps = steps }
@@ -78,7 +78,7 @@ skip_more : (version : Version) (line : List ℕ) (rest : List (List ℕ)) (es :
 skip_more version line rest [] s more = (s, more)
 skip_more version line rest (e ∷ es) s more = inl (s, more)
 
--- the steps of some lines, after the steps before them
+-- true if last is the state after the steps so far and those in the remaining lines
 record Continues (header : Header) (steps : List RecordedStep) (rest : List (List ℕ)) (last : Seen) : Type 0 where
   es : List RecordedStep
   are : AreSteps header.version rest es
@@ -133,7 +133,7 @@ reading_found bytes w h =
     let b = bind_ok (with_lines 1 nothing (lines bytes)) (recording_at_end (length (lines bytes))) w h in
     lines_found (lines bytes) 1 (length (lines bytes)) b.0 w b.1 b.2
 
--- ---- a text in the grammar
+-- ---- `read` accepts a text in the grammar
 
 steps_again : (rest : List (List ℕ)) (es : List RecordedStep) (n : ℕ) (header : Header) (steps : List RecordedStep) → AreSteps header.version rest es → length steps + length es ≤ MOST_STEPS
     → with_lines n (after_header header steps) rest ≡ Ok (after_header header (steps ++ es))

@@ -1,4 +1,4 @@
--- Writing one line after the other in a loop.
+-- Writing lines in a loop.
 use Rattle.std.proofs.Common.{◌≡◌, ℕ, suc, ◌+◌, ◌<◌, List, ◌++◌, length, get_or, take, drop, refl, sym, ap, subst, ◌∙◌, add-one, append-nil, take-append-drop, drop-cons, length-append, arith}
 use Rattle.std.specs.List.{concat}
 use Rattle.std.proofs.Math.Seq.{take-append-add}
@@ -17,11 +17,11 @@ one_more_text all line i a b c lt is before one =
     rw (take_more all i line lt, concat-append, ← is) (ap (λ (x : List ℕ). concat (take i all) ++ x) (append-nil line)) in
     rw e (sends_then a b c (concat (take i all)) line before one)
 
--- true if e is the i-th step, with its answer
+-- true if e is step i with its answer
 abbrev pub IsStepAt : Recorded → ℕ → RecordedStep → Type 0
 IsStepAt w i e = (i < length w.steps) × (e ≡ get_or w.steps i e)
 
--- its line comes after the header's
+-- the line of step i is line i + 1, because the header comes first
 line_there : (w : Recorded) (e : RecordedStep) (i : ℕ) → IsStepAt w i e → line_text (step_data e) ≡ get_or (line_texts w) (i + 1) (line_text (step_data e))
 line_there w e i at =
     let f : RecordedStep → List ℕ = λ x. line_text (step_data x) in
@@ -34,7 +34,7 @@ one_more_line w e i a b c at before one =
     let within = at.0 in
     one_more_text (line_texts w) (f e) (i + 1) a b c (simp length-map (omega arith)) (line_there w e i at) before one
 
--- the lines before the i-th, the i-th, and those after it
+-- a text consists of the lines before line i, line i and the lines after it
 concat_at : (all : List (List ℕ)) (line : List ℕ) (i : ℕ) → i < length all → line ≡ get_or all i line
     → concat all ≡ concat (take i all) ++ (line ++ concat (drop (suc i) all))
 concat_at all line i lt is =
@@ -53,7 +53,7 @@ part_of_text all line i a b c lt is before part =
     ap (take (length front + n)) whole ∙ take-append-add front (line ++ rest) n ∙ ap (λ (t : List ℕ). front ++ t) (take-append-le n line rest (omega (arith, short))) in
     (length front + n, omega (arith, lens, short), subst (Sends a c) (sym front_of_line) (sends_then a b c front (take n line) before part.2))
 
--- the line of a step that was written in part
+-- if only part of a step's line was written, only part of the text was
 pub part_of_line : (w : Recorded) (e : RecordedStep) (i : ℕ) (a b c : Outgoing) → IsStepAt w i e
     → Sends a b (concat (take (i + 1) (line_texts w))) → SendsPart b c (line_text (step_data e)) → SendsPart a c (text w)
 part_of_line w e i a b c at before part =

@@ -26,7 +26,7 @@ use Rattle.nr_recording.proofs.ReadBackLemmas.{line_read, header_read}
 use Rattle.nr_recording.proofs.PlainTextLemmas.{are_printable, are_plain, widths, line_printable, line_short, header_printable, header_short, utf8_printable, lines-line_text}
 use Rattle.nr_recording.proofs.TextLaws.{reading_again}
 
--- true if the name is that of a kind, and the arguments fit in a line
+-- true if the name contains only plain bytes, and the arguments fit in a line
 record IsNarrow (line : List ℕ × List Argument) : Type 0 where
   plain : are_plain line.0 ≡ true
   fits : length line.0 + widths line.1 + 4 ≤ MOST_LINE_BYTES
@@ -53,7 +53,7 @@ narrow version s w =
       fits = omega (arith, step.1, answer_narrow s.answer, widths-append (arguments_of s.step) (answer_arguments s.answer));
     }
 
--- a visible text that the JSON reader accepts has a value
+-- a printable text that the JSON reader accepts has a value
 value_read : (bytes : List ℕ) (d : Data) → are_printable bytes ≡ true → read bytes ≡ Some d → value_of bytes ≡ Ok d
 unfolding value_of
 value_read bytes d visible e = rw (utf8_printable bytes visible, e) refl

@@ -1,4 +1,4 @@
--- The arguments of a step, by their shapes.
+-- The arguments of a step, and how each is read from JSON.
 use Rattle.std.specs.Prelude.{ℕ, ◌*◌, ◌==◌, List, length, Bool, true, false, ℤ, pos, int_lt, Option, Some, None, option_map, option_and_then, Result, Ok, Err, nat_lt, if◌then◌else◌, codes, ⊤}
 use Rattle.std.specs.Str.{bytes_eq}
 use Rattle.std.specs.Result.{result_ok}
@@ -35,11 +35,11 @@ bit_of d = option_and_then bit_named (u64_of d)
 abbrev pub i64_of : Data → Option ℤ
 i64_of d = option_and_then as_i64 (as_number d)
 
--- a time that is at least 0
+-- the time, if it is at least 0
 abbrev pub from_zero : ℤ → Option ℤ
 from_zero z = if int_lt z (pos 0) then None else Some z
 
--- a time that is at least 0
+-- a time that is at least 0, as a JSON value
 abbrev pub time_of : Data → Option ℤ
 time_of d = option_and_then from_zero (i64_of d)
 
@@ -62,11 +62,11 @@ mode_named text = if bytes_eq text (codes "r") then Some modes.Read
 abbrev pub mode_of : Data → Option Mode
 mode_of d = option_and_then mode_named (as_str d)
 
--- the most hexadecimal digits that an argument may have, two for each byte: 131,072
+-- the maximum number of hexadecimal digits in an argument, two for each byte: 131,072
 abbrev pub most_digits : ℕ
 most_digits = 2 * MOST_BYTES
 
--- an even number of hexadecimal digits, not too many
+-- the bytes that an even number of hexadecimal digits denote, if there are at most most_digits
 abbrev pub bytes_named : List ℕ → Option (List ℕ)
 bytes_named text = if nat_lt most_digits (length text) then None else result_ok (decode_of text)
 
@@ -74,9 +74,9 @@ bytes_named text = if nat_lt most_digits (length text) then None else result_ok 
 abbrev pub hex_of : Data → Option (List ℕ)
 hex_of d = option_and_then bytes_named (as_str d)
 
--- ---- the arguments at the front of a list, each read together with the rest of the list
+-- ---- arguments at the front of a list, each returned with the rest of the list
 
--- the first argument; if it is missing or has another form, the arguments are faulty
+-- the first argument, or the fault Arguments if it is missing or has another form
 abbrev pub first_by : {A : Type 0} → (Data → Option A) → Items → Result (A × Items) Fault
 first_by read no_items = Err fault.Arguments
 first_by read (item d ds) = or_fault fault.Arguments (option_map (λ x. (x, ds)) (read d))
@@ -122,7 +122,7 @@ abbrev pub bytes : Items → Result (List ℕ × Items) Fault
 bytes ds = first_by hex_of ds
 
 infixr 20 ◌and◌
--- some arguments, followed by others
+-- two groups of arguments in sequence
 abbrev pub ◌and◌ : {A B : Type 0} → (Items → Result (A × Items) Fault)
     → (Items → Result (B × Items) Fault) → Items → Result ((A × B) × Items) Fault
 (first and second) ds = do

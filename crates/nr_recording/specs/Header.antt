@@ -1,4 +1,4 @@
--- The version and the limits that the value of the header line gives.
+-- The version and the limits in the JSON value of the header line.
 use Rattle.std.specs.Prelude.{ℕ, suc, ◌==◌, List, option_map, Option, option_and_then, Result, Ok, Err, if◌then◌else◌, codes}
 use Rattle.serde_json.specs.Data.{Data, Members, no_members, member}
 use Rattle.serde_json.specs.Find.{get, as_number, as_u64, as_object}
@@ -11,7 +11,7 @@ use Rattle.nr_recording.specs.Version.{version_numbered, most_buffer}
 use Rattle.nr_rev.specs.Limits.{is_limit}
 use Rattle.nr_rev.specs.declared.limits.TheConstants.{MOST_GOROUTINES, MOST_SOCKETS, MOST_DESCRIPTORS}
 
--- the unsigned number at a key
+-- the unsigned number at a key of an object
 abbrev pub unsigned_at : List ℕ → Data → Result ℕ Fault
 unsigned_at key d =
     or_fault fault.Header (option_and_then as_u64 (option_and_then as_number (get key d)))
@@ -31,7 +31,7 @@ version_of d = do
   number ← unsigned_at (codes "netrev") d
   or_fault fault.Header (version_numbered number)
 
--- a limit, from 1 to its greatest value
+-- the limit, if it is from 1 to its maximum
 abbrev pub limit_of : ℕ → ℕ → Result ℕ Fault
 limit_of most n = if is_limit most n then Ok n else Err fault.Limit
 
@@ -49,8 +49,8 @@ limits_of version gor sock desc buf = do
     buffer = buffer;
   })
 
--- the limits in an object of this version with the five keys and no other; its form is tested
--- before the ranges
+-- the limits in an object of this version with exactly the five keys; the form is checked before
+-- the ranges
 unfoldable pub header_of : Version → Data → Result Limits Fault
 header_of version d = do
   count ← or_fault fault.Header (member_count d)

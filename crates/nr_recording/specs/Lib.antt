@@ -10,11 +10,11 @@ pub mod Arguments
 pub mod Shapes
 pub mod Steps
 pub mod Header
--- what callers need besides
+-- what callers need as well
 pub mod Writing
--- inner: what only definitions and proofs of this crate use
+-- inner: used only within this crate
 pub mod Part
 pub mod Plain
 pub mod Spelling
--- what goes on with the files that the laws rest on
+-- helpers for those definitions
 pub mod Auxiliary

@@ -1,4 +1,4 @@
--- The numbers that a value denotes.
+-- The numbers that a JSON value denotes.
 use Rattle.std.specs.Prelude.{ℕ, ◌^◌, Option, Some, None, option_and_then, nat_lt, if◌then◌else◌}
 use Rattle.serde_json.specs.Data.{Data}
 use Rattle.serde_json.specs.Find.{as_number, as_u64}

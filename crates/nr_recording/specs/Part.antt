@@ -1,4 +1,4 @@
--- The parts of a line: the JSON of each, and those that haven't been read yet.
+-- The JSON of a line's parts, and the parts that haven't been read yet.
 use Rattle.std.specs.Prelude.{List, map}
 use Rattle.std.specs.Slice.Iter.{iter_rest}
 use Rattle.serde_json.specs.Data.{Data, number, unsigned, string, array, Items, no_items, item}
@@ -15,7 +15,7 @@ part_data (Number n) = number (unsigned n)
 part_data (Pair text n) = array (item (string text.now) (item (number (unsigned n)) no_items))
 part_data (Value value) = view value.now
 
--- the JSON of some parts
+-- the JSON of several parts
 abbrev pub parts_data : List Part → Items
 parts_data parts = items_of (map part_data parts)
 

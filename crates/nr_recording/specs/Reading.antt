@@ -1,4 +1,4 @@
--- The recording that bytes mean, or the first fault.
+-- The recording that bytes denote, or the first fault in them.
 use Rattle.std.specs.Prelude.{ℕ, suc, ◌==◌, List, [], ◌∷◌, ◌++◌, length, Bool, ◌||◌, Option, Some, None, Result, Ok, Err, nat_lt, if◌then◌else◌}
 use Rattle.std.specs.List.{slice_split, list_all}
 use Rattle.std.specs.Str.{is_utf8}
@@ -19,15 +19,15 @@ use Rattle.nr_recording.specs.Steps.{step_of}
 
 -- ---- one line
 
--- the lines of a text: a line feed ends each, and the last one may lack it
+-- the lines of a text, each of which ends with a line feed, except perhaps the last
 abbrev pub lines : List ℕ → List (List ℕ)
 lines bytes = slice_split (λ b. b == 10) bytes
 
--- true for a space, a tab and a carriage return
+-- true if the byte is a space, a tab or a carriage return
 abbrev pub is_space : ℕ → Bool
 is_space b = (b == 32) || (b == 9) || (b == 13)
 
--- true if the line is empty or consists of such bytes
+-- true if the line is empty or contains only spaces, tabs and carriage returns
 abbrev pub is_blank : List ℕ → Bool
 is_blank line = list_all is_space line
 
@@ -35,7 +35,7 @@ is_blank line = list_all is_space line
 unfoldable pub value_of : List ℕ → Result Data Fault
 value_of line = if is_utf8 line then or_fault fault.NotJson (read line) else Err fault.NotJson
 
--- ---- line after line
+-- ---- a sequence of lines
 
 -- the header and the steps of the lines so far
 pub record Seen : Type 0 where
@@ -67,12 +67,12 @@ with_line seen line =
       d ← value_of line
       with_value seen seen.header d)
 
--- the fault of line n
+-- the result of reading line n, with the line's number in a fault
 abbrev pub at_line : {A : Type 0} → ℕ → Result A Fault → Result A ReadFault
 at_line n (Ok x) = Ok x
 at_line n (Err f) = Err (errors.Line n f)
 
--- the state after the lines from number n on
+-- the state after more lines, the first of which has number n
 unfoldable pub with_lines : ℕ → Seen → List (List ℕ) → Result Seen ReadFault
 with_lines n seen [] = Ok seen
 with_lines n seen (line ∷ rest) =
@@ -80,7 +80,7 @@ with_lines n seen (line ∷ rest) =
 
 -- ---- the whole text
 
--- the result for a header; without a header line, the fault of line n
+-- the recording with this header and these steps, or a fault in line n if there is no header
 abbrev pub with_header : ℕ → Option Header → List RecordedStep → Result Recorded ReadFault
 with_header n None steps = Err (errors.Line n fault.Header)
 with_header n (Some header) steps = Ok (record {

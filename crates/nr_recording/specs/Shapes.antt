@@ -1,4 +1,4 @@
--- The shapes of steps in a line: the arguments that make a step, read from the front of a
+-- The shapes of steps in a line: the arguments from which a step is made, read from the front of a
 -- list.
 use Rattle.std.specs.Prelude.{ℕ, ℤ, List, Bool, Result, Ok, Err}
 use Rattle.serde_json.specs.Data.{Items}
@@ -8,17 +8,17 @@ use Rattle.nr_rev.specs.declared.step.Step.{Step}
 use Rattle.nr_recording.specs.declared.fault.Fault.{Fault}
 use Rattle.nr_recording.specs.Arguments.{◌and◌, none, number, tag, bit, moment, time, side, mode, bytes}
 
--- the step made of the values that were read, and the rest of the list
+-- the step made from the values that were read, and the rest of the list
 abbrev pub step_from : {A : Type 0} → (A → Step) → Result (A × Items) Fault
     → Result (Step × Items) Fault
 step_from step (Ok found) = Ok (step found.0, found.1)
 step_from step (Err f) = Err f
 
--- a step of three values, the last two of which were read together
+-- a step made from three values, the last two of which are a pair
 abbrev pub with_three : {A B C : Type 0} → (A → B → C → Step) → A × (B × C) → Step
 with_three step (first, (second, third)) = step first second third
 
--- a step of four values
+-- a step made from four values
 abbrev pub with_four : {A B C D : Type 0} → (A → B → C → D → Step) → A × (B × (C × D)) → Step
 with_four step (first, (second, (third, fourth))) = step first second third fourth
 

@@ -1,11 +1,11 @@
--- The JSON of a line to write: a name and arguments.
+-- The name and the arguments in a line to write.
 use Rattle.std.specs.Prelude.{ℕ, ℤ, Bool, List}
 use Rattle.nr_rev.specs.declared.answer.Answer.{Answer}
 use Rattle.nr_rev.specs.declared.sides.Side.{Side}
 use Rattle.nr_rev.specs.declared.sides.Mode.{Mode}
 
--- an argument of a step: a number of 32 bits, a tag of 64, a signed time, a side, a mode, a bit,
--- bytes, or the answer after them
+-- a part of a line after its name: a number of 32 bits, a tag of 64 bits, a signed time, a side, a
+-- mode, a bit, bytes, or the answer
 pub data Argument : Type 0 where
   numeral : ℕ → Argument
   tag : ℕ → Argument

@@ -1,4 +1,4 @@
--- The step that the value of a line denotes, and the line of a step: two rows for each kind.
+-- The step that a line denotes, and the line of a step, with a row of each for every kind.
 use Rattle.std.specs.Prelude.{Bool, true, false, Option, Some, None, option_and_then, Result, Ok, Err, if◌then◌else◌}
 use Rattle.serde_json.specs.Data.{Data, Items, no_items, item}
 use Rattle.serde_json.specs.Find.{as_str, as_array}
@@ -17,7 +17,7 @@ use Rattle.nr_recording.specs.declared.recording.RecordedStep.{RecordedStep}
 
 -- ---- the kinds
 
--- the step of this kind that the arguments at the front of a list make, and the rest of the list
+-- the step of this kind with the arguments at the front of a list, and the rest of the list
 abbrev pub step_in : Kind → Items → Result (Step × Items) Fault
 step_in Kind.Spawn = bare Step.Spawn
 step_in Kind.Exit = one Step.Exit
@@ -51,7 +51,7 @@ step_in Kind.Pop = bare Step.Pop
 step_in Kind.Fire = one Step.Fire
 step_in Kind.CloseWrite = pair Step.CloseWrite
 
--- the first value, and the others
+-- the first value and the others
 abbrev pub first_of : Items → Option (Data × Items)
 first_of no_items = None
 first_of (item d ds) = Some (d, ds)
@@ -63,13 +63,13 @@ answer_in Two ds = do
   found ← answer_at ds
   Ok (Some found.0, found.1)
 
--- true if no value is left
+-- true if the list has no more values
 abbrev pub ends : Items → Bool
 ends no_items = true
 ends (item d ds) = false
 
--- the step that the value of a line denotes: an array of a kind's name, its arguments, the answer
--- if the version has answers, and nothing else
+-- the step that a line's value denotes: an array with only a kind's name, the arguments, and the
+-- answer if the version has answers
 unfoldable pub step_of : Version → Data → Result RecordedStep Fault
 step_of version d = do
   parts ← or_fault fault.UnknownStep (option_and_then first_of (as_array d))

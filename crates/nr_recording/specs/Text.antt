@@ -1,4 +1,4 @@
--- The texts of recordings: a grammar, independent of the function that reads them.
+-- The grammar of recordings as text, independent of the function that reads it.
 use Rattle.std.specs.Prelude.{◌≡◌, ◌≤◌, ◌⊎◌, ℕ, List, [], ◌∷◌, length, true, false, Ok, ⊤}
 use Rattle.serde_json.specs.Data.{Data}
 use Rattle.nr_rev.specs.declared.limits.Limits.{Limits}
@@ -16,7 +16,7 @@ pub record IsSkipped (line : List ℕ) : Type 0 where
   pub short : length line ≤ MOST_LINE_BYTES
   pub blank : is_blank line ≡ true
 
--- true if the line is JSON with the value d
+-- true if the line is the JSON value d
 pub record IsValueLine (line : List ℕ) (d : Data) : Type 0 where
   pub short : length line ≤ MOST_LINE_BYTES
   pub visible : is_blank line ≡ false
@@ -31,7 +31,7 @@ IsHeaderLine version line limits = (d : Data) × IsValueLine line d × (version_
 abbrev pub IsStepLine : Version → List ℕ → RecordedStep → Type 0
 IsStepLine version line step = (d : Data) × IsValueLine line d × (step_of version d ≡ Ok step)
 
--- true if the lines are one for each step, and skipped lines
+-- true if the lines are a line for each step, in order, and skipped lines
 abbrev pub AreSteps : Version → List (List ℕ) → List RecordedStep → Type 0
 AreSteps version [] [] = ⊤
 AreSteps version [] (step ∷ steps) = ⊥
@@ -40,7 +40,7 @@ AreSteps version (line ∷ rest) (step ∷ steps) =
     (IsSkipped line × AreSteps version rest (step ∷ steps))
     ⊎ (IsStepLine version line step × AreSteps version rest steps)
 
--- true if the lines are skipped lines, a header, and the steps
+-- true if the lines are a header, then the steps, and skipped lines anywhere
 abbrev pub AreLinesOf : List (List ℕ) → Recorded → Type 0
 AreLinesOf [] r = ⊥
 AreLinesOf (line ∷ rest) r =
@@ -48,6 +48,6 @@ AreLinesOf (line ∷ rest) r =
     ⊎ (IsHeaderLine r.version line r.limits × AreSteps r.version rest r.steps
     × (length r.steps ≤ MOST_STEPS))
 
--- true if the bytes are a text of the recording
+-- true if the bytes are a text that denotes the recording
 abbrev pub IsTextOf : List ℕ → Recorded → Type 0
 IsTextOf bytes r = AreLinesOf (lines bytes) r

@@ -51,7 +51,7 @@ fn counted_of(parts: &[Value]) -> Option<Answer>
     }
 }
 
-/// Returns the answer that a JSON value denotes, if it is one.
+/// Returns the answer that a JSON value denotes, if any.
 pub(crate) fn answer_of(value: &Value) -> Option<Answer>
     ensures { result ≡ answer_of (view value.now) }
 {

@@ -1,4 +1,5 @@
-//! The arguments of a step. Each function reads one from the front of the parts that are left of the line.
+//! The arguments of a step. Each function reads one argument from the front of the line's remaining
+//! parts.
 
 ghost use Rattle.std.specs.Prelude.{◌≡◌, true};
 ghost use Rattle.nr_rev.specs.Refusing.{refused_memory};
@@ -16,7 +17,7 @@ use std::alloc::Global;
 
 const MOST_DIGITS: usize = 2 * MOST_BYTES;
 
-/// Returns the number of 32 bits that a part is.
+/// Returns the 32-bit number that a part denotes.
 fn u32_of(part: Part<'_>) -> Option<u32>
     ensures { result ≡ u32_of (part_data part.entry) }
 {

@@ -11,7 +11,7 @@ fn copy_of(alloc: Global, bytes: &Bytes) -> Result<Bytes, Memory>
     Ok(Bytes::new(bytes.as_slice().to_vec(alloc)?))
 }
 
-/// Returns a copy of a step. Only its bytes take memory.
+/// Returns a copy of a step. Only the step's bytes need memory.
 pub fn step_copy(alloc: Global, step: &Step) -> Result<Step, Memory>
     ensures { IfOk result (λ copy. copy ≡ step.now) }
 {

@@ -19,8 +19,8 @@ use thiserror::Error;
 /// The reason why a line is faulty.
 #[derive(Clone, Copy, Debug, PartialEq, Eq)]
 pub enum Fault {
-    /// The first line that isn't blank is not a valid header object: a key is missing or unknown, the version is
-    /// unknown, or a value is not an unsigned number. Or the text has no such line.
+    /// The text has only blank lines, or the first other line is not a valid header object: a key
+    /// is missing or unknown, the version is unknown, or a value is not an unsigned number.
     Header,
     /// The line is not JSON, or is nested more than 127 levels deep.
     NotJson,
@@ -30,7 +30,7 @@ pub enum Fault {
     Arguments,
     /// The line has more than 200,000 bytes, or a limit is out of its range.
     Limit,
-    /// The line would be step 1,000,001.
+    /// The line would be the 1,000,001st step.
     TooManySteps,
 }
 
@@ -58,7 +58,7 @@ impl Display for Fault {
     }
 }
 
-/// The error of an allocation that failed.
+/// The error of a failed allocation.
 #[derive(Clone, Copy, Debug, PartialEq, Eq)]
 pub struct OutOfMemory(pub Memory);
 
@@ -71,7 +71,7 @@ impl Text for OutOfMemory {
     }
 }
 
-/// The reason why a text was not read.
+/// The reason why a text could not be read.
 #[derive(Clone, Copy, Debug, PartialEq, Eq, Error)]
 pub enum ReadFault {
     /// The first faulty line, counted from 1, and its fault.
@@ -118,7 +118,7 @@ pub enum MakeFault {
     Step,
 }
 
-/// The reason why a line was not read.
+/// The reason why a line could not be read.
 #[derive(Debug, Drop)]
 pub(crate) enum LineError {
     Memory(Memory),
@@ -133,7 +133,7 @@ impl From<Fault> for LineError {
     }
 }
 
-/// A text that isn't hexadecimal is a faulty argument.
+/// Converts an error of reading hexadecimal digits: unless memory ran out, the argument is faulty.
 impl From<FromHexError> for LineError {
     ghost from_gives = { λ error e. e ≡ of_hex error };
 
@@ -145,7 +145,7 @@ impl From<FromHexError> for LineError {
     }
 }
 
-/// A line that the JSON reader rejects is not JSON.
+/// Converts an error of the JSON reader: unless memory ran out, the line is not JSON.
 impl From<serde_json::Error> for LineError {
     ghost from_gives = { λ error e. e ≡ of_json error };
 
@@ -182,10 +182,11 @@ impl LineError {
 /// The reason why a recording was not written.
 #[derive(Clone, Copy, Debug, PartialEq, Eq, Error)]
 pub enum WriteFault {
-    /// Memory ran out. Only whole lines went out, the first ones, and not all.
+    /// Memory ran out. Only whole lines were written, from the first on, and not all of them.
     #[error("memory")]
     Memory(Memory),
-    /// A write failed or took nothing. A part of the text went out, from its beginning, and not all of it.
+    /// A write failed or accepted no bytes. The beginning of the text may have been written, but
+    /// not all of it.
     #[error("device")]
     Device,
 }

@@ -1,4 +1,4 @@
-//! The version and the limits that the header line gives.
+//! The version and the limits in the header line.
 
 ghost use Rattle.std.specs.Prelude.{◌≡◌};
 ghost use Rattle.serde_json.specs.View.{view};

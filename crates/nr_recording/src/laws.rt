@@ -1,4 +1,4 @@
-//! The laws of the format: functions without code.
+//! Laws of the format, as functions without code.
 
 ghost use Rattle.std.specs.Prelude.{◌≡◌, All, List, ℕ};
 ghost use Rattle.nr_recording.specs.Recording.{Recorded};
@@ -12,8 +12,9 @@ ghost use Rattle.nr_recording.specs.Writing.{HasTypedArguments, text};
 ghost use Rattle.nr_recording.specs.declared.recording.TheConstants.{MOST_BYTES, MOST_STEPS};
 ghost use Rattle.nr_recording.specs.declared.reading.TheConstants.{MOST_LINE_BYTES};
 
-/// The text that `write` writes for a recording is a text of it, and is read as that recording. `HasTypedArguments`
-/// says of a step and its answer only what their types say: each number is in the range of its type.
+/// The text that `write` writes for a recording is in the grammar and is read as that recording.
+/// `HasTypedArguments` only says that each number in a step and its answer is in the range of its
+/// type.
 #[tactic(auto, using(crate::proofs::WrittenLemmas::text_is_text, crate::proofs::WrittenLemmas::text_read_again))]
 pub fn what_is_written_is_read_again()
     ensures text { (r : Recorded) → IsRecording r → All HasTypedArguments r.steps → IsTextOf (text r) r }
@@ -21,15 +22,16 @@ pub fn what_is_written_is_read_again()
         → reading (text r) ≡ Ok r }
 {}
 
-/// A text is a text of at most one recording, the one that `read` returns.
+/// A text denotes at most one recording, which is the one that `read` returns.
 #[tactic(auto, using(crate::proofs::TextLaws::reading_found))]
 pub fn a_text_is_of_what_it_is_read_as()
     ensures found { (bytes : List ℕ) (r : Recorded) → reading bytes ≡ Ok r → IsTextOf bytes r }
     ensures only { (bytes : List ℕ) (r : Recorded) → IsTextOf bytes r → reading bytes ≡ Ok r }
 {}
 
-/// A recording has at most 1,000,000 steps, each of its lines at most 200,000 bytes, and each step at most 65,536 bytes
-/// of data. The versions have the numbers 1 and 2; `buf` is at most 65,536 in the first and 1,048,576 in the second.
+/// A recording has at most 1,000,000 steps. Each line has at most 200,000 bytes, and each step has
+/// at most 65,536 bytes of data. The versions have the numbers 1 and 2. `buf` is at most 65,536 in
+/// version 1 and 1,048,576 in version 2.
 pub fn the_numbers()
     ensures steps { MOST_STEPS ≡ 1000000 }
     ensures line { MOST_LINE_BYTES ≡ 200000 }

@@ -1,4 +1,5 @@
-//! The parts of a line, which is an array: values of JSON, or texts and numbers that are borrowed from the line itself.
+//! The parts of a line, which is an array: JSON values, or texts and numbers borrowed from the line
+//! itself.
 
 ghost use Rattle.std.specs.Prelude.{◌≡◌, MatchOption, option_map};
 ghost use Rattle.serde_json.specs.Data.{no_items, item};
@@ -14,7 +15,7 @@ use nr_rev::Answer;
 use serde_json::Value;
 use std::slice::Iter;
 
-/// The most parts of a step's line: the name of its kind, four arguments and an answer.
+/// The maximum number of parts in a step's line: the kind's name, four arguments and an answer.
 pub(crate) const MOST_PARTS: usize = 6;
 
 /// A part of a line.
@@ -27,7 +28,7 @@ pub(crate) enum Part<'a> {
     Value(&'a Value),
 }
 
-// The value of an unused place in a list.
+// Fills the unused places in a list.
 impl<'a> Default for Part<'a> {
     fn default() -> Part<'a> {
         Part::Number(0)
@@ -35,7 +36,7 @@ impl<'a> Default for Part<'a> {
 }
 
 impl<'a> Part<'a> {
-    /// Returns the part as a number of 64 bits, if it is one.
+    /// Returns the part as an unsigned 64-bit number, if it is one.
     pub(crate) fn as_u64(self) -> Option<u64>
         ensures { result ≡ u64_of (part_data self.entry) }
     {
@@ -46,7 +47,7 @@ impl<'a> Part<'a> {
         }
     }
 
-    /// Returns the part as a signed number of 64 bits, if it is one.
+    /// Returns the part as a signed 64-bit number, if it is one.
     pub(crate) fn as_i64(self) -> Option<i64>
         ensures { result ≡ i64_of (part_data self.entry) }
     {

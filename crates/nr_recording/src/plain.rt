@@ -34,7 +34,7 @@ fn with_digit(number: u64, digit: u64) -> Option<u64>
     number.checked_mul(10)?.checked_add(digit)
 }
 
-// Returns the number that the digits at the front of a text denote, and the rest of the text.
+// Returns the number that the digits at the beginning of a text denote, and the rest of the text.
 fn digits(text: &[u8]) -> Option<(u64, &[u8])>
     ensures number { IfSome result (λ r. text.now ≡ decimal r.0 ++ r.1.now) }
     ensures shorter { IfSome result (λ r. length r.1.now < length text.now) }
@@ -57,7 +57,7 @@ fn digits(text: &[u8]) -> Option<(u64, &[u8])>
     Some((number, left))
 }
 
-// Returns whether the text continues with a comma or the bracket that closes an array.
+// Returns whether a comma or the bracket that closes an array comes next in the text.
 #[inline(always)]
 fn ends_item(text: &[u8]) -> bool
     ensures { result ≡ ends_item text.now }
@@ -65,7 +65,7 @@ fn ends_item(text: &[u8]) -> bool
     matches!(text.first(), Some(b',' | b']'))
 }
 
-// Returns an unsigned number that is an item of an array, and the rest of the text.
+// Returns an unsigned number that is an array item, and the rest of the text.
 #[inline(always)]
 fn number(text: &[u8]) -> Option<(u64, &[u8])>
     ensures begins { IfSome result (λ r. Begins text.now (number (decimal r.0) ∷ []) r.1.now) }
@@ -91,7 +91,7 @@ fn has_control(bytes: &[u8]) -> bool
     found
 }
 
-// Returns a text without escapes that is an item of an array, and the rest of the text.
+// Returns a text without escapes that is an array item, and the rest of the text.
 #[inline(always)]
 fn text(text: &[u8]) -> Option<(&[u8], &[u8])>
     ensures begins { IfSome result (λ r. Begins text.now (string r.0.now ∷ []) r.1.now) }
@@ -128,8 +128,8 @@ fn next_item(behind: &[u8]) -> Option<&[u8]>
     }
 }
 
-// Reads a text and a number up to the closing bracket; the opening one is read. Returns the pair and the rest of the
-// text.
+// Reads a text and a number, up to the closing bracket; the opening bracket has already been read.
+// Returns the pair and the rest of the text.
 #[inline(always)]
 fn pair(inside: &[u8]) -> Option<(Part<'_>, &[u8])>
     ensures begins { IfSome result (λ r. Begins (91 ∷ inside.now) (part_tokens r.0) r.1.now) }
@@ -172,7 +172,8 @@ fn closes_line(behind: &[u8]) -> bool
     behind == b"]".as_slice()
 }
 
-// Gathers the parts of an array, whose opening bracket is read, if its closing bracket ends the line.
+// Gathers the parts of an array, whose opening bracket has already been read, if its closing
+// bracket ends the line.
 fn gather<'a>(inside: &'a [u8], parts: &mut PartList<'a>) -> Option<()>
     requires { parts.old.items ≡ [] }
     ensures { OnSome result (read (91 ∷ inside.now) ≡ Some (array (parts_data parts.new.items))) }
@@ -188,8 +189,9 @@ fn gather<'a>(inside: &'a [u8], parts: &mut PartList<'a>) -> Option<()>
     }
 }
 
-/// Gathers the parts of a line that is an array of one to six texts, unsigned numbers, and pairs of both. The line must
-/// be ASCII, without escapes, and without spaces except after commas. Returns `None` for any other line.
+/// Gathers the parts of a line that is an array of one to six parts: texts, unsigned numbers, and
+/// pairs of a text and a number. The line must be ASCII, without escapes, and without spaces except
+/// after commas. Returns `None` for any other line.
 pub(crate) fn gather_plain<'a>(line: &'a [u8], parts: &mut PartList<'a>) -> Option<()>
     requires { parts.old.items ≡ [] }
     ensures { OnSome result (value_of line.now ≡ Ok (array (parts_data parts.new.items))) }

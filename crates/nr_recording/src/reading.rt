@@ -48,7 +48,7 @@ fn is_blank(line: &[u8]) -> bool
     line.iter().all(|byte| is_space(*byte))
 }
 
-/// The version and the limits that the header line gives.
+/// The version and the limits in the header line.
 #[derive(Clone, Copy)]
 struct Header {
     version: Version,
@@ -60,7 +60,7 @@ struct Header {
 struct RecordingReader {
     header: Option<Header>,
     steps: Vec<Step>,
-    // the answers of the steps, if the version has any
+    // the answers of the steps; empty if the version has none
     answers: Vec<Answer>,
 }
 
@@ -118,7 +118,7 @@ impl RecordingReader {
         self.steps.len()
     }
 
-    // Keeps one more step of the header's version.
+    // Stores one more step of the header's version.
     #[inline(always)]
     fn keep(&mut self, begun: Header, last: RecordedStep) -> Result<(), Memory>
         requires begun { self.old.header ≡ Some begun }
@@ -241,17 +241,18 @@ fn read_lines(alloc: Global, bytes: &[u8]) -> Result<Recording, ReadFault>
     reader.finish(number)
 }
 
-/// Reads the recording, of either version, that the bytes are a text of: a line of JSON for the header and one for each
-/// step, possibly with blank lines between them. Otherwise returns the first faulty line with the first fault in it, or
-/// that memory ran out. If the header has a key twice, the last value counts.
+/// Parses a recording of either version from its text: a line of JSON for the header and one for
+/// each step, possibly with blank lines between them. Fails with the first faulty line and the
+/// first fault in it, or with `Memory` if memory runs out. If the header has a key twice, the last
+/// value counts.
 pub fn read(alloc: Global, bytes: &[u8]) -> Result<Recording, ReadFault>
-    // The result is the recording of that text.
+    // The result is the recording that the text denotes.
     ensures found { IfOk result (λ r. IsTextOf bytes.now r) }
 
-    // The text of a recording is read, unless memory runs out.
+    // A text of a recording is read as that recording, unless memory runs out.
     ensures only { (r : Recorded) → IsTextOf bytes.now r → IsUnlessMemory result (Ok r) }
 
-    // The result is this fault, unless memory runs out.
+    // The result is the one that `reading` defines, unless memory runs out.
     ensures exact { IsUnlessMemory result (reading bytes.now) }
 
     // Memory runs out only if the text has a line that is neither blank nor too long.

@@ -8,7 +8,7 @@ use crate::version::Version;
 use nr_rev::{Answer, Limits, Step};
 use std::marker::Model;
 
-/// A step, and its recorded answer.
+/// A step and its recorded answer.
 #[derive(Drop)]
 pub struct RecordedStep {
     pub step: Step,
@@ -16,13 +16,13 @@ pub struct RecordedStep {
 }
 
 /// The version of the format, the limits of a run, and its steps. Each step has a recorded answer in version 2, and
-/// none in version 1. Each recording has a text, which is read as that recording.
+/// none in version 1. Each recording can be written as text, which is read as that recording.
 #[derive(Drop)]
 pub struct Recording {
     version: Version,
     limits: Limits,
     steps: Vec<Step>,
-    // one for each step; none in version 1, where the list takes no memory
+    // one answer for each step; in version 1 the list is empty and takes no memory
     answers: Vec<Answer>,
 }
 
@@ -47,10 +47,10 @@ impl Model for Recording {
     }) × (length r.answers.items ≡ answer_count r.version (length r.steps.items)) };
 }
 
-/// The most steps that a recording may have.
+/// The maximum number of steps in a recording.
 pub const MOST_STEPS: usize = 1_000_000;
 
-/// The most bytes that a step may carry.
+/// The maximum number of bytes that a step may carry.
 pub(crate) const MOST_BYTES: usize = 65_536;
 
 fn fits(step: &Step) -> bool
@@ -90,11 +90,13 @@ impl Recording {
     ghost use Rattle.nr_recording.specs.Auxiliary.Recording.{IsRecording, are_writable, recording_of};
     ghost use Rattle.nr_recording.specs.Version.{most_buffer};
 
-    /// Makes the recording of these limits, steps and answers: one answer for each step in version 2, none in version
-    /// 1. Fails for the first of these that holds: a limit is out of its range; there are more than 1,000,000 steps; a
-    /// step carries more than 65,536 bytes, sets the clock below 0, or shuts a write side in version 1, or the number
-    /// of answers is wrong. The steps are dropped then. The ranges are 1 to 4,096 goroutines, 1 to 256 sockets and
-    /// descriptors, and a buffer of 1 to 65,536 bytes in version 1 and up to 1,048,576 in version 2.
+    /// Makes a recording from these limits, steps and answers: one answer for each step in version 2,
+    /// none in version 1. Fails with `Limit` if a limit is out of its range, and otherwise with
+    /// `TooManySteps` if there are more than 1,000,000 steps. Otherwise fails with `Step` if a step
+    /// carries more than 65,536 bytes, sets the clock below 0, or shuts a write side in version 1, or
+    /// if the number of answers is wrong. An error drops the steps. The ranges are 1 to 4,096
+    /// goroutines, 1 to 256 sockets and descriptors, and a buffer of 1 to 65,536 bytes in version 1
+    /// and up to 1,048,576 in version 2.
     pub fn new(
         version: Version,
         limits: Limits,
@@ -123,7 +125,7 @@ impl Recording {
         })
     }
 
-    /// Makes the recording of a version, limits, steps and answers that are known to make one.
+    /// Makes a recording from a version, limits, steps and answers that are known to be valid.
     pub(crate) fn checked(
         version: Version,
         limits: Limits,

@@ -1,4 +1,4 @@
-//! The JSON value of a line to write: a name and arguments, one function for each shape.
+//! Makes the JSON value of a line to write, a name and arguments, with one function for each shape.
 
 ghost use Rattle.std.specs.Prelude.{◌≡◌, IfOk, [], ◌∷◌};
 ghost use Rattle.serde_json.specs.View.{view};

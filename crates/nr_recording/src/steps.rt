@@ -1,4 +1,4 @@
-//! The step that a line's value denotes, and the value of a step's line: two rows for each kind.
+//! Converts between steps and the values of their lines, with two rows for each kind.
 
 ghost use Rattle.std.specs.Prelude.{◌≡◌, true, IfOk, ℕ, List, [], ◌∷◌, ◌++◌};
 ghost use Rattle.serde_json.specs.Data.{array};
@@ -23,7 +23,7 @@ use nr_rev::{Answer, Kind, Memory, Step};
 use serde_json::Value;
 use std::alloc::{AllocError, Global};
 
-/// Reads a step of this kind, and leaves what follows its arguments.
+/// Reads a step of this kind, but not what follows its arguments.
 #[tactic(auto, unfolding(crate::specs::Arguments::none))]
 fn step_in(alloc: Global, kind: Kind, arguments: &mut Parts<'_>) -> Result<Step, LineError>
     ensures found { ReadsBy (λ step. (step, rest_of arguments.new)) result
@@ -152,7 +152,7 @@ fn step_in(alloc: Global, kind: Kind, arguments: &mut Parts<'_>) -> Result<Step,
     }
 }
 
-/// Makes the value of a step: the name of its kind, and its arguments.
+/// Makes the value of a step from its kind's name and its arguments.
 fn step_value(alloc: Global, step: &Step) -> Result<Value, AllocError>
     ensures { IfOk result (λ v. IsSpelling (view v) (step_spelling step.now)) }
 {
@@ -259,7 +259,8 @@ fn with_answer(alloc: Global, line: Value, answer: Answer) -> Result<Value, Memo
     }
 }
 
-/// Makes the value of a line: the name of the step's kind, its arguments, and its answer if one is recorded.
+/// Makes the value of a line from the name of the step's kind, its arguments, and its recorded
+/// answer, if any.
 pub(crate) fn line_value(
     alloc: Global,
     step: &Step,

@@ -4,7 +4,7 @@ ghost use Rattle.std.specs.Prelude.{◌≡◌};
 
 use nr_rev::{Kind, MOST_BUFFER};
 
-/// The greatest `buf` of version 1.
+/// The maximum `buf` in version 1.
 pub(crate) const MOST_BUFFER_IN_ONE: u32 = 65_536;
 
 /// A version of the format.
@@ -20,7 +20,7 @@ impl Version {
     ghost use Rattle.nr_recording.specs.Version.{version_numbered, most_buffer, has_kind, kind_in};
     ghost use Rattle.nr_recording.specs.Auxiliary.Version.{version_number, answer_count};
 
-    /// Returns the version with this number, if there is one.
+    /// Returns the version with this number, if any.
     pub(crate) fn numbered(number: u64) -> Option<Self>
         ensures { result ≡ version_numbered number }
     {
@@ -41,7 +41,7 @@ impl Version {
         }
     }
 
-    /// Returns the greatest `buf` that a header may have.
+    /// Returns the maximum `buf` that a header may have.
     pub(crate) fn most_buffer(self) -> u32
         ensures { result ≡ most_buffer self }
     {
@@ -70,7 +70,7 @@ impl Version {
         if self.has(kind) { Some(kind) } else { None }
     }
 
-    /// Returns the number of answers that belong to this many steps.
+    /// Returns the number of answers for this many steps.
     pub(crate) fn answer_count(self, steps: usize) -> usize
         ensures { result ≡ answer_count self steps }
     {

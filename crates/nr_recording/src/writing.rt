@@ -55,10 +55,11 @@ fn write_line<W: Write>(alloc: Global, value: &Value, out: &mut Sink<W>) -> Resu
     Ok(())
 }
 
-/// Writes the text of a recording in its version: each value in compact form, with its keys in alphabetical order and
-/// hexadecimal digits in lower case, and a line feed after each line. `WriteFault` says what has been written when an
-/// error occurs. An interrupted write is retried. If no write on the sink has failed before, the call reports a failure
-/// exactly if a write failed or took nothing.
+/// Writes the text of a recording in its version: each value in compact form, with its keys in
+/// alphabetical order and hexadecimal digits in lower case, and a line feed after each line.
+/// `WriteFault` says what was written before an error. An interrupted write is retried. If no write
+/// on the sink has failed before, the call fails with `Device` exactly if a write fails or accepts
+/// no bytes.
 pub fn write<W: Write>(
     alloc: Global,
     recording: &Recording,
@@ -67,19 +68,19 @@ pub fn write<W: Write>(
     ensures ok { OnOk result
         (Sends out.old out.new (text recording.now)) }
 
-    // The written text is read again as the recording.
+    // `read` parses the written text as the recording.
     ensures again { OnOk result (IsTextOf (text recording.now) recording.now) }
     ensures read_again { OnOk result (reading (text recording.now) ≡ Ok recording.now) }
 
-    // Only whole lines went out, and not all of them.
+    // Only whole lines were written, and not all of them.
     ensures memory { result ≡ Err (WriteFault.Memory refused_memory) → SendsLines
         out.old out.new (line_texts recording.now) }
 
-    // A part of the text went out, from its beginning, and not all of it.
+    // The text was written only up to some point before its end.
     ensures device { result ≡ Err WriteFault.Device
         → SendsPart out.old out.new (text recording.now) }
 
-    // If no write failed before, one failed exactly if the result reports that.
+    // If no write failed before, a write of this call failed exactly if the result is `Device`.
     ensures failed { out.new.failed ≡ (out.old.failed || is_device_failure result) }
 {
     let header = header_value(alloc, recording.version(), recording.limits())?;

@@ -1,4 +1,4 @@
--- Definitions that contracts and proofs cite beside `Answer`. No law of THEOREM.md rests on them.
+-- Helper definitions for `Answer`. The laws in THEOREM.md don't use them.
 use Rattle.std.specs.Prelude.{◌≡◌, ℕ, ◌<◌, ◌^◌, List, codes, ⊤}
 use Rattle.serde_json.specs.Data.{Data, number, unsigned, string, array, no_items, item}
 use Rattle.nr_rev.specs.declared.answer.Answer.{Answer}
@@ -35,7 +35,7 @@ IsAnswerInType (answers.Got k) = k < 2 ^ 32
 IsAnswerInType (answers.Put k) = k < 2 ^ 32
 IsAnswerInType _ = ⊤
 
--- true if d is the JSON of the answer, and the answer's number is in the range of its type
+-- true if d is the JSON of the answer and the answer's number is in the range of its type
 pub record IsAnswer (d : Data) (answer : Answer) : Type 0 where
   pub is : d ≡ answer_data answer
   pub typed : IsAnswerInType answer

@@ -1,5 +1,4 @@
--- Definitions that contracts and proofs cite beside `Arguments`. No law of THEOREM.md rests on
--- them.
+-- Helper definitions for `Arguments`. The laws in THEOREM.md don't use them.
 use Rattle.std.specs.Prelude.{ℕ, ◌%◌, ◌==◌, List, length, Bool, false, not, ◌&&◌, Result, Ok, Err, nat_lt}
 use Rattle.std.specs.Option.{option_map_or}
 use Rattle.serde_json.specs.Data.{Data, Items, no_items, item}
@@ -7,29 +6,28 @@ use Rattle.serde_json.specs.Find.{as_str}
 use Rattle.nr_recording.specs.declared.fault.Fault.{Fault}
 use Rattle.nr_recording.specs.Arguments.{most_digits}
 
--- true if reading the bytes of a text takes memory: it has an even number of digits, and not too
--- many
+-- true if reading the bytes of a text takes memory because it has an even number of digits, within
+-- the maximum
 abbrev pub digits_take_memory : List ℕ → Bool
 digits_take_memory text = not (nat_lt most_digits (length text)) && (length text % 2 == 0)
 
--- true if reading an argument as bytes takes memory: it is a text with an even number of digits,
--- and not too many
+-- true if reading an argument as bytes takes memory, because it is a text for which that is so
 abbrev pub argument_takes_memory : Data → Bool
 argument_takes_memory d = option_map_or digits_take_memory (as_str d) false
 
--- the result of a function that reads arguments, with the arguments that it left
+-- the result of a function that reads arguments, paired with the arguments that remain
 abbrev pub with_rest : {A : Type 0} → Items → Result A Fault → Result (A × Items) Fault
 with_rest ds (Ok x) = Ok (x, ds)
 with_rest ds (Err f) = Err f
 
 -- ---- reading that takes memory
 
--- true if reading the first argument does
+-- true if reading the first argument takes memory
 abbrev pub first_takes_memory : Items → Bool
 first_takes_memory no_items = false
 first_takes_memory (item d ds) = argument_takes_memory d
 
--- true if reading the argument after these does
+-- true if reading the argument after these takes memory
 abbrev pub next_takes_memory : {A : Type 0} → Result (A × Items) Fault → Bool
 next_takes_memory (Ok found) = first_takes_memory found.1
 next_takes_memory (Err f) = false

@@ -1,5 +1,4 @@
--- Definitions that contracts and proofs cite beside `Recording`. No law of THEOREM.md rests on
--- them.
+-- Helper definitions for `Recording`. The laws in THEOREM.md don't use them.
 use Rattle.std.specs.Prelude.{◌≡◌, ◌≤◌, ◌==◌, pos, int_le, List, length, Bool, true, not, ◌&&◌, nat_lt, nat_le, if◌then◌else◌, Result, Ok, Err}
 use Rattle.std.specs.List.{list_all}
 use Rattle.nr_rev.specs.Kind.{kind_of}
@@ -18,18 +17,19 @@ use Rattle.nr_recording.specs.declared.recording.TheConstants.{MOST_STEPS, MOST_
 use Rattle.nr_recording.specs.declared.version.Version.{Version}
 use Rattle.nr_recording.specs.Recording.{Recorded, recorded}
 
--- true if the step fits in a line: it doesn't carry too many bytes, and sets no clock below 0
+-- true if the step fits in a line: it doesn't carry too many bytes, and doesn't set the clock below
+-- 0
 abbrev pub fits : Step → Bool
 fits (Arrive s bytes) = nat_le (length bytes) MOST_BYTES
 fits (SysWrite g s bytes) = nat_le (length bytes) MOST_BYTES
 fits (Tick t) = int_le (pos 0) t
 fits _ = true
 
--- true if the version has a line for the step: it has its kind, and the step fits in a line
+-- true if the version has a line for the step: the version has the step's kind, and the step fits
 abbrev pub has_line : Version → Step → Bool
 has_line version step = has_kind version (kind_of step) && fits step
 
--- true if the step has a line, and an answer if the version requires one
+-- true if the step has a line, and has an answer exactly if the version requires one
 abbrev pub is_writable : Version → RecordedStep → Bool
 is_writable version recorded = has_line version recorded.step && may_have version recorded.answer
 
@@ -53,7 +53,7 @@ abbrev pub make_lines : Version → List Step → List Answer → Bool
 make_lines version steps answers = have_lines version steps
     && (length answers == answer_count version (length steps))
 
--- the recording of these limits, steps and answers, or the reason why they make none
+-- the recording of these limits, steps and answers, or the reason why they don't make one
 abbrev pub recording_of : Version → Limits → List Step → List Answer → Result Recorded MakeFault
 recording_of version limits steps answers =
     if not (are_in_range limits) then Err fault.Limit

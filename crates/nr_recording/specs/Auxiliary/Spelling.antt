@@ -1,4 +1,4 @@
--- Definitions that contracts and proofs cite beside `Spelling`. No law of THEOREM.md rests on them.
+-- Helper definitions for `Spelling`. The laws in THEOREM.md don't use them.
 use Rattle.std.specs.Prelude.{◌≡◌, ℕ, ◌<◌, ◌^◌, ℤ, pos, negsuc, Bool, true, false, List, [], ◌∷◌, slice_index, codes, ⊤}
 use Rattle.hex.specs.Hex.{encode_lower}
 use Rattle.serde_json.specs.Data.{Data, number, unsigned, string, array, no_items, item, Items}
@@ -42,7 +42,7 @@ abbrev pub arguments_data : List Argument → Items
 arguments_data [] = no_items
 arguments_data (a ∷ rest) = item (argument_data a) (arguments_data rest)
 
--- true for a signed number of 64 bits
+-- true if the number is a signed number of 64 bits
 abbrev pub IsMoment : ℤ → Type 0
 IsMoment (pos n) = n < 2 ^ 63
 IsMoment (negsuc n) = n < 2 ^ 63
@@ -63,11 +63,11 @@ abbrev pub AreInTypes : List Argument → Type 0
 AreInTypes [] = ⊤
 AreInTypes (a ∷ rest) = IsInType a × AreInTypes rest
 
--- the JSON of a name with arguments: one array
+-- the JSON array of a name and its arguments
 abbrev pub line_data : List ℕ × List Argument → Data
 line_data line = array (item (string line.0) (arguments_data line.1))
 
--- true if d is the JSON of the line, and its arguments are in the ranges of their types
+-- true if d is the JSON of the line and the line's arguments are in the ranges of their types
 pub record IsSpelling (d : Data) (line : List ℕ × List Argument) : Type 0 where
   pub is : d ≡ line_data line
   pub typed : AreInTypes line.1

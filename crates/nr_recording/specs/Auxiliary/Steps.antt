@@ -1,4 +1,4 @@
--- Definitions that contracts and proofs cite beside `Steps`. No law of THEOREM.md rests on them.
+-- Helper definitions for `Steps`. The laws in THEOREM.md don't use them.
 use Rattle.std.specs.Prelude.{ℕ, List, [], ◌∷◌, ◌++◌, Bool, false, Option, Some, None, option_and_then}
 use Rattle.std.specs.Option.{option_map_or}
 use Rattle.serde_json.specs.Data.{Data, Items}
@@ -49,7 +49,7 @@ arguments_of Step.Pop = []
 arguments_of (Step.Fire i) = numeral i ∷ []
 arguments_of (Step.CloseWrite g s) = numeral g ∷ numeral s ∷ []
 
--- true if reading the arguments of this kind takes memory: only those with bytes do
+-- true if reading the arguments of this kind takes memory, which only arguments with bytes do
 abbrev pub kind_takes_memory : Kind → Items → Bool
 kind_takes_memory Kind.Arrive ds = next_takes_memory (number ds)
 kind_takes_memory Kind.SysWrite ds = next_takes_memory ((number and number) ds)
@@ -57,7 +57,7 @@ kind_takes_memory _ ds = false
 
 -- ---- lines
 
--- the name of a step's kind, and its arguments
+-- the name of a step's kind, and the step's arguments
 abbrev pub step_spelling : Step → List ℕ × List Argument
 step_spelling step = (kind_name (kind_of step), arguments_of step)
 
@@ -66,7 +66,7 @@ abbrev pub answer_arguments : Option Answer → List Argument
 answer_arguments None = []
 answer_arguments (Some a) = answer a ∷ []
 
--- the name of the kind, the arguments, and then the answer
+-- the name of the kind, and then the arguments and the answer
 abbrev pub spelling_of : RecordedStep → List ℕ × List Argument
 spelling_of recorded = (
   kind_name (kind_of recorded.step),

@@ -1,4 +1,4 @@
--- Definitions that contracts and proofs cite beside `Version`. No law of THEOREM.md rests on them.
+-- Helper definitions for `Version`. The laws in THEOREM.md don't use them.
 use Rattle.std.specs.Prelude.{ℕ, Bool, true, false, Option, Some, None}
 use Rattle.nr_rev.specs.declared.answer.Answer.{Answer}
 use Rattle.nr_recording.specs.declared.version.Version.{Version}
@@ -9,12 +9,12 @@ abbrev pub version_number : Version → ℕ
 version_number One = 1
 version_number Two = 2
 
--- the number of answers that belong to this many steps: one each in version 2, none in version 1
+-- the number of answers for this many steps: one for each in version 2, none in version 1
 abbrev pub answer_count : Version → ℕ → ℕ
 answer_count One steps = 0
 answer_count Two steps = steps
 
--- true if a step of the version may have this answer: one in version 2, none in version 1
+-- true if a step of the version may have this answer: none in version 1, some answer in version 2
 abbrev pub may_have : Version → Option Answer → Bool
 may_have One None = true
 may_have One (Some answer) = false

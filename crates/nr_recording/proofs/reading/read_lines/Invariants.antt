@@ -4,7 +4,7 @@ use Rattle.nr_recording.specs.Reading.{nothing, lines, with_lines}
 use Rattle.nr_recording.specs.Auxiliary.Reading.{line_takes_memory, lines_behind, text_takes_memory}
 use Rattle.nr_recording.proofs.reading.read_lines.Given as goal
 
--- the lines so far and the remaining ones are all lines
+-- the lines read so far and the remaining lines together are all lines
 abbrev pub invariant-loop-left : goal.invariant-loop-left
 invariant-loop-left l = record {
   counted : l.number + length (lines_behind (option_map (λ text. text.now) l.left)) ≡ length (lines l.bytes);
