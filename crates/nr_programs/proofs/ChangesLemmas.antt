@@ -1,4 +1,4 @@
--- The progress of `changes`: the lines that were written, those that wait, and those of the
+-- The progress of `changes`: the lines that were written, the waiting lines, and the lines of the
 -- remaining steps.
 use Rattle.std.proofs.Common.{◌≡◌, ℕ, ◌+◌, ◌≤◌, Bool, true, false, ◌||◌, List, [], ◌∷◌, ◌++◌, length, drop, Option, Some, None, Ok, Err, inl, inr, refl, sym, ap, subst, ◌∙◌, arith}
 use Rattle.std.specs.Prelude.{flat_map, slice_get}
@@ -57,21 +57,21 @@ flat_lines n (change ∷ changes) = ap (λ t. change_line n change ++ t) (flat_l
 texts_of_changes : (n : ℕ) (changes : List CellWithValue) → texts_of (as_lines n changes) ≡ lines_of_changes n changes
 texts_of_changes n changes = text_of_parts_is change_text (as_lines n changes) ∙ flat_lines n changes
 
--- the texts of lines followed by those of a step
+-- the texts of lines, followed by the texts for a step's changes
 texts_behind : (n : ℕ) (lines after : List ChangeLine) (changes : List CellWithValue) → after ≡ lines ++ as_lines n changes → texts_of after ≡ texts_of lines ++ lines_of_changes n changes
 texts_behind n lines after changes is = ap texts_of is ∙ texts-append lines (as_lines n changes) ∙ ap (λ t. texts_of lines ++ t) (texts_of_changes n changes)
 
--- the remaining lines are split, and the first part now waits
+-- the first part of the remaining lines becomes waiting lines
 moved_on : (sent lines after more later rest all : List ℕ) → after ≡ lines ++ more → rest ≡ more ++ later → sent ++ (lines ++ rest) ≡ all → sent ++ (after ++ later) ≡ all
 moved_on sent lines after more later rest all waits cut is =
     ap (λ t. sent ++ (t ++ later)) waits ∙ ap (λ t. sent ++ t) (append_assoc lines more later) ∙ ap (λ t. sent ++ (lines ++ t)) (sym cut) ∙ is
 
--- a failure that is none
+-- a stream that hasn't failed since has failed if and only if it had failed before
 pub calm_still : (a b : Bool) → b ≡ a → b ≡ (a || false)
 calm_still true b e = e
 calm_still false b e = e
 
--- a prefix of a text was written, so a prefix of any longer text was
+-- if a prefix of a text was written, so was a prefix of any longer text
 pub cut_short : (text more : List ℕ) (wanted : ExitStatus) (old new : Outgoing) (count : ℕ) → WritesPrefix old new text count → EndsPrinting (text ++ more) wanted old new StreamFailed
 cut_short text more wanted old new count part =
     let longer : WritesPrefix old new (text ++ more) count = record {
@@ -83,22 +83,22 @@ cut_short text more wanted old new count part =
     } in
     inr (refl, (count, longer))
 
--- what was read has a fault, which was printed
+-- reading the text failed, and the fault was printed
 pub refused_to_read : (bytes : List ℕ) (fault : ReadFault) (old new : Outgoing) (status : ExitStatus) → IsFaultOf fault (reading bytes) → EndsPrinting (read_fault_line fault) Refused old new status
     → Changes bytes old new status
 refused_to_read bytes (read.Memory refused) old new status is printed = inr printed
 refused_to_read bytes (read.Line n fault) old new status is printed = subst (λ o. WritesChanges o old new status) (sym is) (inl printed)
 
 module _ (r : Recorded) where
-  -- all lines of the recording
+  -- the lines for all steps of the recording
   abbrev all_lines : List ℕ
   all_lines = change_lines 1 (empty_world r.limits) r.steps
 
-  -- the lines from position n on
+  -- the lines for the steps from position n on
   abbrev lines_from : ℕ → World → List ℕ
   lines_from n w = change_lines (n + 1) w (drop n r.steps)
 
-  -- the world is that of position n, and these lines wait
+  -- the world is the one at position n, and these lines wait to be written
   pub record Progress (n : ℕ) (w : World) (lines : List ChangeLine) (old new : Outgoing) : Type 0 where
     pub sent : List ℕ
     pub out : Sends old new sent
@@ -106,7 +106,7 @@ module _ (r : Recorded) where
     pub rest : sent ++ (texts_of lines ++ lines_from n w) ≡ all_lines
     pub fault : first_fault (n + 1) w (drop n r.steps) ≡ first_fault 1 (empty_world r.limits) r.steps
 
-  -- nothing is done
+  -- before the first step
   pub begins : (w : World) (out : Outgoing) → w ≡ empty_world r.limits → Progress 0 w [] out out
   begins w out is =
       record {
@@ -117,11 +117,11 @@ module _ (r : Recorded) where
         fault = ap (λ x. first_fault 1 x r.steps) is;
       }
 
-  -- the steps from a position on: the next step, followed by the others
+  -- the steps from a position on are the next step and the steps after it
   steps_there : (n : ℕ) (s : RecordedStep) → slice_get r.steps n ≡ Some s → drop n r.steps ≡ s ∷ drop (n + 1) r.steps
   steps_there n s read = drop_more r.steps n s (slice_get_within r.steps n s read) ∙ ap (λ x. x ∷ drop (n + 1) r.steps) (get_or_from_slice_get r.steps n s s read)
 
-  -- the lines from a position on, given the fault of the step
+  -- the lines for the steps from a position on, given the fault of the first of them
   lines_by : (n : ℕ) (w : World) (s : RecordedStep) (fault : Option LoadFault) → slice_get r.steps n ≡ Some s → step_fault (n + 1) s.answer (outcome w s.step) ≡ fault
       → lines_from n w
       ≡ unless_fault fault (lines_of_changes (n + 1) (changes_between w (next_of w (outcome w s.step))) ++ change_lines (n + 1 + 1) (next_of w (outcome w s.step)) (drop (n + 1) r.steps))
@@ -136,8 +136,8 @@ module _ (r : Recorded) where
       ap (first_fault (n + 1) w) (steps_there n s read)
       ∙ ap (λ f. fault_or f (first_fault (n + 1 + 1) (next_of w (outcome w s.step)) (drop (n + 1) r.steps))) is
 
-  -- the lines from a position on if the step has no fault: its own lines, followed by those from
-  -- the next position on
+  -- if a step has no fault, the lines from its position on are its own lines and the lines from the
+  -- next position on
   lines_on : (n : ℕ) (w next : World) (s : RecordedStep) → slice_get r.steps n ≡ Some s → step_fault (n + 1) s.answer (outcome w s.step) ≡ None → next ≡ next_of w (outcome w s.step)
       → lines_from n w ≡ lines_of_changes (n + 1) (changes_between w next) ++ lines_from (n + 1) next
   lines_on n w next s read none leads =
@@ -148,7 +148,7 @@ module _ (r : Recorded) where
   fault_on n w next s read none leads =
       subst (λ x. first_fault (n + 1) w (drop n r.steps) ≡ first_fault (n + 1 + 1) x (drop (n + 1) r.steps)) (sym leads) (fault_by n w s None read none)
 
-  -- a step was applied, and its lines wait, too
+  -- a step was applied, and its lines now wait too
   pub stepped : (n : ℕ) (w next : World) (lines after : List ChangeLine) (old new : Outgoing) → Progress n w lines old new → StepsOn r n w lines next after → Progress (n + 1) next after old new
   stepped n w next lines after old new before step =
       record {
@@ -179,7 +179,7 @@ module _ (r : Recorded) where
       ∙ sym (append_assoc before.sent (texts_of lines ++ lines_from n w) last)
       ∙ ap (λ t. t ++ last) before.rest
 
-  -- writing the waiting lines failed after a part
+  -- a write failed within the waiting lines
   pub broken : (n : ℕ) (w : World) (lines : List ChangeLine) (old mid new : Outgoing) (count : ℕ) → Progress n w lines old mid → WritesPrefix mid new (texts_of lines) count → WritesChanges (Ok r) old new StreamFailed
   broken n w lines old mid new count before part =
       let last = last_line (opened_as (Ok r)) in
@@ -189,7 +189,7 @@ module _ (r : Recorded) where
       inl (subst (λ t. EndsPrinting t wanted old new StreamFailed) (whole n w lines old mid last before)
       (behind before.sent (texts_of lines ++ more) wanted StreamFailed old mid new before.out (calm_still old.failed mid.failed before.calm) ends))
 
-  -- the waiting lines and the last line were printed, and no others remain
+  -- the waiting lines and the last line were printed, and no lines remain
   ends_with : (n : ℕ) (w : World) (lines : List ChangeLine) (old mid new : Outgoing) (status : ExitStatus) → Progress n w lines old mid → lines_from n w ≡ []
       → EndsPrinting (texts_of lines ++ last_line (opened_as (Ok r))) (status_of_opened (opened_as (Ok r))) mid new status → WritesChanges (Ok r) old new status
   ends_with n w lines old mid new status before none printed =
@@ -223,7 +223,7 @@ module _ (r : Recorded) where
       (subst (λ o. EndsPrinting (texts_of lines ++ last_line o) (status_of_opened o) mid new status) (sym accepted)
       (subst (λ t. EndsPrinting (texts_of lines ++ t) Done mid new status) (sym many) printed))
 
-  -- ---- what came of a step
+  -- ---- the effect of a step
 
   -- the step was refused
   pub is_refused : (n : ℕ) (w : World) (step : Step) (reason : Refusal) (lines : List ChangeLine) → slice_get (run_of r).steps n ≡ Some step → outcome w step ≡ Err reason
@@ -237,7 +237,7 @@ module _ (r : Recorded) where
         kept = refl;
       }
 
-  -- the step gave another answer than the recorded one
+  -- the step's answer differs from the recorded one
   pub is_otherwise : (n : ℕ) (w next : World) (step : Step) (given : Answer) (lines : List ChangeLine) → slice_get (run_of r).steps n ≡ Some step → outcome w step ≡ Ok (given, next)
       → Differs (recorded_at r n) given → HasFault r n w lines lines (load.OtherAnswer (n + 1))
   is_otherwise n w next step given lines read is differs =

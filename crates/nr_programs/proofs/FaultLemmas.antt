@@ -1,4 +1,4 @@
--- The first fault of a recording, computed.
+-- Computing the first fault of a recording.
 use Rattle.std.proofs.Common.{◌≡◌, ◌≢◌, ℕ, zero, suc, ◌+◌, ◌-◌, ◌<◌, ◌≤◌, true, false, List, [], ◌∷◌, length, take, drop, Option, Some, None, Ok, Err, refl, sym, ap, subst, ◌∙◌, arith, add-one, take-take}
 use Rattle.std.specs.List.{slice_get}
 use Rattle.std.specs.Prelude.{IsOk, option_and_then, option_map}
@@ -51,11 +51,11 @@ pub other_answer : (n : ℕ) (recorded : Option Answer) (given : Answer) (next :
 other_answer n recorded given next differs = rw (differs.1, others_differ differs.0 given differs.2) refl
 
 module _ (r : Recorded) where
-  -- the fault from position n on
+  -- the first fault of the steps from position n on
   abbrev pub fault_from : ℕ → Option LoadFault
   fault_from n = first_fault (n + 1) (world_at (run_of r) n) (drop n r.steps)
 
-  -- the recorded step at a position of the run
+  -- the recorded step for a step of the run
   pub step_there : (n : ℕ) (step : Step) → slice_get (run_of r).steps n ≡ Some step → (s : RecordedStep) × (slice_get r.steps n ≡ Some s) × (s.step ≡ step) × (recorded_at r n ≡ s.answer)
   step_there n step read = there (slice_get r.steps n) refl (sym (slice_get-map (λ (s : RecordedStep). s.step) r.steps n) ∙ read)
     where
@@ -63,14 +63,14 @@ module _ (r : Recorded) where
       there None is e = absurd cc
       there (Some s) is e = (s, is, (let same : s.step ≡ step = cc in same), ap (option_and_then (λ (x : RecordedStep). x.answer)) is)
 
-  -- the first fault from a position on is the step's fault or a later one
+  -- the first fault from a position on is the fault of the step there, or a later fault
   pub fault_at : (n : ℕ) (s : RecordedStep) → slice_get r.steps n ≡ Some s
       → fault_from n ≡ fault_or (step_fault (n + 1) s.answer (outcome (world_at (run_of r) n) s.step)) (first_fault (n + 1 + 1) (next_of (world_at (run_of r) n) (outcome (world_at (run_of r) n) s.step)) (drop (n + 1) r.steps))
   fault_at n s read =
       ap (first_fault (n + 1) (world_at (run_of r) n))
       (drop_more r.steps n s (slice_get_within r.steps n s read) ∙ ap (λ x. x ∷ drop (n + 1) r.steps) (get_or_from_slice_get r.steps n s s read))
 
-  -- a step that applies and gives its recorded answer is skipped
+  -- a step that applies and gives its recorded answer isn't the first fault
   pub step_on : (n : ℕ) (step : Step) (given : Answer) (next : World) → slice_get (run_of r).steps n ≡ Some step → outcome (world_at (run_of r) n) step ≡ Ok (given, next) → Agrees (recorded_at r n) given → fault_from n ≡ fault_from (n + 1)
   step_on n step given next read applies agrees =
       let s = step_there n step read in
@@ -101,7 +101,7 @@ came : (o : Outcome) → IsOk o → (given : Answer) × (next : World) × (o ≡
 came (Ok (given, next)) ok = (given, next, refl)
 came (Err reason) ok = absurd (grind (arith, ok))
 
--- the first steps apply if the recording of these steps is good
+-- if a recording of the first k steps is good, each of these steps applies
 good_before : (run : Recording) (k : ℕ) → IsGood (record run { steps = take k run.steps }) → (n : ℕ) (step : Step) → n < k → slice_get run.steps n ≡ Some step → IsOk (outcome (world_at run n) step)
 good_before run k good n step below read =
     let first : Recording = record run { steps = take k run.steps } in
@@ -122,7 +122,7 @@ module _ (r : Recorded) where
   within_run : (k : ℕ) → k < length (run_of r).steps → k < length r.steps
   within_run k below = omega (arith, below, steps_of_run r)
 
-  -- the fault of a refused step is found
+  -- the computed fault is the refusal of a step, if the earlier steps are good
   refused_found : (k : ℕ) (reason : Refusal) → IsRefusedAt (run_of r) k reason → AnswersAgreeTo r k → fault_from r 0 ≡ Some (load.Refused (k + 1) reason)
   refused_found k reason refused agree =
       let below = within_run k (slice_get_within (run_of r).steps k refused.step refused.next) in
@@ -131,7 +131,7 @@ module _ (r : Recorded) where
       on_to k (good_before (run_of r) k refused.before) agree (omega (arith, below)) ∙ fault_at r k s.0 s.1
       ∙ ap (λ (o : Outcome). fault_or (step_fault (k + 1) s.0.answer o) (first_fault (k + 1 + 1) (next_of (world_at (run_of r) k) o) (drop (k + 1) r.steps))) is
 
-  -- the outcome of a step with an answer
+  -- a step that gives an answer has an outcome with this answer
   gives_so : (k : ℕ) (given : Answer) → answer_at (run_of r) k ≡ Some given → (step : Step) × (next : World) × (slice_get (run_of r).steps k ≡ Some step) × (outcome (world_at (run_of r) k) step ≡ Ok (given, next))
   gives_so k given gives = from (slice_get (run_of r).steps k) refl gives
     where
@@ -144,7 +144,7 @@ module _ (r : Recorded) where
       from None is e = absurd cc
       from (Some step) is e = let o = answers_so step (outcome (world_at (run_of r) k) step) refl e in (step, o.0, is, o.1)
 
-  -- the fault of a step with another answer is found
+  -- the computed fault is that a step's answer differs, if the earlier steps are good
   other_found : (k : ℕ) → AnswersOtherwiseAt r k → fault_from r 0 ≡ Some (load.OtherAnswer (k + 1))
   other_found k other =
       let g = gives_so k other.given other.gives in
@@ -156,13 +156,13 @@ module _ (r : Recorded) where
       ∙ ap (λ (o : Outcome). fault_or (step_fault (k + 1) s.0.answer o) (first_fault (k + 1 + 1) (next_of (world_at (run_of r) k) o) (drop (k + 1) r.steps))) is
       ∙ ap (λ f. fault_or f later) (other_answer (k + 1) s.0.answer other.given g.1 (subst (λ o. Differs o other.given) s.3 other.differs))
 
-  -- no fault is found in a good recording
+  -- a good recording has no computed fault
   none_found : IsGood (run_of r) → AnswersAgree r → fault_from r 0 ≡ None
   none_found good agree =
       on_to (length r.steps) (λ n step below. good n step) (λ n given below. agree n given) (omega arith)
       ∙ ap (first_fault (length r.steps + 1) (world_at (run_of r) (length r.steps))) (drop_all (length r.steps) r.steps (omega arith))
 
-  -- the fault of a recording
+  -- the computed fault is the fault of the recording
   pub fault_found : (f : LoadFault) → IsStepFault r f → fault_from r 0 ≡ Some f
   fault_found (load.Memory refused) is = absurd is
   fault_found (load.Refused step reason) is = refused_found (step - 1) reason is.2 is.3 ∙ ap (λ n. Some (load.Refused n reason)) (omega (arith, is.0))
@@ -170,7 +170,7 @@ module _ (r : Recorded) where
 
 -- ---- the bytes
 
--- a good text opens as its run
+-- opening a good text yields its run
 pub opened_good : (bytes : List ℕ) (run : Recording) → IsGoodText bytes run → opened bytes ≡ Ok run
 opened_good bytes run is =
     let right = subst IsGood (sym is.run) is.good in
@@ -182,7 +182,7 @@ IsOwn (Read (read.Memory refused)) = ⊥
 IsOwn (Load (load.Memory refused)) = ⊥
 IsOwn fault = Unit {0}
 
--- the text of a recording with a fault opens as its first fault
+-- opening a text with a fault yields its first fault
 pub opened_faulty : (bytes : List ℕ) (fault : OpenFault) → IsOwn fault → IsFirstFault bytes fault → opened bytes ≡ Err fault
 opened_faulty bytes (Read (read.Memory refused)) own is = absurd own
 opened_faulty bytes (Read (read.Line n f)) own is = ap opened_as is

@@ -46,7 +46,7 @@ use Rattle.nr_programs.proofs.TranscriptLemmas.{IsInState, line_given, same_size
 pub all_of : (whole out : List ℕ) → out ≡ whole → StartsWith whole out
 all_of whole out is = ([], sym is ∙ sym (append-nil out))
 
--- one line: its text, and the state of the front after it
+-- one line was answered with this text, and the front is in this state afterwards
 record Goes (r : Recording) (s : SessionState) (d : FrontState) (line text : List ℕ) (d' : FrontState) : Type 0 where
   pub met : Met
   pub after : SessionState
@@ -88,7 +88,7 @@ neither : (a b : Bool) → (a || b) ≡ false → (a ≡ false) × (b ≡ false)
 neither true b e = cc
 neither false b e = (refl, e)
 
--- lines without a `quit`
+-- these lines were answered, and none of them is `quit`
 record GoOn (r : Recording) (s : SessionState) (d : FrontState) (lines given : List (List ℕ)) (d' : FrontState) : Type 0 where
   pub met : List Met
   pub after : SessionState
@@ -161,7 +161,7 @@ go_on r s d (line ∷ lines) (text ∷ given) d' here none h =
           (rest.may_be later more (subst (λ (k : JournalSize). AllMayMeet r k rest.after later more) (sym size) may))));
     }
 
--- the turns of some lines and one more
+-- some lines and one more were answered
 record EndsBy (d : FrontState) (lines : List (List ℕ)) (line : List ℕ) (given : List (List ℕ)) (d' : FrontState) : Type 0 where
   pub front : List (List ℕ)
   pub text : List ℕ
@@ -179,7 +179,7 @@ ends_by d (l ∷ lines) line (text ∷ given) d' h =
     let x = ends_by h.0 lines line given d' h.2 in
     record { front = text ∷ x.front; text = x.text; mid = x.mid; given_is = ap (λ (l : List (List ℕ)). text ∷ l) x.given_is; turns = (h.0, h.1, x.turns); turn = x.turn }
 
--- a text at its end has the same lines and at most one more
+-- at its end, a text has at most one more line
 more_lines : (ended : Bool) (text : List ℕ) → (more : List (List ℕ)) × (lines_of true text ≡ lines_of ended text ++ more)
 more_lines true text = ([], sym (append-nil (lines_of true text)))
 more_lines false text = (_, lines_at_end text)
@@ -190,7 +190,7 @@ lines_behind ended text front line back split =
     let more = more_lines ended text in
     (back ++ more.0, more.1 ∙ ap (λ (l : List (List ℕ)). l ++ more.0) split ∙ append_assoc front (line ∷ back) more.0)
 
--- the text that was written, and the state of the front after it; the reads were prompt
+-- the front answered lines with the text that was written, and the reads were prompt
 pub record Replied (r : Recording) (s : SessionState) (d d' : FrontState) (from : Incoming) (old : Outgoing) (moments : List Moment) (lines : List (List ℕ)) (out : List ℕ) (says : List (List ℕ) → List Met → Type 0) : Type 0 where
   pub met : List Met
   pub ran : List (List ℕ)
@@ -208,7 +208,7 @@ pub record Replied (r : Recording) (s : SessionState) (d d' : FrontState) (from 
   pub there : IsInState r after d'
   pub says_it : says ran met
 
--- the words that were seen with some lines and one more
+-- the words that a front sees with some lines and one more
 seen_with : (r : Recording) (s : SessionState) (d : FrontState) (front : List (List ℕ)) (line : List ℕ) (given : List (List ℕ)) (text : List ℕ) (mid d' : FrontState) (on : GoOn r s d front given mid)
     → (last : Goes r on.after mid line text d') → d'.pass_state.seen ≡ d.pass_state.seen ++ words_seen d.pass_state.tag r s (front ++ line ∷ []) (on.met ++ last.met ∷ [])
 seen_with r s d front line given text mid d' on last =
@@ -223,7 +223,7 @@ seen_with r s d front line given text mid d' on last =
     none_behind true = refl
     none_behind false = refl
 
--- the texts of some lines and one more
+-- the texts of some lines and one more line
 texts_with : (r : Recording) (s : SessionState) (d : FrontState) (front : List (List ℕ)) (line : List ℕ) (given : List (List ℕ)) (text : List ℕ) (mid d' : FrontState) (on : GoOn r s d front given mid)
     → (last : Goes r on.after mid line text d') → texts_among r s (front ++ line ∷ []) (on.met ++ last.met ∷ []) ≡ given ++ text ∷ []
 texts_with r s d front line given text mid d' on last =
@@ -233,7 +233,7 @@ texts_with r s d front line given text mid d' on last =
     none_behind true = refl
     none_behind false = refl
 
--- each line may encounter nothing
+-- each line may encounter no words of other fronts, and have enough memory and room
 calm_one : (r : Recording) (journal : JournalSize) (s : SessionState) (owed : Option Command) (asked : Result Line LineFault) → MayMeet r journal owed asked calm s
 calm_one r journal s None (Ok (Run command)) = tt
 calm_one r journal s None (Ok (Look query)) = tt
@@ -257,7 +257,7 @@ calm_may r journal s [] = tt
 calm_may r journal s (line ∷ lines) =
     (calm_one r journal s s.owed (meaning_of line), unless_calm (is_quit (meaning_of line)) (calm_may r journal (answer_among r s.owed (meaning_of line) calm s).1 lines))
 
--- the same for some lines and one more
+-- some lines and one more encountered only what they may encounter
 may_with : (r : Recording) (s : SessionState) (d : FrontState) (front : List (List ℕ)) (line : List ℕ) (given : List (List ℕ)) (text : List ℕ) (mid d' : FrontState) (on : GoOn r s d front given mid)
     → (last : Goes r on.after mid line text d') (later all : List (List ℕ)) → all ≡ front ++ line ∷ later
     → UnlessQuit (is_quit (meaning_of line)) (AllMayMeet r (size_of mid) last.after later []) → AllMayMeet r (size_of d) s all (on.met ++ last.met ∷ [])
@@ -377,13 +377,13 @@ module _ (r : Recording) (s : SessionState) (d d' : FrontState) (here : IsInStat
         );
       }
 
--- ---- when the reads were made
+-- ---- the times of the reads
 
 nothing_before : (a b : List (List ℕ)) → [] ≡ a ++ b → a ≡ []
 nothing_before [] b e = refl
 nothing_before (x ∷ a) b e = absurd cc
 
--- the first texts of lines are the texts of the first lines
+-- the first texts are the texts of the first lines
 first_texts : (r : Recording) (s : SessionState) (lines behind : List (List ℕ)) (met : List Met) (a b : List (List ℕ)) → texts_among r s (lines ++ behind) met ≡ a ++ b → length a ≡ length lines
     → a ≡ texts_among r s lines met
 first_texts r s [] behind met [] b e n = refl
@@ -400,7 +400,8 @@ first_texts r s (line ∷ lines) behind met (x ∷ a) b e n =
     (elim (is_quit (meaning_of line)) as (λ q. cond q [] (texts_among r given.1 (lines ++ behind) later) ≡ a ++ b → a ≡ cond q [] (texts_among r given.1 lines later))
     [ true ↦ nothing_before a b | false ↦ λ h. first_texts r given.1 lines behind later a b h counted ] rest)
 
--- a read was prompt: the bytes sent before it are the replies to the whole lines that had come
+-- a read was prompt: before it, exactly the replies to the whole lines received so far had been
+-- sent
 pub prompt_replies : (r : Recording) (s : SessionState) (ran : List (List ℕ)) (met : List Met) (from : Incoming) (old : Outgoing) (m : Moment) → (p : IsPrompt from old ran (texts_among r s ran met) m)
     → m.sent ≡ old.sent ++ replies_among r s false p.read met
 prompt_replies r s ran met from old m p =
@@ -424,7 +425,7 @@ quit_among [] line back quit = ap (λ q. q || has_quit back) quit
 quit_among (x ∷ front) line back quit =
     elim (is_quit (meaning_of x)) as (λ t. (t || has_quit (front ++ line ∷ back)) ≡ true) [ true ↦ refl | false ↦ quit_among front line back quit ]
 
--- the bytes that a session with one front read and wrote, by its ending
+-- the bytes that a session with one front read and wrote, by how the session ended
 module _ (recording : List ℕ) (r : Recording) (opening : opened recording ≡ Ok r) (from left : Incoming) (old new : Outgoing) (d d' : FrontState) (here : IsInState r start d) (alone : d.pass_state.passes ≡ 1) (room : journal_room d.table ≡ 65536) where
   over : (ended : Bool) (commands : List ℕ) (supplies : List Supply) → transcript_by recording ended commands supplies ≡ replies r start ended commands supplies
   over ended commands supplies = ap (λ o. replies_over o ended commands supplies) opening
@@ -574,7 +575,7 @@ fault_transcribes bytes fault from left old new status own is unfailed prints =
           })
     ]
 
--- or memory ran out
+-- the transcript is the fault's line, or memory ran out
 pub refused_transcribes : (bytes : List ℕ) (fault : OpenFault) (from left : Incoming) (old new : Outgoing) (status : ExitStatus) → IsFirstFault bytes fault → old.failed ≡ false
     → PrintsFault (fault_line fault) from left old new status → RunsTranscript bytes from left old new status
 refused_transcribes bytes (openings.Read (read.Memory refused)) from left old new status is unfailed prints = inr prints
@@ -583,7 +584,7 @@ refused_transcribes bytes (Load (load.Memory refused)) from left old new status 
 refused_transcribes bytes (Load (load.Refused step reason)) from left old new status is unfailed prints = inl (fault_transcribes bytes (Load (load.Refused step reason)) from left old new status tt is unfailed prints)
 refused_transcribes bytes (Load (load.OtherAnswer step)) from left old new status is unfailed prints = inl (fault_transcribes bytes (Load (load.OtherAnswer step)) from left old new status tt is unfailed prints)
 
--- ---- lines for which there is enough
+-- ---- lines with enough memory and room
 
 texts_enough : (r : Recording) (s : SessionState) (lines : List (List ℕ)) (supplies : List Supply) → All (λ supply. supply ≡ enough) supplies → texts r s lines supplies ≡ texts r s lines []
 texts_enough r s [] supplies all = refl

@@ -1,4 +1,4 @@
--- The printed line matches the end of the session.
+-- The line that `serve` prints matches the end of the session.
 use Rattle.std.proofs.Common.{◌≡◌, Bool, List, ℕ, inl, inr, Option, Some, None, Result, Ok, Err}
 use Rattle.std.specs.Prelude.{IfOk, OnErr}
 use Rattle.nr_rev.specs.Run.{Recording}

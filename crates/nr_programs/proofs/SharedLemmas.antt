@@ -1,4 +1,4 @@
--- The callers of a shared session are answered by the transcript.
+-- The callers of a shared session get their replies from the transcript.
 use Rattle.std.proofs.Common.{◌≡◌, ◌≤◌, ◌⊎◌, inl, inr, ℕ, Bool, true, false, not, List, [], ◌∷◌, ◌++◌, length, map, Option, Some, Result, Ok, Err, refl, sym, ap, ◌∙◌, subst, arith, append-nil, append_assoc, length-append}
 use Rattle.std.specs.List.{All, concat}
 use Rattle.std.specs.Prelude.{is_err}
@@ -39,7 +39,7 @@ starts_long a b one = omega (arith, ap length one.1, length-append a one.0)
 
 -- ---- one caller
 
--- the words that a front sees continue
+-- a front sees words only after those that it has seen
 caller_grows : (c : Conversation) (d d' : FrontState) → ServesCaller c d d' → Grows d d'
 caller_grows c d d' h = lines_grow _ c.ending h.serves.ended d _ _ d' h.serves.ends
   where
@@ -61,7 +61,7 @@ record Goes (r : Recording) (c : Conversation) (s : SessionState) (d d' : FrontS
   pub table : d'.table ≡ d.table
   pub company : d'.pass_state.passes ≡ d.pass_state.passes
 
--- one caller, from whom these bytes were received and to whom these were sent
+-- one caller; these bytes were received from it, and these were sent to it
 module _ (r : Recording) (c : Conversation) (s : SessionState) (d d' : FrontState) (known held : Option (List ℕ)) (moments : List Moment) (read out : List ℕ) (received : c.input.received ≡ read) (sent : c.output.sent ≡ out)
     (passes : c.input.moments ≡ moments) where
   replies_are : (failed : Bool) (met : List Met) → c.input.failed ≡ failed → replies_among r s (not failed) read met ≡ replies_among r s (not c.input.failed) c.input.received met
@@ -77,12 +77,12 @@ module _ (r : Recording) (c : Conversation) (s : SessionState) (d d' : FrontStat
       (All-weaker (IsPrompt (unread known) (unwritten held) ran (texts_among r s ran met)) (HeardOut r s met)
       (λ m p. (prompt_replies r s ran met (unread known) (unwritten held) m p ∙ ap (λ (bytes : List ℕ). replies_among r s false bytes met) (sym p.received), p.unended refl)) moments all)
 
-  -- the caller's input ended, if neither a read nor a write failed
+  -- if no read and no write failed, the caller's input ended or a line is `quit`
   abbrev Complete : Type 0
   Complete = is_err c.ending ≡ false → IsOver c.input ⊎ (has_quit (lines_of false c.input.received) ≡ true)
 
-  -- the replies continue, if the bytes sent are a prefix of the replies, and all of them unless a
-  -- write failed
+  -- the caller was answered if the bytes sent are a prefix of the replies, and are all of them
+  -- unless a write failed
   goes_with : (failed : Bool) (says : List (List ℕ) → List Met → Type 0) → c.input.failed ≡ failed
       → ((ran : List (List ℕ)) (met : List Met) → says ran met → StartsWith (replies_among r s (not failed) read met) out)
       → ((ran : List (List ℕ)) (met : List Met) → says ran met → c.output.failed ≡ false → out ≡ replies_among r s (not failed) read met)
@@ -126,7 +126,7 @@ module _ (r : Recording) (c : Conversation) (s : SessionState) (d d' : FrontStat
   cut_of is failed complete part =
       goes_with false CutWithin is (λ ran met says. says.0) (λ ran met says calm. absurd (true_is_false (sym failed ∙ calm))) (λ ran met says cut. says.1) complete part
 
-  -- an ending with an error isn't a complete one
+  -- an ending with an error claims nothing about the end of the input
   never_complete : (stopped : LineEnd) → c.ending ≡ Err stopped → Complete
   never_complete stopped is good = absurd (true_is_false (sym (ap is_err is) ∙ good))
 
@@ -135,7 +135,7 @@ module _ (r : Recording) (c : Conversation) (s : SessionState) (d d' : FrontStat
   complete_quit true at_end e good = inl (at_end refl)
   complete_quit false at_end e good = inr (ap (λ (bytes : List ℕ). has_quit (lines_of false bytes)) received ∙ ap has_quit e.split ∙ quit_among e.front e.line e.back e.quit)
 
-  -- the caller's result, by its ending
+  -- the caller was answered, by the result of serving it
   goes_by : (ending : Result End LineEnd) (ended : Bool) → c.ending ≡ ending → (ended ≡ true → IsOver c.input) → IsInState r s d → c.input.failed ≡ is_read_failure ending
       → c.output.failed ≡ is_write_failure ending → Ends (ArePrompt (unread known) (unwritten held) moments) ending ended d (lines_of ended read) out d' → Goes r c s d d'
   goes_by (Ok Closed) ended is at_end here reading writing e =
@@ -153,7 +153,7 @@ caller_goes r c s d d' here h =
     let a = h.serves in
     goes_by r c s d d' h.remaining h.contents a.moments a.read a.out a.reads.received a.writes.sent a.passes c.ending a.ended refl a.at_end here h.read_failed h.write_failed a.ends
 
--- ---- one after the other
+-- ---- callers, one after the other
 
 callers_grow : (callers : List Conversation) (d d' : FrontState) → ServesCallers callers d d' → StartsWith d'.pass_state.seen d.pass_state.seen
 callers_grow [] d d' is = subst (λ (x : FrontState). StartsWith x.pass_state.seen d.pass_state.seen) (sym is) ([], sym (append-nil d.pass_state.seen))

@@ -1,4 +1,4 @@
--- The progress of `suspects`: the world and the notes are those of a position, and no fault was
+-- The progress of `suspects`: the world and the notes are correct for a position, and no fault was
 -- skipped.
 use Rattle.std.proofs.Common.{◌≡◌, ℕ, ◌+◌, ◌≤◌, List, ◌++◌, length, drop, Some, None, Ok, Err, inl, inr, refl, sym, ap, subst, ◌∙◌}
 use Rattle.std.specs.Prelude.{slice_get}
@@ -48,7 +48,7 @@ module _ (r : Recorded) where
       fault_at r n s.0 s.1
       ∙ ap (λ (o : Outcome). fault_or (step_fault (n + 1) s.0.answer o) (first_fault (n + 1 + 1) (next_of (world_at (run_of r) n) o) (drop (n + 1) r.steps))) came
 
-  -- the step gave another answer than the recorded one
+  -- the step's answer differs from the recorded one
   pub is_otherwise : (n : ℕ) (w next : World) (step : Step) (given : Answer) → w ≡ world_at (run_of r) n → slice_get (run_of r).steps n ≡ Some step → outcome w step ≡ Ok (given, next)
       → Differs (recorded_at r n) given → IsFaultFrom r n (load.OtherAnswer (n + 1))
   is_otherwise n w next step given there read is differs =
@@ -79,15 +79,16 @@ module _ (r : Recorded) where
       let none : fault_from r n ≡ None = ap (first_fault (n + 1) (world_at (run_of r) n)) (drop_all n r.steps last) in
       ap (λ f. run_or f r) (on ∙ none)
 
-  -- the first fault from a later position on is the first fault of all
+  -- if no fault was skipped, the first fault from a later position on is the first fault of the
+  -- recording
   pub first_of : (n : ℕ) (fault : LoadFault) → fault_from r 0 ≡ fault_from r n → IsFaultFrom r n fault → IsFaultFrom r 0 fault
   first_of n (load.Memory refused) on is = tt
   first_of n (load.Refused step reason) on is = on ∙ is
   first_of n (load.OtherAnswer step) on is = on ∙ is
 
--- ---- what is written
+-- ---- the output
 
--- what was read has a fault, which was printed
+-- reading the text failed, and the fault was printed
 pub refused_to_read : (bytes : List ℕ) (fault : ReadFault) (old new : Outgoing) (status : ExitStatus) → IsFaultOf fault (reading bytes) → EndsPrinting (read_fault_line fault) Refused old new status
     → ShowsSuspects bytes old new status
 refused_to_read bytes (read.Memory refused) old new status is printed = inr printed

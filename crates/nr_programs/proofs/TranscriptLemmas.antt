@@ -45,8 +45,8 @@ size_of d = record { room = journal_room d.table; passes = d.pass_state.passes }
 pub same_size : (d d' : FrontState) → d'.table ≡ d.table → d'.pass_state.passes ≡ d.pass_state.passes → size_of d' ≡ size_of d
 same_size d d' table passes = let room : journal_room d'.table ≡ journal_room d.table = ap journal_room table in cc
 
--- a line may get this reply, given what it encounters; and the only pass of a journal encounters no
--- words of others
+-- a line may get this reply, given what it encounters; if the journal has one pass, it encounters
+-- no words of other fronts
 pub record MayGive (r : Recording) (owed : Option Command) (asked : Result Line LineFault) (s : SessionState) (d : FrontState) (reply : Option Reply) (d' : FrontState) : Type 0 where
   pub met : Met
   pub reply_is : (answer_among r owed asked met s).0 ≡ reply
@@ -59,23 +59,23 @@ pub record MayGive (r : Recording) (owed : Option Command) (asked : Result Line 
   pub table : d'.table ≡ d.table
   pub may : MayMeet r (size_of d) owed asked met s
 
--- the command that is due is the front's own one whose reply is owed
+-- the pending command is the front's own command whose reply is owed
 due_command : (pending : Pending) (owed due : Command) → own_pending pending ≡ Some owed → pending_command pending ≡ Some due → due ≡ owed
 due_command Nothing owed due a b = cc
 due_command (Others command) owed due a b = cc
 due_command (Own command) owed due a b = cc
 
--- words end with exactly one word, after which there is exactly one debugger
+-- the last of these words has one command, and the debugger before it is unique
 one_behind : (r : Recording) (words : List ℕ) (command : Command) (a b : Debugger) → IsBehind r words command a → IsBehind r words command b → a ≡ b
 one_behind r words command a b one other =
     one.behind ∙ ap (after_words r opening) (same_from_push one.before other.before one.word other.word (sym one.last ∙ other.last)).0 ∙ sym other.behind
 
 module _ (r : Recording) (s : SessionState) (d : FrontState) (here : IsInState r s d) where
-  -- words of others were seen, and none of the front's own
+  -- the front has seen words of other fronts, and none of its own
   seen_others : (words own : List ℕ) (d' : FrontState) → d'.pass_state.seen ≡ d.pass_state.seen ++ words → own ≡ [] → d'.pass_state.seen ≡ d.pass_state.seen ++ (words ++ own)
   seen_others words own d' seen none = seen ∙ ap (λ (l : List ℕ). d.pass_state.seen ++ l) (sym (ap (λ (l : List ℕ). words ++ l) none ∙ append-nil words))
 
-  -- no word was seen
+  -- the front has seen no new word
   seen_none : (own : List ℕ) (d' : FrontState) → d'.pass_state ≡ d.pass_state → own ≡ [] → d'.pass_state.seen ≡ d.pass_state.seen ++ ([] ++ own)
   seen_none own d' same none = seen_others [] own d' (ap (λ (x : PassState). x.seen) same ∙ sym (append-nil d.pass_state.seen)) none
 
@@ -94,7 +94,7 @@ module _ (r : Recording) (s : SessionState) (d : FrontState) (here : IsInState r
   behind_more words unowed =
       ap (λ (x : Debugger). after_words r x words) (at_words unowed) ∙ sym (after_words-append r opening d.pass_state.seen words)
 
-  -- words of others were seen
+  -- the front has seen words of other fronts
   learnt : (d' : FrontState) → (l : Learns d d') → IsInState r (behind_others r l.sees_others.0 s) d'
   learnt d' l =
       let words = l.sees_others.0 in
@@ -107,7 +107,7 @@ module _ (r : Recording) (s : SessionState) (d : FrontState) (here : IsInState r
             (behind_more words l.unowed ∙ ap (after_words r opening) (sym seen));
       }
 
-  -- the words before the one that was placed
+  -- the words before the word that was placed
   before_placed : (command : Command) (d' : FrontState) (before : List ℕ) (word : ℕ) → (p : PlacesCommand command d d') → d'.pass_state.seen ≡ before ++ word ∷ [] → before ≡ d.pass_state.seen ++ p.between
   before_placed command d' before word p last =
       (same_from_push before (d.pass_state.seen ++ p.between) word (word_of d.pass_state.tag command) (sym last ∙ p.placed)).0
@@ -124,7 +124,7 @@ module _ (r : Recording) (s : SessionState) (d : FrontState) (here : IsInState r
       let all = length-append (d.pass_state.seen ++ p.between) (word_of d.pass_state.tag command ∷ []) in
       ap (λ n. n + length p.between + 1) here.placed ∙ ap (λ n. n + 1) (sym both) ∙ sym all ∙ ap length (sym p.placed)
 
-  -- a command that was placed and run
+  -- a command was placed and run
   command_run : (command : Command) (d' : FrontState) (reply : Reply) → (p : PlacesCommand command d d') → RepliesLast d' command reply → d'.pending ≡ Nothing
       → MayGive r None (Ok (Run command)) s d (Some reply) d'
   command_run command d' reply p replies ran =
@@ -149,7 +149,7 @@ module _ (r : Recording) (s : SessionState) (d : FrontState) (here : IsInState r
         may = tt;
       }
 
-  -- a command that was placed, and whose reply is owed
+  -- a command was placed, and its reply is owed
   command_owed : (command : Command) (d' : FrontState) (place : ℕ) → IsLeftOwed command d d' place → MayGive r None (Ok (Run command)) s d (Some (reply_given (Err (Placed place)))) d'
   command_owed command d' place left =
       let p = left.places in
@@ -175,7 +175,7 @@ module _ (r : Recording) (s : SessionState) (d : FrontState) (here : IsInState r
         may = subst (Searches r command) (sym same) (subst (λ (x : Command). Searches r x left.wanted.debugger) due (subst (λ (x : Recording). Searches x left.wanted.command left.wanted.debugger) is left.wanted.searches));
       }
 
-  -- words of others were seen, and then memory or room was missing
+  -- the front saw words of other fronts, and then memory or room was missing
   refused : (asked : Result Line LineFault) (reply : Option Reply) (supply : Supply) (d' : FrontState) → (l : Learns d d') → own_word d.pass_state.tag None asked supply ≡ []
       → MayMeet r (size_of d) None asked (record { others = l.sees_others.0; supply = supply }) s
       → answer_among r None asked (record { others = l.sees_others.0; supply = supply }) s ≡ (reply, behind_others r l.sees_others.0 s) → MayGive r s.owed asked s d reply d'
@@ -221,12 +221,12 @@ module _ (r : Recording) (s : SessionState) (d : FrontState) (here : IsInState r
   executed command d' (Err (Placed place)) (inr stays) = stays_owed (Ok (Run command)) enough d' place stays refl refl
   executed command d' (Err Full) h = refused (Ok (Run command)) (Some (Fault faults.JournalFull)) no_room d' h.learns refl ((learnt d' h.learns).placed ∙ h.full) refl
 
-  -- the walker makes no difference
+  -- the state of the walker doesn't matter
   walked : (s' : SessionState) (walker_state : WalkerState) (mid d' : FrontState) → d' ≡ with_walker_state walker_state mid → IsInState r s' mid → IsInState r s' d'
   walked s' walker_state mid d' is there =
       subst (IsInState r s') (sym is) (record { recording = there.recording; placed = there.placed; owed = there.owed; at = there.at })
 
-  -- a query that is answered
+  -- a query was answered
   look_given : (query : Query) (d' : FrontState) (reply : Reply) → RepliesToLook query d d' reply → MayGive r None (Ok (Look query)) s d (Some reply) d'
   look_given query d' reply h =
       let l = h.catches_all.learns in
@@ -268,7 +268,7 @@ module _ (r : Recording) (s : SessionState) (d : FrontState) (here : IsInState r
   looked_at query d' (Err (Placed place)) stays = stays_owed (Ok (Look query)) enough d' place stays refl refl
   looked_at query d' (Err Full) h = absurd h
 
-  -- the reply that is owed
+  -- `resume` returned the owed reply
   owed_run : (command : Command) (d' : FrontState) (reply : Reply) → s.owed ≡ Some command → RepliesLast d command reply → d' ≡ without_pending d → MayGive r (Some command) (Ok Resume) s d (Some reply) d'
   owed_run command d' reply owed replies now =
       let mine : IsBehind r d.pass_state.seen command s.debugger = subst (λ o. IsAt r d.pass_state.seen o s.debugger) owed here.at in
@@ -292,7 +292,7 @@ module _ (r : Recording) (s : SessionState) (d : FrontState) (here : IsInState r
         may = (refl, tt);
       }
 
-  -- the command whose reply is still owed searches
+  -- a command whose reply is still owed searches
   searches_still : (d' : FrontState) (place : ℕ) → (h : IsStillOwed d d' place) → Searches r h.stays.command s.debugger
   searches_still d' place h =
       let command = h.stays.command in
@@ -326,7 +326,7 @@ module _ (r : Recording) (s : SessionState) (d : FrontState) (here : IsInState r
   resumes d' (Err (Placed place)) h = stays_owed (Ok Resume) no_memory d' place h.stays (refl, searches_still d' place h) refl
   resumes d' (Err Full) h = absurd h
 
-  -- lines whose answer is the same whether a reply is owed or not
+  -- a line whose answer doesn't depend on whether a reply is owed
   quiet : (asked : Result Line LineFault) (reply given : Option Reply) (d' : FrontState) → ((o : Option Command) → answer_among r o asked calm s ≡ (reply, s))
       → ((o : Option Command) → own_word d.pass_state.tag o asked enough ≡ []) → ((o : Option Command) → MayMeet r (size_of d) o asked calm s) → given ≡ reply → d' ≡ d → MayGive r s.owed asked s d given d'
   quiet asked reply given d' each none may is same =

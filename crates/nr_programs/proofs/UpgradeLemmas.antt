@@ -1,4 +1,4 @@
--- The output for a recording, and what may follow it.
+-- The output for a recording, and the line that may follow it.
 use Rattle.std.proofs.Common.{◌≡◌, ℕ, ◌+◌, Bool, true, false, ◌||◌, List, ◌++◌, length, take, inl, inr, refl, sym, subst, ◌∙◌, length-append, arith}
 use Rattle.nr_text.proofs.StreamLemmas.{sends_then}
 use Rattle.std.proofs.Math.Seq.{take-append-add}
@@ -20,7 +20,7 @@ failed_at : (a b : Bool) → b ≡ (a || true) → b ≡ true
 failed_at true b e = e
 failed_at false b e = e
 
--- a part of a text after what was written before
+-- a part of a text was written after some lines
 prefix_behind : (lines text : List ℕ) (old mid new : Outgoing) (count : ℕ) → Sends old mid lines → (part : WritesPrefix mid new text count)
     → WritesPrefix old new (lines ++ text) (saturating_count (length lines + part.n))
 prefix_behind lines text old mid new count before part =
@@ -45,7 +45,7 @@ wrote_part text wanted old new part failed =
     } in
     inr (refl, (saturating_count part.0, prefix))
 
--- a text after what was written before
+-- a text was written after some lines
 pub behind : (lines text : List ℕ) (wanted status : ExitStatus) (old mid new : Outgoing) → Sends old mid lines → mid.failed ≡ (old.failed || false)
     → EndsPrinting text wanted mid new status → EndsPrinting (lines ++ text) wanted old new status
 behind lines text wanted status old mid new before calm prints =

@@ -17,24 +17,25 @@ pub record Met : Type 0 where
   pub others : List ℕ
   pub supply : Supply
 
--- the encounter of a line with no words of others and enough memory and room
+-- a line encounters no words of other fronts, and has enough memory and room
 abbrev pub calm : Met
 calm = record { others = []; supply = enough }
 
--- what the next line encounters; past the end of the list, nothing
+-- what the next line encounters; past the end of the list, a line encounters no words and has
+-- enough memory and room
 abbrev pub next_met : List Met → Met
 next_met [] = calm
 next_met (m ∷ met) = m
 
--- the front after it has seen the words that others placed
+-- the front after it has seen these words of other fronts
 abbrev pub behind_others : Recording → List ℕ → SessionState → SessionState
 behind_others r words s = record s {
   debugger = after_words r s.debugger words;
   placed = s.placed + length words;
 }
 
--- the answer to a line, given the command whose reply is owed: a command runs, and a query reads,
--- after the words of others
+-- the answer to a line, given the command whose reply is owed; commands and queries run after the
+-- words of other fronts
 abbrev pub answer_among : Recording → Option Command → Result Line LineFault → Met → SessionState
     → Answered
 answer_among r None (Ok (Run command)) m s =
@@ -43,8 +44,9 @@ answer_among r None (Ok (Look query)) m s =
     line_answer r None (Ok (Look query)) m.supply (behind_others r m.others s)
 answer_among r owed asked m s = line_answer r owed asked m.supply s
 
--- What a line may encounter, given the command whose reply is owed, with a journal of this size.
--- Lines that neither place a command nor query encounter nothing.
+-- True if a line may encounter this, given the command whose reply is owed and the size of the
+-- journal. A line that neither places a command nor queries encounters no words and has enough
+-- memory and room.
 abbrev pub MayMeet : Recording → JournalSize → Option Command → Result Line LineFault → Met
     → SessionState → Type 0
 MayMeet r journal None (Ok (Run command)) m s =
@@ -62,7 +64,7 @@ texts_among r s (line ∷ lines) met =
     let a = answer_among r s.owed asked (next_met met) s in
     text_or_none a.0 ∷ (if is_quit asked then [] else texts_among r a.1 lines (drop 1 met))
 
--- each of these lines, up to the first `quit`, encountered only what it may
+-- each of these lines, up to the first `quit`, encountered only what it may encounter
 abbrev pub AllMayMeet : Recording → JournalSize → SessionState → List (List ℕ) → List Met → Type 0
 AllMayMeet r journal s [] met = ⊤
 AllMayMeet r journal s (line ∷ lines) met =
@@ -71,7 +73,7 @@ AllMayMeet r journal s (line ∷ lines) met =
     MayMeet r journal s.owed asked (next_met met) s
     × UnlessQuit (is_quit asked) (AllMayMeet r journal a.1 lines (drop 1 met))
 
--- The replies to the lines of a text, from what they encountered. Unless the text is at its end,
--- the bytes after the last line feed aren't a line yet.
+-- The replies to the lines of a text, given what the lines encountered. Unless the text is at its
+-- end, the bytes after the last line feed aren't a line yet.
 abbrev pub replies_among : Recording → SessionState → Bool → List ℕ → List Met → List ℕ
 replies_among r s ended commands met = concat (texts_among r s (lines_of ended commands) met)

@@ -1,5 +1,4 @@
--- Auxiliary definitions. Each file continues the one of its name, which contains the definitions
--- that the laws rest on.
+-- Auxiliary definitions. Each file here adds helpers to the file of the same name.
 pub mod Changes
 pub mod Run
 pub mod Serving

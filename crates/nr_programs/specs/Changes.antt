@@ -20,22 +20,23 @@ use Rattle.nr_programs.specs.declared.opening.OpenFault.{OpenFault}
 use Rattle.nr_programs.specs.declared.run.ExitStatus.{ExitStatus}
 use Rattle.nr_programs.specs.declared.run.ExitStatus.TheVariants.{Done, Refused}
 
--- A line: the number of a step, and a cell with its value after the step, in the form of a reply to
--- `print`.
+-- The text of a line: the number of a step, and a cell with its value after the step, in the form
+-- of a reply to `print`.
 abbrev pub change_line : ℕ → CellWithValue → List ℕ
 change_line n change = decimal n ++ codes " " ++ text_of (Printed change.cell change.value)
 
--- a line for each cell that the step of this number changed
+-- a line for each cell that the step with this number changed
 abbrev pub lines_of_changes : ℕ → List CellWithValue → List ℕ
 lines_of_changes n changes = flat_map (change_line n) changes
 
--- these lines, or none if the step has a fault
+-- these lines, or no lines if the step has a fault
 abbrev pub unless_fault : Option LoadFault → List ℕ → List ℕ
 unless_fault None lines = lines
 unless_fault (Some fault) lines = []
 
--- The changes of these steps from a world on, the first of which has this number: for each step in
--- turn, a line for each cell whose value it changed, up to the first step that has a fault.
+-- The lines for the changes that these steps make, starting from a world; the first step has this
+-- number. Each step in turn has a line for each cell whose value it changed, up to the first step
+-- that has a fault.
 abbrev pub change_lines : ℕ → World → List RecordedStep → List ℕ
 change_lines n w [] = []
 change_lines n w (recorded ∷ steps) =
@@ -44,7 +45,7 @@ change_lines n w (recorded ∷ steps) =
     unless_fault (step_fault n recorded.answer came)
     (lines_of_changes n (changes_between w next) ++ change_lines (n + 1) next steps)
 
--- the lines for what was read, or none if it isn't a recording
+-- the lines for what was read, or no lines if it isn't a recording
 abbrev pub change_lines_of : Result Recorded ReadFault → List ℕ
 change_lines_of (Ok r) = change_lines 1 (empty_world r.limits) r.steps
 change_lines_of (Err fault) = []
@@ -59,8 +60,8 @@ abbrev pub status_of_opened : Result Recording OpenFault → ExitStatus
 status_of_opened (Ok r) = Done
 status_of_opened (Err fault) = Refused
 
--- The lines of what was read and the last line are written; or memory ran out at the start, and
--- that is printed.
+-- The lines for what was read and the last line were written; or memory ran out at the start, and
+-- only the line for that was printed.
 abbrev pub WritesChanges : Result Recorded ReadFault → Outgoing → Outgoing → ExitStatus → Type 0
 WritesChanges r old new status =
     EndsPrinting (change_lines_of r ++ last_line (opened_as r)) (status_of_opened (opened_as r)) old

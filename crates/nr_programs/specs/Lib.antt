@@ -1,4 +1,4 @@
--- what the laws of THEOREM.md rest on, whole files
+-- definitions that the laws in THEOREM.md use
 pub mod Opening
 pub mod Run
 pub mod Serving
@@ -6,12 +6,12 @@ pub mod Shared
 pub mod Transcript
 pub mod Among
 pub mod Changes
--- what callers need besides
+-- more for callers
 pub mod Accepted
 pub mod Examples
 pub mod Sharing
 pub mod ShortRuns
 pub mod Suspects
 pub mod Upgrade
--- what goes on with the files that the laws rest on
+-- helpers for those definitions
 pub mod Auxiliary

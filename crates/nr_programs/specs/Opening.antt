@@ -1,4 +1,4 @@
--- Whether the bytes of a file are a recording that netrev accepts, and why not.
+-- Whether netrev accepts the bytes of a file as a recording, and if not, why.
 use Rattle.std.specs.Prelude.{◌≡◌, ℕ, ◌+◌, Bool, List, [], ◌∷◌, Option, Some, None, Result, Ok, Err, if◌then◌else◌}
 use Rattle.nr_rev.specs.Run.{Recording, IsGood, next_of}
 use Rattle.nr_rev.specs.Step.{Outcome, outcome}
@@ -41,20 +41,20 @@ IsFirstFault bytes (Load fault) = (r : Recorded) × IsTextOf bytes r × IsStepFa
 abbrev pub same_answer : Answer → Answer → Bool
 same_answer = (answer_eq.ghosts).eq
 
--- The fault of the step of this number, if it has one: it doesn't apply, or its answer differs from
--- the recorded one.
+-- The fault of the step with this number, if it has a fault: it doesn't apply, or its answer
+-- differs from the recorded one.
 abbrev pub step_fault : ℕ → Option Answer → Outcome → Option LoadFault
 step_fault n recorded (Err reason) = Some (load.Refused n reason)
 step_fault n None (Ok (answer, next)) = None
 step_fault n (Some recorded) (Ok (answer, next)) =
     if same_answer recorded answer then None else Some (load.OtherAnswer n)
 
--- the first fault if there is one, and otherwise the later one
+-- the first fault, or the second if there is no first
 abbrev pub fault_or : Option LoadFault → Option LoadFault → Option LoadFault
 fault_or None later = later
 fault_or (Some fault) later = Some fault
 
--- the first fault of these steps from a world on, the first of which has this number
+-- the first fault of these steps, starting from a world; the first step has this number
 abbrev pub first_fault : ℕ → World → List RecordedStep → Option LoadFault
 first_fault n w [] = None
 first_fault n w (recorded ∷ steps) =
@@ -71,7 +71,7 @@ abbrev pub opened_as : Result Recorded ReadFault → Result Recording OpenFault
 opened_as (Ok r) = run_or (first_fault 1 (empty_world r.limits) r.steps) r
 opened_as (Err fault) = Err (Read fault)
 
--- The run whose recording the bytes are, or the bytes' first fault.
+-- The run that the bytes record, or the first fault of the bytes.
 abbrev pub opened : List ℕ → Result Recording OpenFault
 opened bytes = opened_as (reading bytes)
 

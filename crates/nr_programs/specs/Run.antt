@@ -5,14 +5,14 @@ use Rattle.nr_text.specs.Streams.{Outgoing, WritesAll, WritesPrefix}
 use Rattle.nr_programs.specs.declared.run.ExitStatus.{ExitStatus}
 use Rattle.nr_programs.specs.declared.run.ExitStatus.TheVariants.{Refused, StreamFailed}
 
--- The whole text is written, and the status is the given one; or a write failed after a prefix of
+-- The whole text was written, and the status is the given one; or a write failed after a prefix of
 -- the text.
 abbrev pub EndsPrinting : List ℕ → ExitStatus → Outgoing → Outgoing → ExitStatus → Type 0
 EndsPrinting text wanted old new status =
     ((status ≡ wanted) × WritesAll old new text)
     ⊎ ((status ≡ StreamFailed) × ((part : ℕ) × WritesPrefix old new text part))
 
--- Nothing is read, and only the line of a fault is written.
+-- No input was read, and only the line of a fault was written.
 pub record PrintsFault {I : Type 0} (line : List ℕ) (input left : I) (old new : Outgoing)
     (status : ExitStatus) : Type 0 where
   pub unread : left ≡ input

@@ -17,12 +17,12 @@ use Rattle.nr_programs.specs.declared.run.ExitStatus.TheVariants.{Done, Refused,
 abbrev pub placed_line : List ℕ → List ℕ
 placed_line history = codes "placed " ++ decimal (length history) ++ codes "\n"
 
--- the status of a session, by whether a stream failed
+-- the status of a session, given whether a stream failed
 abbrev pub exit_status_of : Bool → ExitStatus
 exit_status_of failed = if failed then StreamFailed else Done
 
--- what is printed at the end of a shared session: the number of commands that were placed, or out
--- of memory if the history couldn't be collected
+-- the line at the end of a shared session: the number of commands that were placed, or lack of
+-- memory if the history couldn't be collected
 abbrev pub PrintsHistory : Option (List ℕ) → Bool → Outgoing → Outgoing → ExitStatus → Type 0
 PrintsHistory (Some history) failed old new status =
     EndsPrinting (placed_line history) (exit_status_of failed) old new status
@@ -36,9 +36,9 @@ SharesAll r sharing before after history failed =
     (passed : List Passed) × Opens sharing.fronts passed before after
     × IsShared r sharing.journal sharing.fronts DELTAS_KEPT sharing.workers passed history failed
 
--- The number of commands that the fronts placed is printed, or out of memory if the history
--- couldn't be collected. Or memory ran out before the recording was shared: that is printed, and no
--- port was opened.
+-- The number of commands that the fronts placed was printed, or lack of memory if the history
+-- couldn't be collected. Or memory ran out before the recording was shared: that was printed, and
+-- no port was opened.
 abbrev pub Shares : Recording → Sharing → FrontsLog → FrontsLog → Outgoing → Outgoing → ExitStatus
     → Type 0
 Shares r sharing before after old new status =
@@ -48,7 +48,7 @@ Shares r sharing before after old new status =
     × PrintsHistory None failed old new status)
     ⊎ ((after ≡ before) × EndsPrinting memory_line Refused old new status)
 
--- Either the bytes are a recording whose steps all apply, and it is shared; or its first fault is
+-- Either the bytes are a recording whose steps all apply, and it was shared; or its first fault was
 -- printed, and no port was opened.
 abbrev pub ServesAll : List ℕ → Sharing → FrontsLog → FrontsLog → Outgoing → Outgoing → ExitStatus
     → Type 0

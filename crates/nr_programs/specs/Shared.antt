@@ -28,8 +28,8 @@ own_word tag None (Ok (Run command)) enough = word_of tag command ∷ []
 own_word tag None (Ok (Run command)) no_memory_to_search = word_of tag command ∷ []
 own_word tag owed asked supply = []
 
--- The words that a front sees with a line: those that others placed before it, and then the line's
--- own word.
+-- The words that a front sees with a line: the words that other fronts placed before it, and then
+-- the line's own word.
 abbrev pub words_with : ℕ → Option Command → Result Line LineFault → Met → List ℕ
 words_with tag owed asked m = m.others ++ own_word tag owed asked m.supply
 
@@ -42,7 +42,7 @@ words_seen tag r s (line ∷ lines) met =
     words_with tag s.owed asked (next_met met)
     ++ (if is_quit asked then [] else words_seen tag r a.1 lines (drop 1 met))
 
--- none of the words of others that a line encountered has the front's tag
+-- none of the other fronts' words that a line encountered has the front's tag
 abbrev pub MeetsOthers : ℕ → Met → Type 0
 MeetsOthers tag m = All (IsOthers tag) m.others
 
@@ -51,7 +51,7 @@ MeetsOthers tag m = All (IsOthers tag) m.others
 abbrev pub HeardOut : Recording → SessionState → List Met → Moment → Type 0
 HeardOut r s met m = (m.sent ≡ replies_among r s false m.received met) × (m.ended ≡ false)
 
--- All texts before the last were sent whole, and of the last only its first n bytes.
+-- All texts before the last were sent whole, and only the first n bytes of the last text were sent.
 pub record EndsWithin (texts : List (List ℕ)) (sent : List ℕ) : Type 0 where
   pub whole : List (List ℕ)
   pub last : List ℕ
@@ -60,13 +60,14 @@ pub record EndsWithin (texts : List (List ℕ)) (sent : List ℕ) : Type 0 where
   pub within : n < length last
   pub sent_is : sent ≡ concat whole ++ take n last
 
--- One caller of a front. What was sent is a prefix of the replies to what was received, starting
--- from the front's state, and all of it unless a write failed. If a read failed, an unfinished last
--- line isn't a command. Before each read all whole lines were answered. If neither failed, a read
--- reached the end of the caller's input, or a line is `quit`. The lines `ran` were run: the first
--- lines, up to one that is `quit` or whose reply wasn't written, or all. Only their texts were
--- sent. If a write failed, the last of them is the line whose text was cut. They encountered only
--- what lines may encounter with a journal of this size.
+-- One caller of a front was answered. What was sent is a prefix of the replies to what was
+-- received, starting from the front's state, and is all of them unless a write failed. If a read
+-- failed, an unfinished last line isn't a command. Before each read, all whole lines had been
+-- answered. If no read and no write failed, a read reached the end of the caller's input, or a line
+-- is `quit`. The lines `ran` were run. They are the first lines, up to a line that is `quit` or
+-- whose reply wasn't written, or else all lines. Only their texts were sent. If a write failed, the
+-- last of them is the line whose text was cut. They encountered only what lines may encounter with
+-- a journal of this size.
 pub record IsAnswered (r : Recording) (journal : JournalSize) (tag : ℕ) (c : Conversation)
     (s : SessionState) : Type 0 where
   pub met : List Met
@@ -84,17 +85,18 @@ pub record IsAnswered (r : Recording) (journal : JournalSize) (tag : ℕ) (c : C
   pub stops : c.output.failed ≡ true → EndsWithin (texts_among r s ran met) c.output.sent
   pub others : All (MeetsOthers tag) met
 
--- The front has run a prefix of the history: its debugger is the one after these words, without the
--- last if its reply is owed.
+-- The front has run a prefix of the history: its debugger has run these words, except the last word
+-- if its reply is owed.
 pub record HasRun (r : Recording) (history seen : List ℕ) (s : SessionState) : Type 0 where
   pub prefix : StartsWith history seen
   pub placed : s.placed ≡ length seen
   pub at : IsAt r seen s.owed s.debugger
 
--- The callers of a front, one after the other, after it had seen these words. After each caller the
--- front has run a longer prefix of the one history, by the words that it saw with the caller's
--- lines: those of others before each line, and each placed command's own word, once. After the last
--- caller, no word of the history that the front hasn't seen has its tag.
+-- The callers of a front were answered, one after the other, after the front had seen these words.
+-- With each caller, the front runs a longer prefix of the one history. The added words are those
+-- that the front saw with the caller's lines: the words of other fronts before each line, and the
+-- own word of each placed command, once. After the last caller, no word of the history that the
+-- front hasn't seen has its tag.
 abbrev pub AreAnswered : Recording → JournalSize → ℕ → List ℕ → SessionState → List ℕ
     → List Conversation → Type 0
 AreAnswered r journal tag history s seen [] = Covers history tag seen

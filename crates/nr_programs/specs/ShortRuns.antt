@@ -81,7 +81,7 @@ early_swap_run = record {
       ∷ PollEvent 0 1 modes.Read false ∷ BlockSwap 0 ∷ SysRead 0 0 8 ∷ RwUnlock 0 0 sides.Read ∷ [];
 }
 
--- a run with three firings of a descriptor, which has room for two
+-- a run with three firings of a descriptor that has room for two
 abbrev pub three_firings_run : Recording
 three_firings_run = record {
   limits = record { goroutines = 1; sockets = 1; descriptors = 1; buffer = 1 };
@@ -91,7 +91,7 @@ three_firings_run = record {
       ∷ SetDeadline 0 0 modes.Read (pos 1) ∷ Tick (pos 3) ∷ Pop ∷ [];
 }
 
--- a version-1 recording of a run, which contains no answers
+-- a run from a recording in version 1, which contains no answers
 abbrev pub of_version_one : Recording → Recorded
 of_version_one r = record {
   version = One;

@@ -1,5 +1,5 @@
--- The output of the program `suspects`: what became of deadlines, the lost wake-ups, the goroutines
--- that sleep on, and the held references of closed sockets.
+-- The output of the program `suspects`: what happened to deadlines, the lost wake-ups, the
+-- sleepers, and the held references to closed sockets.
 use Rattle.std.specs.Prelude.{◌⊎◌, ℕ, List, [], ◌++◌, Result, Ok, Err}
 use Rattle.nr_rev.specs.Run.{Recording}
 use Rattle.nr_recording.specs.Faults.{memory_line}
@@ -12,13 +12,13 @@ use Rattle.nr_programs.specs.declared.opening.OpenFault.{OpenFault}
 use Rattle.nr_programs.specs.declared.run.ExitStatus.{ExitStatus}
 use Rattle.nr_programs.specs.declared.run.ExitStatus.TheVariants.{Refused}
 
--- the lines of a run, or none if there is a fault
+-- the lines for a run, or no lines if there is a fault
 abbrev pub suspects_of : Result Recording OpenFault → List ℕ
 suspects_of (Ok r) = suspect_lines r
 suspects_of (Err fault) = []
 
--- The lines of the suspects and the last line of `check` are written; or memory ran out, and that
--- is printed.
+-- The lines of the suspects and the last line of `check` were written; or memory ran out, and only
+-- the line for that was printed.
 abbrev pub WritesSuspects : Result Recording OpenFault → Outgoing → Outgoing → ExitStatus → Type 0
 WritesSuspects r old new status =
     EndsPrinting (suspects_of r ++ last_line r) (status_of_opened r) old new status

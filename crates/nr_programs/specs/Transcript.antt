@@ -26,25 +26,26 @@ use Rattle.nr_programs.specs.declared.opening.OpenFault.{OpenFault}
 use Rattle.nr_programs.specs.declared.run.ExitStatus.{ExitStatus}
 use Rattle.nr_programs.specs.declared.run.ExitStatus.TheVariants.{Done, Refused, StreamFailed}
 
--- ---- what there is for a line
+-- ---- the memory and room for a line
 
--- What is available to a line: enough memory and room; no memory; no memory to search for the reply
--- to its command, which is placed; or no room in the journal.
+-- The memory and room that a line has: enough of both; no memory; no memory for the search of its
+-- command, which is placed; or no room in the journal.
 pub data Supply : Type 0 where
   enough : Supply
   no_memory : Supply
   no_memory_to_search : Supply
   no_room : Supply
 
--- the supply of the next line; past the end of the list, enough
+-- the supply of the next line; past the end of the list, a line has enough
 abbrev pub next_supply : List Supply → Supply
 next_supply [] = enough
 next_supply (supply ∷ supplies) = supply
 
 -- ---- a front between two lines
 
--- The debugger after the words placed so far, their number, and the command whose reply is owed. If
--- there is such a command, its word is the last, and the debugger is the one before it.
+-- The debugger after the words placed so far, the number of these words, and the command whose
+-- reply is owed. If there is such a command, its word is the last one, and the debugger hasn't run
+-- it yet.
 pub record SessionState : Type 0 where
   pub debugger : Debugger
   pub placed : ℕ
@@ -54,15 +55,15 @@ pub record SessionState : Type 0 where
 abbrev pub start : SessionState
 start = record { debugger = opening; placed = 0; owed = None }
 
--- the reply to a line, if any, and the front after it
+-- the reply to a line, if it has a reply, and the front after it
 abbrev pub Answered : Type 0
 Answered = Option Reply × SessionState
 
--- a command was run; its word is the last one
+-- the answer to a command that was run; its word is the last one
 abbrev pub with_run : Ran → ℕ → Answered
 with_run ran placed = (Some ran.0, record { debugger = ran.1; placed = placed; owed = None })
 
--- the reply to the last word is owed
+-- the answer if the reply to the last word is owed
 abbrev pub owing : SessionState → Answered
 owing s = (Some (Fault (faults.Placed s.placed)), s)
 
@@ -88,7 +89,7 @@ answer r (Ok Quit) supply s = (Some Bye, s)
 answer r (Ok Empty) supply s = (None, s)
 answer r (Err fault) supply s = (Some (Fault (faults.Line fault)), s)
 
--- the answer to `resume`, which gives the owed reply
+-- the answer to `resume`, which is the owed reply
 abbrev pub resume_answer : Recording → Command → Supply → SessionState → Answered
 resume_answer r command enough s = with_run (run r command s.debugger) s.placed
 resume_answer r command _ s = owing s
@@ -107,7 +108,7 @@ abbrev pub line_answer : Recording → Option Command → Result Line LineFault 
 line_answer r None asked supply s = answer r asked supply s
 line_answer r (Some command) asked supply s = answer_owing r command asked supply s
 
--- ---- what there may be for a line
+-- ---- the supply that a line may have
 
 -- the number of words for which a journal has room, and its maximum number of passes
 pub record JournalSize : Type 0 where
@@ -118,9 +119,9 @@ pub record JournalSize : Type 0 where
 abbrev pub journal_of_one : JournalSize
 journal_of_one = record { room = 65536; passes = 1 }
 
--- The supply that a command may have when the session is in this state. Memory may be missing
--- before the command is placed only if others may have placed words; its search may run out of
--- memory only if it searches through copies of worlds; the journal may be full only if as many
+-- True if a command may have this supply when the session is in this state. Memory may be missing
+-- before the command is placed only if other fronts may have placed words. Its search may run out
+-- of memory only if it searches through copies of worlds. The journal may be full only if as many
 -- words were placed as it has room for.
 abbrev pub CommandMayHave : Recording → JournalSize → Command → Supply → SessionState → Type 0
 CommandMayHave r journal command enough s = ⊤
@@ -128,22 +129,23 @@ CommandMayHave r journal command no_memory s = journal.passes ≢ 1
 CommandMayHave r journal command no_memory_to_search s = Searches r command s.debugger
 CommandMayHave r journal command no_room s = s.placed ≡ journal.room
 
--- a look may run out of memory
+-- true if a query may have this supply; it may run out of memory
 abbrev pub LookMayHave : Supply → Type 0
 LookMayHave enough = ⊤
 LookMayHave no_memory = ⊤
 LookMayHave no_memory_to_search = ⊥
 LookMayHave no_room = ⊥
 
--- the search of the command whose reply is owed may run out of memory again
+-- true if `resume` may have this supply; the search of the command whose reply is owed may run out
+-- of memory again
 abbrev pub ResumeMayHave : Recording → Command → Supply → SessionState → Type 0
 ResumeMayHave r command enough s = ⊤
 ResumeMayHave r command no_memory s = Searches r command s.debugger
 ResumeMayHave r command no_memory_to_search s = ⊥
 ResumeMayHave r command no_room s = ⊥
 
--- The supply that a line may have, given the command whose reply is owed, with a journal of this
--- size. Lines that neither place a command nor query have enough.
+-- True if a line may have this supply, given the command whose reply is owed and the size of the
+-- journal. A line that neither places a command nor queries has enough.
 abbrev pub MayHave : Recording → JournalSize → Option Command → Result Line LineFault → Supply
     → SessionState → Type 0
 MayHave r journal None (Ok (Run command)) supply s = CommandMayHave r journal command supply s
@@ -161,7 +163,7 @@ texts r s (line ∷ lines) supplies =
     let a = line_answer r s.owed asked (next_supply supplies) s in
     text_or_none a.0 ∷ (if is_quit asked then [] else texts r a.1 lines (drop 1 supplies))
 
--- this holds after a line, unless it is `quit`
+-- a condition on what follows a line, which holds anyway if the line is `quit`
 abbrev pub UnlessQuit : Bool → Type 0 → Type 0
 UnlessQuit true later = ⊤
 UnlessQuit false later = later
@@ -186,12 +188,12 @@ abbrev pub replies_over : Result Recording OpenFault → Bool → List ℕ → L
 replies_over (Ok r) ended commands supplies = replies r start ended commands supplies
 replies_over (Err fault) ended commands supplies = fault_line fault
 
--- The transcript of a recording's bytes and of commands, given the supplies of the command lines.
+-- The transcript for a recording's bytes and for commands, given the supplies of the command lines.
 abbrev pub transcript_by : List ℕ → Bool → List ℕ → List Supply → List ℕ
 transcript_by recording ended commands supplies =
     replies_over (opened recording) ended commands supplies
 
--- ---- what the program did
+-- ---- the effect of the program
 
 -- the status, from what was opened and whether a read or a write failed
 abbrev pub status_of : Result Recording OpenFault → Bool → Bool → ExitStatus
@@ -200,7 +202,7 @@ status_of (Ok r) read_failed write_failed =
 status_of (Err fault) read_failed write_failed = if write_failed then StreamFailed else Refused
 
 -- At each read, the bytes sent so far were the transcript of the bytes received so far: each whole
--- line was answered, and its reply was sent. The read before had not reached the end.
+-- line was answered, and its reply was sent. No earlier read had reached the end of the input.
 pub record WasPrompt (recording : List ℕ) (from : Incoming) (old : Outgoing)
     (supplies : List Supply) (m : Moment) : Type 0 where
   pub commands : List ℕ
@@ -208,10 +210,11 @@ pub record WasPrompt (recording : List ℕ) (from : Incoming) (old : Outgoing)
   pub sent : m.sent ≡ old.sent ++ transcript_by recording false commands supplies
   pub unended : from.ended ≡ false → m.ended ≡ false
 
--- Commands were read and replies written: a prefix of the transcript of the commands, given their
--- lines' supplies, and all of it unless a write failed. If a read failed, an unfinished last line
--- isn't a command. Before each read all whole lines were answered. If the status is `Done`, the
--- input is at its end, or a line is `quit`. If the recording has a fault, no command was read.
+-- Commands were read and replies were written. The replies are a prefix of the transcript of the
+-- commands, given the supplies of their lines, and are all of it unless a write failed. If a read
+-- failed, an unfinished last line isn't a command. Before each read, all whole lines had been
+-- answered. If the status is `Done`, the input is at its end or a line is `quit`. If the recording
+-- has a fault, no command was read.
 pub record Transcribes (recording : List ℕ) (from left : Incoming) (old new : Outgoing)
     (status : ExitStatus) : Type 0 where
   pub commands : List ℕ
@@ -232,7 +235,8 @@ pub record Transcribes (recording : List ℕ) (from left : Incoming) (old new : 
   pub unread : (fault : OpenFault) → opened recording ≡ Err fault → commands ≡ []
   pub ends : status ≡ status_of (opened recording) left.failed new.failed
 
--- The program `run` writes its transcript; or memory ran out at the start, and that is printed.
+-- The program `run` wrote its transcript; or memory ran out at the start, and only the line for
+-- that was printed.
 abbrev pub RunsTranscript : List ℕ → Incoming → Incoming → Outgoing → Outgoing → ExitStatus
     → Type 0
 RunsTranscript recording from left old new status =

@@ -12,8 +12,8 @@ use Rattle.nr_programs.specs.declared.opening.OpenFault.{OpenFault}
 use Rattle.nr_programs.specs.declared.run.ExitStatus.{ExitStatus}
 use Rattle.nr_programs.specs.declared.run.ExitStatus.TheVariants.{Done, Refused}
 
--- The run's text in version 2 is written, each step with its answer. Or memory ran out for one of
--- its lines: the lines before that one are written, followed by the line of that fault.
+-- The text of the run in version 2 was written, each step with its answer. Or memory ran out for a
+-- line of the text: the lines before it were written, followed by the line of that fault.
 abbrev pub WritesAnswered : Recording → Outgoing → Outgoing → ExitStatus → Type 0
 WritesAnswered r old new status =
     EndsPrinting (text (answered r)) Done old new status
@@ -21,8 +21,8 @@ WritesAnswered r old new status =
     × EndsPrinting (concat (take n (line_texts (answered r))) ++ memory_line) Refused old new
     status)
 
--- Either the bytes are a recording whose steps all apply and give their recorded answers, and it is
--- written with its answers; or its first fault is printed.
+-- Either the bytes are a recording whose steps all apply and give their recorded answers, and the
+-- recording was written with its answers; or its first fault was printed.
 abbrev pub Upgrades : List ℕ → Outgoing → Outgoing → ExitStatus → Type 0
 Upgrades bytes old new status =
     ((r : Recording) × IsGoodText bytes r × WritesAnswered r old new status)

@@ -43,14 +43,16 @@ impl Text for ChangeLine {
 /// The lines to write next.
 type Lines = ArrayVec<ChangeLine, LINES_AT_ONCE>;
 
-/// Opens the recording, and prints a line for each cell that a step changed, such as `7 lock 0 = 18`. The lines are
-/// sorted by step, and the cells of a step are in the order of `COMMANDS.md`. The line that `check` prints follows. If
-/// a step doesn't apply, or its answer differs from the recorded one, prints the lines before the first such step, and
-/// then its fault. If the text isn't a recording, prints only its fault. The steps are applied once, and no copy of the
-/// world is kept.
+/// Opens the recording, and prints a line for each cell that a step changed, such as `7 lock 0 =
+/// 18`. The lines are sorted by step, and the cells of a step are in the order of `COMMANDS.md`.
+/// The last line is the one that `check` prints. If a step doesn't apply, or its answer differs
+/// from the recorded one, prints the lines before that step, and then the step's fault. If the text
+/// isn't a recording, prints only its fault. The steps are applied once, and no copy of the world
+/// is kept.
 ///
-/// Returns `Refused` if a fault was the last line, or `fault 108 memory` the only one; `StreamFailed` if a write
-/// failed, so that only a prefix of the output is written; and otherwise `Done`.
+/// Returns `Refused` if a fault was the last line or `fault 108 memory` was the only line,
+/// `StreamFailed` if a write failed, so that only a prefix of the output was written, and otherwise
+/// `Done`.
 pub fn changes_bytes<W: TouchesCells + Drop, O: Write>(
     alloc: Global,
     bytes: &[u8],
@@ -58,7 +60,7 @@ pub fn changes_bytes<W: TouchesCells + Drop, O: Write>(
 ) -> ExitStatus
 where
     W::Snapshot: Drop,
-    // The output, for any bytes.
+    // What is written, for any bytes.
     ensures { Changes bytes.now output.old output.new result }
 {
     let recording = match read(alloc, bytes) {
@@ -100,8 +102,8 @@ fn print_changes<W: TouchesCells, O: Write>(
     end(lines.as_slice(), &accepted, ExitStatus::Done, output)
 }
 
-// Applies the step after position n, and appends the lines for its changes. Fails with the step's fault. The list of
-// changes is scratch space.
+// Applies the step after position n, and appends the lines for its changes. Fails with the step's
+// fault. `changes` is scratch space.
 fn step_on<W: TouchesCells>(
     world: &mut W,
     recording: &Recording,
@@ -153,7 +155,7 @@ fn add_lines(step: usize, changes: &[CellWithValue], lines: &mut Lines)
     }
 }
 
-// Prints the lines and the last one. Returns the given status if all were written.
+// Prints the lines and then the last line. Returns the given status if all lines were written.
 fn end<T: Text, O: Write>(
     lines: &[ChangeLine],
     last: &T,

@@ -1,5 +1,5 @@
-//! The two facts on which the theorem rests, as short functions: undoing a step restores the state, and a position is
-//! the replay of the steps before it.
+//! The two facts behind the theorem, as short functions: undoing a step restores the state, and the
+//! world at a position is the replay of the steps before it.
 
 ghost use Rattle.std.specs.Prelude.{◌≡◌, ◌≤◌, length, IfErr, IfOk, OnErr, OnOk};
 ghost use Rattle.nr_rev.specs.Cell.{cell};
@@ -25,9 +25,9 @@ pub fn there_and_back<M: Reversible>(machine: &mut M, op: &M::Op) -> Result<M::A
     Ok(answer)
 }
 
-/// Moves a walker to position n, from anywhere, and returns the value of a cell there: its value in the world after a
-/// replay of the recording's first n steps, which is well-formed. Fails with `Memory` if memory runs out, and the
-/// walker is then where `Walker::goto` leaves it.
+/// Moves a walker to position n, from anywhere, and returns the value of a cell there: its value in
+/// the world after a replay of the recording's first n steps, which is well-formed. Fails with
+/// `Memory` if memory runs out, and leaves the walker where `Walker::goto` leaves it.
 pub fn value_at<W: Worlds + Drop>(
     walker: &mut Walker<'_, W>,
     n: usize,

@@ -36,11 +36,12 @@ pub fn a_calm_session_has_one_transcript()
         → transcript recording commands ≡ transcript_by recording true commands [] }
 {}
 
-/// Each caller of a shared session gets the transcript of what was received from it, starting from the state of the
-/// front that serves it. All fronts share one history, whose length `placed K` prints. With each line that it runs, a
-/// front sees the words that others placed before it, none of which is its own, and then the line's own word, once, if
-/// the line places a command. These include all of its own words in the history, and each word of the history belongs
-/// to one front. The callers are those of the ports: exactly these conversations took place.
+/// Each caller of a shared session gets the transcript of what was received from it, starting from
+/// the state of its front. All fronts share one history, whose length `placed K` prints. With each
+/// line that it runs, a front sees the words that other fronts placed before the line, and then the
+/// line's own word, once, if the line places a command. So a front sees all of its own words in the
+/// history, and each word of the history belongs to one front. The callers are those of the ports,
+/// and no other conversations took place.
 pub fn callers_are_answered_in_one_history()
     ensures answered { (r : Recording) (room fronts depth workers : ℕ) (passed : List Passed) (history : List ℕ) (failed : Bool)
         → (shared : IsShared r room fronts depth workers passed (Some history) failed)
@@ -69,8 +70,8 @@ pub fn an_unread_caller_is_not_answered()
     }) start) }
 {}
 
-/// `IsAnswered` doesn't hold for a caller that was read again before its line was answered, even if the reply is sent
-/// later.
+/// `IsAnswered` doesn't hold if the front read again before it answered the caller's line, even if
+/// it sends the reply later.
 pub fn a_late_reply_is_no_answer()
     ensures { (r : Recording) (journal : JournalSize) (tag : ℕ) → ¬ (IsAnswered r journal tag (record {
       input = record {
@@ -85,8 +86,8 @@ pub fn a_late_reply_is_no_answer()
     }) start) }
 {}
 
-/// `IsAnswered` doesn't hold for a caller that was read again after the end of its input, even if the reply to its last
-/// line is sent later.
+/// `IsAnswered` doesn't hold if the front read again after the end of the caller's input, even if
+/// it sends the reply to the last line later.
 pub fn an_end_read_twice_is_no_answer()
     ensures { (r : Recording) (journal : JournalSize) (tag : ℕ) → ¬ (IsAnswered r journal tag (record {
       input = record {
@@ -101,7 +102,8 @@ pub fn an_end_read_twice_is_no_answer()
     }) start) }
 {}
 
-/// `Transcribes` doesn't hold for a run over arbitrary streams that received nothing but sent a byte.
+/// `Transcribes` doesn't hold for a run that received nothing but sent a byte, whatever its streams
+/// are.
 pub fn a_lie_is_no_run()
     ensures { (recording : List ℕ) (r : Recording) → opened recording ≡ Ok r → ¬ (Transcribes recording
         (unread None)
@@ -110,24 +112,26 @@ pub fn a_lie_is_no_run()
         (record { contents = None; sent = 65 ∷ []; failed = false }) Done) }
 {}
 
-/// Among the words that a front sees with its callers' lines, its own are exactly those of the commands that the lines
-/// placed, in the lines' order and each once. So they are in the one history, which contains these words.
+/// Among the words that a front sees with its callers' lines, the front's own words are exactly the
+/// words of the commands that the lines placed, each once and in the order of the lines. So these
+/// words are in the one history, in this order.
 pub fn each_placed_command_is_there_once()
     ensures { (tag : ℕ) (r : Recording) (s : SessionState) (lines : List (List ℕ)) (met : List Met) → tag < 256
         → All (MeetsOthers tag) met
         → filter (λ word. tag_of word == tag) (words_seen tag r s lines met) ≡ placed_words tag r s lines met }
 {}
 
-/// A query about the world depends only on the position, not on marks, checkpoints, the direction or the way to that
-/// position: two sessions at the same position give the same reply.
+/// The reply to a query about the world depends only on the position, not on marks, checkpoints,
+/// the direction or the way to that position: two sessions at the same position give the same
+/// reply.
 pub fn a_position_shows_one_thing()
     ensures { (r : Recording) (query : Query) (s t : SessionState) → is_at_world query ≡ true
         → s.debugger.position ≡ t.debugger.position
         → (look_answer r query enough s).0 ≡ (look_answer r query enough t).0 }
 {}
 
-/// An accepted recording is a run of the machine: each of its steps applies at its position and leads to the next, and
-/// gives its recorded answer, if any.
+/// An accepted recording is a run of the machine: each of its steps applies at its position, turns
+/// the world there into the next one, and gives the recorded answer, if one is recorded.
 pub fn an_accepted_recording_is_a_run()
     ensures runs { (bytes : List ℕ) (r : Recording) (n : ℕ) (step : Step) → IsGoodText bytes r
         → slice_get r.steps n ≡ Some step → LeadsOnAt r n step }
@@ -135,8 +139,9 @@ pub fn an_accepted_recording_is_a_run()
         → answer_at r n ≡ Some given → Agrees (recorded_at good.recorded n) given }
 {}
 
-/// The limits of `serve`: ports up to 65,535, 64 fronts, 16 workers, a journal of 1,000,000 words. The constants of the
-/// programs: a journal of 65,536 words for `run`, 4,096 deltas, and a copy every 1,024 steps for `run` and `serve`.
+/// The limits of `serve` are ports up to 65,535, 64 fronts, 16 workers, and a journal of 1,000,000
+/// words. The journal of `run` has 65,536 words. `run` and `serve` keep 4,096 deltas, and a copy
+/// every 1,024 steps.
 pub fn the_numbers()
     ensures port { MOST_PORT ≡ 65535 }
     ensures fronts { MOST_FRONTS ≡ 64 }

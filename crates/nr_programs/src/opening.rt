@@ -17,8 +17,8 @@ use std::io::Write;
 pub enum OpenFault {
     /// A line isn't part of a recording, or memory ran out while reading it.
     Read(ReadFault),
-    /// A step doesn't apply after the ones before it, or its answer differs from the recorded one, or memory ran out
-    /// during the replay.
+    /// A step doesn't apply after the earlier steps, or its answer differs from the recorded one,
+    /// or memory ran out during the replay.
     Load(LoadFault),
 }
 
@@ -38,8 +38,8 @@ impl From<LoadFault> for OpenFault {
     }
 }
 
-/// Prints as the line of its cause, such as `line 6: fault 102 not JSON`, `step 5: fault 107 reason 2`, `step 5: fault
-/// 109 answer` or `fault 108 memory`.
+/// Prints as a line, such as `line 6: fault 102 not JSON`, `step 5: fault 107 reason 2`, `step 5:
+/// fault 109 answer` or `fault 108 memory`.
 impl Text for OpenFault {
     ghost text = { fault_line };
 
@@ -51,12 +51,13 @@ impl Text for OpenFault {
     }
 }
 
-/// The number of steps between two copies of the world in a session. `check` and `upgrade` never go back, so they keep
-/// the fewest copies that a film may have.
+/// The number of steps between two copies of the world in a session. `check` and `upgrade` never go
+/// back, so they keep as few copies as a film may have.
 pub(crate) const COPY_EVERY: usize = 1_024;
 
-/// Reads the recording from the bytes and replays it once, with a copy of the world every `every` steps. Fails with the
-/// first fault of the lines or, if these are all right, of the steps; or with lack of memory.
+/// Reads the recording from the bytes and replays it once, with a copy of the world every `every`
+/// steps. Fails with the first fault of the lines, or of the steps if no line has a fault, or with
+/// lack of memory.
 pub(crate) fn open<W: Worlds + Drop>(
     alloc: Global,
     bytes: &[u8],
@@ -75,7 +76,8 @@ where
     Ok(film)
 }
 
-/// Opens like `open`, but takes the text and frees it after reading, so that the session can reuse its memory.
+/// Does the same as `open`, but takes ownership of the text and frees it after reading, so that the
+/// session can reuse its memory.
 pub(crate) fn open_given<W: Worlds + Drop>(
     alloc: Global,
     text: Vec<u8>,

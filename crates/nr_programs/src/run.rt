@@ -65,14 +65,14 @@ impl From<ExitStatus> for ExitCode {
     }
 }
 
-/// Opens the recording, whose text it frees, and answers the lines of the input on the output, one after the other,
-/// like a debugger that starts at position 0. Each reply describes the world at the debugger's position. A query, or a
-/// command that searches for a hit, may run out of memory, which is reported; the command's reply can be requested
-/// again.
+/// Opens the recording and frees its text. Then answers the lines of the input on the output, one
+/// after the other, like a debugger that starts at position 0. Each reply describes the world at
+/// the debugger's position. If a query, or a command that searches for a hit, runs out of memory,
+/// this is reported; the command's reply can be requested again.
 ///
-/// Returns `Done` if a line was `quit` or the input ended; `Refused` if the recording's first fault or `fault 108
-/// memory` was printed as one line, and nothing was read; and `StreamFailed` if a read or a write failed, so that only
-/// a prefix of the output is written.
+/// Returns `Done` if a line was `quit` or the input ended, `Refused` if the recording's first fault
+/// or `fault 108 memory` was printed and no input was read, and `StreamFailed` if a read or a write
+/// failed, so that only a prefix of the output was written.
 pub fn run_bytes<W, R, I, O>(
     _rt: &R,
     alloc: Global,
@@ -90,7 +90,7 @@ where
     requires input { input.old.failed ≡ false }
     requires output { output.old.failed ≡ false }
 
-    // The bytes that are read and written, for any text.
+    // What is read and written, for any text.
     ensures runs { Runs text.items input.old input.new output.old output.new result }
 
     // A recording whose steps all apply and give their recorded answers gets a session, unless memory runs out before
@@ -108,7 +108,7 @@ where
     }
 }
 
-// Walks a film as the input's lines command.
+// Answers the lines of the input over a film.
 fn walk<W, R, I, O>(
     alloc: Global,
     film: &Film<W>,
@@ -142,15 +142,15 @@ where
     }
 }
 
-/// Prints the fault as one line. Returns `Refused`, or `StreamFailed` if a write failed, so that only a prefix of the
-/// line is written.
+/// Prints the fault as one line. Returns `Refused`, or `StreamFailed` if a write failed, so that
+/// only a prefix of the line was written.
 pub fn refuse<T: Text, O: Write>(fault: &T, output: &mut Sink<O>) -> ExitStatus
     ensures { EndsPrinting (T.text fault.now) statuses.Refused output.old output.new result }
 {
     print(fault, ExitStatus::Refused, output)
 }
 
-// Prints the text. Returns the given status if it was written whole.
+// Prints the text. Returns the given status if the text was written whole.
 pub(crate) fn print<T: Text, O: Write>(
     text: &T,
     wanted: ExitStatus,
@@ -164,7 +164,7 @@ pub(crate) fn print<T: Text, O: Write>(
     }
 }
 
-// Prints two texts. Returns the given status if both were written whole.
+// Prints two texts. Returns the given status if they were written whole.
 pub(crate) fn print_both<A: Text, B: Text, O: Write>(
     first: &A,
     last: &B,
@@ -181,8 +181,9 @@ pub(crate) fn print_both<A: Text, B: Text, O: Write>(
 
 /// Opens the recording, and prints the line `ok L steps`, where L is its number of steps.
 ///
-/// Returns `Refused` if the recording's first fault or `fault 108 memory` was printed as one line; `StreamFailed` if a
-/// write failed, so that only a prefix of the line is written; and otherwise `Done`.
+/// Returns `Refused` if the recording's first fault or `fault 108 memory` was printed as one line,
+/// `StreamFailed` if a write failed, so that only a prefix of the line was written, and otherwise
+/// `Done`.
 pub fn check_bytes<W: Worlds + Drop, O: Write>(
     alloc: Global,
     bytes: &[u8],
@@ -190,7 +191,7 @@ pub fn check_bytes<W: Worlds + Drop, O: Write>(
 ) -> ExitStatus
 where
     W::Snapshot: Drop,
-    // The output, for any bytes.
+    // What is written, for any bytes.
     ensures checks { Checks bytes.now output.old output.new result }
 
     // A recording whose steps all apply and give their recorded answers is accepted, unless memory runs out.
@@ -206,7 +207,7 @@ where
     }
 }
 
-// Prints the number of the film's steps. The film keeps the fewest copies that a film may have.
+// Prints the number of the film's steps. The film keeps as few copies as a film may have.
 fn accept<W: Worlds + Drop, O: Write>(film: &Film<W>, output: &mut Sink<O>) -> ExitStatus
 where
     W::Snapshot: Drop,

@@ -23,14 +23,16 @@ use std::alloc::Global;
 use std::io::Write;
 use std::thread::Threads;
 
-/// Opens the recording, whose text it frees, and serves the callers of each front in a thread of its own, all in one
-/// session. Prints `placed K` when the last front has ended, where K is the number of commands that they placed. The
-/// log of the ports contains the conversations with the callers; if a fault is printed instead, no port was opened,
-/// except if memory runs out for the history.
+/// Opens the recording and frees its text. Then serves the callers of each front in a thread of its
+/// own, all in one session. When the last front has ended, prints `placed K`, with the number K of
+/// commands that the callers placed. The log of the ports contains the conversations with the
+/// callers. If a fault is printed instead, no port was opened, unless memory ran out for the
+/// history.
 ///
-/// Returns `Done` if no connection failed; `StreamFailed` if one did, or a front couldn't accept callers, or the last
-/// line couldn't be written; and `Refused` if the recording's first fault or `fault 108 memory` was printed as one
-/// line. `fault 108 memory` replaces the last line if memory runs out for the history.
+/// Returns `Done` if no connection failed, `StreamFailed` if a connection failed, a front couldn't
+/// accept callers or the last line couldn't be written, and `Refused` if the recording's first
+/// fault or `fault 108 memory` was printed as one line. `fault 108 memory` replaces the last line
+/// if memory runs out for the history.
 pub fn serve_bytes<W, R, P, O>(
     rt: &R,
     alloc: Global,
@@ -117,8 +119,8 @@ where
     }
 }
 
-// Prints the number of commands that were placed; or out of memory, if the recording couldn't be shared or the history
-// couldn't be collected.
+// Prints the number of commands that were placed, or `fault 108 memory` if the recording couldn't
+// be shared or the history couldn't be collected.
 fn tell<O: Write>(shared: &Result<Ended, Memory>, output: &mut Sink<O>) -> ExitStatus
     ensures { PrintsSession shared.now output.old output.new result }
 {

@@ -28,7 +28,7 @@ pub struct Sharing {
     pub workers: u32,
     /// The number of commands for which the session has room, from 1 to `MOST_JOURNAL`.
     pub journal: u32,
-    /// The number of connections after which each front ends, if it ever does.
+    /// The number of connections after which each front ends, or `None` if a front never ends.
     pub connections: Option<NonZeroU32>,
 }
 

@@ -6,10 +6,10 @@ ghost use Rattle.nr_programs.specs.ShortRuns.{early_run, early_swap_run, empty_r
 ghost use Rattle.nr_programs.specs.Among.{replies_among};
 ghost use Rattle.nr_programs.specs.Transcript.{enough, no_memory_to_search, no_room, replies, replies_over, start};
 
-/// A session over each of the short recordings of scripts/recordings/: a wait that an event ends, forwards and
-/// backwards; a firing that a new deadline overtakes; an event that comes before its goroutine parks; a lock that is
-/// taken from a woken goroutine. Then sessions over an empty run, a run with a deadline at the last possible time, and
-/// one that reopens a descriptor.
+/// A session over each short recording in scripts/recordings/: a wait that an event ends, forwards
+/// and backwards; a firing that a new deadline overtakes; an event that comes before its goroutine
+/// parks; and a lock that is taken from a woken goroutine. Also sessions over an empty run, over a
+/// run with a deadline at the last possible time, and over a run that reopens a descriptor.
 pub fn short_runs_have_their_replies()
     ensures lock_and_reference { replies woken_run start true
         (codes "stepi 3\nprint lock 0\n") []
@@ -68,8 +68,8 @@ pub fn short_runs_have_their_replies()
         ≡ codes "at 3\nlock 0 = 10\nfault 201 unknown command\nat 2\nbye\n" }
 {}
 
-/// Two fronts, one with `stepi 3` and one with `reverse-stepi`, in both orders and with a journal of one word; and a
-/// search that runs out of memory until `resume` has enough.
+/// Two fronts, one with `stepi 3` and one with `reverse-stepi`, in both orders and with a journal
+/// of one word. Also a search that runs out of memory, until `resume` has enough.
 pub fn what_two_fronts_meet_is_answered()
     ensures forward_first { replies woken_run start true (codes "stepi 3\n") [] ≡ codes "at 3\n" }
     ensures then_back { replies_among woken_run start true

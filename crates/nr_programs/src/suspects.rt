@@ -18,29 +18,30 @@ use std::io::Write;
 
 /// Opens the recording and prints its suspects, one line each.
 ///
-/// First it prints what became of deadlines, step by step: `at 89 passed-deadline desc 0 r set 60 by 2 rw moved 75 by
-/// 3` for each deadline that passed, `at 91 timeout gor 2 desc 0 r set 60 by 2 rw` for each call that ended with one,
-/// and `at 92 taken-back gor 2 desc 0 r set 60 by 2 rw` for each deadline that was set again before the goroutine that
-/// it woke had checked its side.
+/// First prints what happened to deadlines, step by step: `at 89 passed-deadline desc 0 r set 60 by
+/// 2 rw moved 75 by 3` for each deadline that passed, `at 91 timeout gor 2 desc 0 r set 60 by 2 rw`
+/// for each call that a deadline ended, and `at 92 taken-back gor 2 desc 0 r set 60 by 2 rw` for
+/// each deadline that was set again before the goroutine that it woke had checked its side.
 ///
-/// For the last position it then prints `at 71 lost-wakeup gor 2 desc 0 r event 60 taken 66 by 2` for each lost
-/// wake-up, and `at 71 asleep gor 2 desc 0 r because bytes` for each goroutine that sleeps although it should have been
-/// woken, both sorted by descriptor, reading before writing; and `at 90 held-reference sock 1 gor 3 count 1 since 45`
-/// for each goroutine that holds references of a closed socket, sorted by socket and goroutine. The line that `check`
-/// prints comes last.
+/// Then prints, for the last position, `at 71 lost-wakeup gor 2 desc 0 r event 60 taken 66 by 2`
+/// for each lost wake-up, and `at 71 asleep gor 2 desc 0 r because bytes` for each goroutine that
+/// sleeps although it should have been woken, both sorted by descriptor, with the read side first;
+/// and `at 90 held-reference sock 1 gor 3 count 1 since 45` for each goroutine that holds
+/// references to a closed socket, sorted by socket and goroutine. The line that `check` prints
+/// comes last.
 ///
 /// If the text isn't a recording, or a step doesn't apply, or its answer differs from the recorded one, prints only
 /// that fault. The steps are applied once, and no copy of the world is kept; findings about deadlines are kept until
 /// the end.
 ///
-/// Returns `Refused` if a fault or `fault 108 memory` was the only line; `StreamFailed` if a write failed, so that only
-/// a prefix of the output is written; and otherwise `Done`.
+/// Returns `Refused` if a fault or `fault 108 memory` was the only line, `StreamFailed` if a write
+/// failed, so that only a prefix of the output was written, and otherwise `Done`.
 pub fn suspects_bytes<W: TouchesCells + Drop, O: Write>(
     alloc: Global,
     bytes: &[u8],
     output: &mut Sink<O>,
 ) -> ExitStatus
-    // The output, for any bytes.
+    // What is written, for any bytes.
     ensures { ShowsSuspects bytes.now output.old output.new result }
 {
     let recording = match read(alloc, bytes) {

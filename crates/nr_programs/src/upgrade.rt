@@ -19,9 +19,10 @@ use std::io::Write;
 
 /// Opens the recording, of either version, and writes it in version 2: each step with its answer.
 ///
-/// Returns `Refused` if the recording's first fault or `fault 108 memory` was printed as one line (the latter may
-/// follow whole lines of the recording, if memory ran out for the next line); `StreamFailed` if a write failed, so that
-/// only a prefix of the output is written; and otherwise `Done`.
+/// Returns `Refused` if the recording's first fault or `fault 108 memory` was printed as one line,
+/// `StreamFailed` if a write failed, so that only a prefix of the output was written, and otherwise
+/// `Done`. The line `fault 108 memory` may follow whole lines of the recording, if memory ran out
+/// for the next line.
 pub fn upgrade_bytes<W: Worlds + Drop, O: Write>(
     alloc: Global,
     bytes: &[u8],
@@ -29,7 +30,7 @@ pub fn upgrade_bytes<W: Worlds + Drop, O: Write>(
 ) -> ExitStatus
 where
     W::Snapshot: Drop,
-    // The output, for any bytes.
+    // What is written, for any bytes.
     ensures upgrades { Upgrades bytes.now output.old output.new result }
 
     // A recording whose steps all apply and give their recorded answers is written, unless memory runs out.
@@ -43,7 +44,7 @@ where
     }
 }
 
-// Writes the film's steps with their answers. The film keeps the fewest copies that a film may have.
+// Writes the film's steps with their answers. The film keeps as few copies as a film may have.
 fn write_answered<W: Worlds + Drop, O: Write>(
     alloc: Global,
     film: &Film<W>,

@@ -1,5 +1,5 @@
-//! Worked sessions: the transcripts of the examples, and of lines that lack memory or room or follow another front's
-//! words. The bodies are empty; the prover computes each clause.
+//! Worked sessions: the transcripts of the examples, and of lines that lack memory or room or that
+//! follow another front's words. The bodies are empty; the prover computes each clause.
 
 ghost use Rattle.std.specs.Prelude.{◌≡◌, ◌∷◌, [], true, codes};
 ghost use Rattle.nr_programs.specs.Examples.{answers_commands, answers_replies, answers_run, first_commands, first_replies, first_run, leaked_reference_commands, leaked_reference_replies, leaked_reference_run, lost_wakeup_commands, lost_wakeup_replies, lost_wakeup_run, past_deadline_commands, past_deadline_replies, past_deadline_run, reused_descriptor_commands, reused_descriptor_replies, reused_descriptor_run, shut_write_side_commands, shut_write_side_replies, shut_write_side_run, stale_deadline_commands, stale_deadline_replies, stale_deadline_run, temporary_break_commands, temporary_break_replies, temporary_break_run};
@@ -19,8 +19,9 @@ pub fn examples_have_their_replies()
     ensures shut_write_side { replies shut_write_side_run start true shut_write_side_commands [] ≡ shut_write_side_replies }
 {}
 
-/// The replies to lines that lack something: memory for a query; memory for a search, until `resume` has enough; room
-/// in the journal. And the reply to a command after another front's `stepi 5`.
+/// The replies to a line that lacks memory for a query, to a line that lacks memory for a search,
+/// until `resume` has enough, and to a line that lacks room in the journal. Also the reply to a
+/// command after another front's `stepi 5`.
 pub fn what_lines_meet_is_answered()
     ensures refused_look { replies first_run start true (codes "print lock 0\nprint lock 0\n")
         (no_memory ∷ []) ≡ codes "fault 301 memory\nlock 0 = absent\n" }

@@ -1,5 +1,4 @@
--- Definitions besides `Changes`: contracts and proofs cite them, but no law of THEOREM.md rests on
--- them.
+-- Helper definitions for `Changes`. The laws in THEOREM.md don't use them.
 use Rattle.std.specs.Prelude.{◌≡◌, ℕ, ◌+◌, List, ◌++◌, map, slice_get, Some, None}
 use Rattle.nr_rev.specs.Run.{next_of}
 use Rattle.nr_rev.specs.Step.{outcome}
@@ -21,8 +20,8 @@ change_text line = change_line line.step line.change
 abbrev pub as_lines : ℕ → List CellWithValue → List ChangeLine
 as_lines n changes = map (λ change. record { step = n; change = change }) changes
 
--- The step after position n leads from one world to the next, has no fault, and its lines were
--- appended.
+-- The step after position n turns the first world into the second and has no fault, and its lines
+-- were appended.
 pub record StepsOn (r : Recorded) (n : ℕ) (w : World) (before : List ChangeLine) (next : World)
     (after : List ChangeLine) : Type 0 where
   pub recorded : RecordedStep

@@ -1,5 +1,4 @@
--- Definitions besides `Run`: contracts and proofs cite them, but no law of THEOREM.md rests on
--- them.
+-- Helper definitions for `Run`. The laws in THEOREM.md don't use them.
 use Rattle.std.specs.Prelude.{◌≡◌, ◌⊎◌, ℕ, List, Result, Ok, Err}
 use Rattle.atomic_table.specs.Seated.{TableId}
 use Rattle.nr_rev.specs.Run.{Recording}
@@ -27,14 +26,14 @@ status_code Refused = 1
 status_code Usage = 2
 status_code StreamFailed = 3
 
--- the status after serving, which fails only if a stream fails
+-- the status after serving: `StreamFailed` if a stream failed, and otherwise `Done`
 abbrev pub status_after : Result End LineEnd → ExitStatus
 status_after (Ok ending) = Done
 status_after (Err stopped) = StreamFailed
 
--- The lines that were read are answered by a front that has seen no word, over a journal whose only
--- pass it has, with one worker and a walker that keeps its last DELTAS_KEPT deltas. A stream's
--- failure is reported if and only if there was one.
+-- A new front answered the lines that were read. It has the only pass of its journal, one worker,
+-- and a walker that keeps the last DELTAS_KEPT deltas. The result reports a stream's failure if and
+-- only if the stream failed.
 pub record Walks (from left : Incoming) (old new : Outgoing) (r : Recording) (status : ExitStatus) :
     Type 0 where
   pub table : TableId

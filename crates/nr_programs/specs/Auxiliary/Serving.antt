@@ -1,5 +1,4 @@
--- Definitions besides `Serving`: contracts and proofs cite them, but no law of THEOREM.md rests on
--- them.
+-- Helper definitions for `Serving`. The laws in THEOREM.md don't use them.
 use Rattle.std.specs.Prelude.{Result, Ok, Err}
 use Rattle.nr_rev.specs.declared.memory.Memory.{Memory}
 use Rattle.nr_text.specs.Streams.{Outgoing}
@@ -11,7 +10,8 @@ use Rattle.nr_programs.specs.declared.run.ExitStatus.{ExitStatus}
 use Rattle.nr_programs.specs.declared.run.ExitStatus.TheVariants.{Refused}
 use Rattle.nr_programs.specs.Serving.{PrintsHistory}
 
--- What is printed at the end of a session; out of memory if it couldn't be shared.
+-- The output at the end of a session, which is the line for lack of memory if the recording
+-- couldn't be shared.
 abbrev pub PrintsSession : Result Ended Memory → Outgoing → Outgoing → ExitStatus → Type 0
 PrintsSession (Ok ended) old new status =
     PrintsHistory (words_of ended.history) ended.failed old new status

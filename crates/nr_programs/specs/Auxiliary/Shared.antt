@@ -1,5 +1,4 @@
--- Definitions besides `Shared`: contracts and proofs cite them, but no law of THEOREM.md rests on
--- them.
+-- Helper definitions for `Shared`. The laws in THEOREM.md don't use them.
 use Rattle.std.specs.Prelude.{ℕ, List, [], ◌∷◌, ◌++◌, drop, if◌then◌else◌}
 use Rattle.nr_rev.specs.Run.{Recording}
 use Rattle.nr_command.specs.Command.{meaning_of}
@@ -18,6 +17,6 @@ placed_words tag r s (line ∷ lines) met =
     own_word tag s.owed asked (next_met met).supply
     ++ (if is_quit asked then [] else placed_words tag r a.1 lines (drop 1 met))
 
--- the tag of a front's words
+-- the tag of the front's words
 abbrev pub tag_at_end : Course → ℕ
 tag_at_end course = course.last.pass_state.tag

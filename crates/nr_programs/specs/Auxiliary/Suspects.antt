@@ -1,5 +1,4 @@
--- Definitions besides `Suspects`: contracts and proofs cite them, but no law of THEOREM.md rests on
--- them.
+-- Helper definitions for `Suspects`. The laws in THEOREM.md don't use them.
 use Rattle.std.specs.Prelude.{◌≡◌, ℕ, ◌+◌, drop, Option, Some, Ok}
 use Rattle.nr_rev.specs.Run.{world_at}
 use Rattle.nr_rev.specs.World.{World}
@@ -19,7 +18,7 @@ abbrev pub IsFaultFrom : Recorded → ℕ → LoadFault → Type 0
 IsFaultFrom r n (load.Memory refused) = Unit {0}
 IsFaultFrom r n fault = fault_from r n ≡ Some fault
 
--- The step after position n was applied: the world and the notes are those of the next position,
+-- The step after position n was applied: the world and the notes are correct for the next position,
 -- and no fault was skipped.
 pub record IsStepMade (r : Recorded) (n : ℕ) (w : World) (kept : Notes) : Type 0 where
   pub there : w ≡ world_at (run_of r) (n + 1)

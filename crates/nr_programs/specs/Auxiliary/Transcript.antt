@@ -1,8 +1,7 @@
--- Definitions besides `Transcript`: contracts and proofs cite them, but no law of THEOREM.md rests
--- on them.
+-- Helper definitions for `Transcript`. The laws in THEOREM.md don't use them.
 use Rattle.std.specs.Prelude.{ℕ, true, List, []}
 use Rattle.nr_programs.specs.Transcript.{transcript_by}
 
--- The transcript of a recording's bytes and of commands, with enough memory and room.
+-- The transcript for a recording's bytes and for commands, if memory and room suffice.
 abbrev pub transcript : List ℕ → List ℕ → List ℕ
 transcript recording commands = transcript_by recording true commands []

@@ -2,7 +2,7 @@ use Rattle.std.proofs.Common.{◌+◌, ◌≤◌, length}
 use Rattle.nr_programs.proofs.ChangesLemmas.{Progress}
 use Rattle.nr_programs.proofs.changes.print_changes.Given as goal
 
--- the world is that of the position, and the written and the waiting lines are the changes of the
+-- the world is the one at the position, and the written and waiting lines are the changes of the
 -- steps so far
 abbrev pub invariant-loop-n : goal.invariant-loop-n
 invariant-loop-n g l =

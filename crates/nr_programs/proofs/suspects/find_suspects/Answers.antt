@@ -24,7 +24,7 @@ loop-n-init g c =
       faultless = refl;
     }
 
--- all steps were applied, and the suspects found are the recording's
+-- all steps were applied, and the suspects that were found are those of the recording
 pub returns-clause-found : goal.returns-clause-found
 returns-clause-found g c =
     let r = c.args.recording.now in

@@ -5,7 +5,7 @@ use Rattle.nr_suspects.specs.Suspects.{AreNotes}
 use Rattle.nr_programs.specs.Auxiliary.Suspects.{fault_from}
 use Rattle.nr_programs.proofs.suspects.find_suspects.Given as goal
 
--- the world and the notes are those of the position, and no fault was skipped
+-- the world and the notes are correct for the position, and no fault was skipped
 abbrev pub invariant-loop-n : goal.invariant-loop-n
 invariant-loop-n g l =
     record {

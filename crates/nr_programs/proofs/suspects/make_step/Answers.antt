@@ -16,7 +16,7 @@ pub returns-in-Err-clause-fault : goal.returns-in-Err-clause-fault
 returns-in-Err-clause-fault g c =
     is_refused c.args.recording.now c.args.n (g.W.Worlds.world c.args.world.now) c.in-Some.step.now c.in-Err.reason c.requires.at (sym c.in-Some.ensures.value) c.in-Err.ensures.refusal
 
--- the step gave another answer than the recorded one
+-- the step's answer differs from the recorded one
 pub returns-then-differs-clause-fault : goal.returns-then-differs-clause-fault
 returns-then-differs-clause-fault g c =
     is_otherwise c.args.recording.now c.args.n (g.W.Worlds.world c.args.world.now) (g.W.Worlds.world c.advance.new.world) c.in-Some.step.now c.in-Ok.made.0 c.requires.at

@@ -11,7 +11,7 @@ use Rattle.nr_programs.specs.declared.run.ExitStatus.TheVariants as statuses
 use Rattle.nr_programs.proofs.UpgradeLemmas.{behind, wrote_part}
 use Rattle.nr_programs.proofs.upgrade.write_answered.Goals as goal
 
--- some lines were written, followed by the line for lack of memory
+-- some lines were written, followed by the line `fault 108 memory`
 pub returns-in-Err-Memory : goal.returns-in-Err-Memory
 returns-in-Err-Memory g c =
     let old = c.args.output.now in
