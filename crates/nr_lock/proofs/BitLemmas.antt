@@ -1,4 +1,4 @@
--- Single bits of a lock word: tested, set and cleared.
+-- Lemmas about testing, setting and clearing single bits of a lock word.
 use Rattle.std.proofs.Common.{◌≡◌, ℕ, ◌+◌, ◌*◌, ◌/◌, ◌%◌, ◌^◌, ◌<◌, bit_and, arith}
 use Rattle.std.proofs.lemmas.Nat.{and_mask}
 use Rattle.std.proofs.lemmas.Bool.Decides.{nat_tests}

@@ -1,4 +1,4 @@
--- A lock has one word, its number.
+-- Each lock has exactly one word, its number.
 use Rattle.std.proofs.Common.{◌≡◌, ℕ, ◌/◌, ◌%◌, ◌^◌, ◌<◌, ◌==◌, arith}
 use Rattle.nr_rev.specs.declared.lock.Lock.{Lock}
 use Rattle.nr_rev.specs.declared.sides.Side.TheVariants.{Read, Write}

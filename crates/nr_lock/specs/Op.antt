@@ -20,19 +20,19 @@ outcome lock (RwUnlock side) = rw_unlock side lock
 abbrev pub left : LockAnswer → Lock → LockOutcome
 left answer lock = record { answer = answer.answer; owed = answer.owed; lock = lock }
 
--- the operation applies, with this answer and this resulting lock
+-- true if the operation applies, with this answer and this resulting lock
 abbrev pub StepTo : Lock → LockOp → LockAnswer → Lock → Type 0
 StepTo old op answer new = outcome old op ≡ Ok (left answer new)
 
--- the reason of a refusal
+-- the reason of an outcome that is a refusal
 abbrev pub refusal_of : Result LockOutcome Refusal → Option Refusal
 refusal_of (Ok left) = None
 refusal_of (Err reason) = Some reason
 
--- why an operation is refused
+-- the reason why an operation is refused, if it is
 abbrev pub lock_reason : Lock → LockOp → Option Refusal
 lock_reason lock op = refusal_of (outcome lock op)
 
--- the outcome of a pair of an answer and a lock
+-- the outcome with the answer and the lock of this pair
 abbrev pub left_by : LockAnswer × Lock → LockOutcome
 left_by (answer, lock) = left answer lock

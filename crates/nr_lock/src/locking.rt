@@ -13,7 +13,7 @@ use nr_rev::{Answer, Refusal, Side, Sides};
 impl LockAnswer {
     ghost use Rattle.nr_rev.specs.Sides.{twice};
 
-    /// Returns the answer with no release owed.
+    /// Returns the answer with no releases owed.
     #[inline(always)]
     fn alone(answer: Answer) -> LockAnswer
         ensures { result ≡ record { answer = answer; owed = twice 0 } }

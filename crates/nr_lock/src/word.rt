@@ -1,5 +1,6 @@
-//! The word and its fields: bit 0 is closed, 1 the read lock, 2 the write lock; the references start at bit 3, the read
-//! waiters at 23, the write waiters at 43. Bit 63 is clear.
+//! The word and its fields: bit 0 is the closed mark, bit 1 the read lock, bit 2 the write lock;
+//! the references start at bit 3, the read waiters at bit 23, the write waiters at bit 43. Bit 63
+//! is clear.
 
 ghost use Rattle.std.specs.Prelude.{◌≡◌, ◌+◌, ◌-◌, ◌<◌, ◌^◌, true, false};
 ghost use Rattle.nr_lock.specs.Word.{lock_of};
@@ -22,7 +23,7 @@ const READ_WAITER: u64 = 1 << 23;
 
 const WRITE_WAITER: u64 = 1 << 43;
 
-/// The maximum of a field of 20 bits, and its mask.
+/// The maximum of a field of 20 bits, which is also its mask.
 pub(crate) const FULL: u32 = (1 << 20) - 1;
 
 /// The bits below the waiters.
@@ -127,7 +128,7 @@ impl LockWord {
         (self.0 >> 3 & u64::from(FULL)) as u32
     }
 
-    /// Returns the number of waiters of a side.
+    /// Returns the number of waiters on a side.
     #[inline(always)]
     pub(crate) fn waiters(self, side: Side) -> u32
         ensures { result ≡ sides.of_side side self.waiters }
@@ -147,7 +148,7 @@ impl LockWord {
         LockWord(self.0 + REFERENCE)
     }
 
-    /// Returns the word with one reference less.
+    /// Returns the word with one reference fewer.
     #[inline(always)]
     pub(crate) fn without_reference(self) -> LockWord
         requires { 0 < self.references }
@@ -180,7 +181,7 @@ impl LockWord {
         }
     }
 
-    /// Returns the word with one more waiter of a side.
+    /// Returns the word with one more waiter on a side.
     #[inline(always)]
     pub(crate) fn with_waiter(self, side: Side) -> LockWord
         requires { sides.of_side side self.waiters + 1 < 2 ^ 20 }
@@ -194,7 +195,7 @@ impl LockWord {
         }
     }
 
-    /// Returns the word with one waiter of a side less.
+    /// Returns the word with one waiter fewer on a side.
     #[inline(always)]
     pub(crate) fn without_waiter(self, side: Side) -> LockWord
         requires { 0 < sides.of_side side self.waiters }

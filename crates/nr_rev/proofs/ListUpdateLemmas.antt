@@ -5,7 +5,7 @@ use Rattle.std.proofs.lemmas.Option.{same_Some, slice_get-get_or}
 use Rattle.std.specs.Prelude.{IfSome}
 use Rattle.std.specs.List.{slice_get}
 
--- a view that shows the pushed element and a missing element alike doesn't change
+-- if a view shows the pushed element and a missing element alike, the push doesn't change it
 pub slice_get-push_unseen : {X B : Type 0} (f : Option X → B) (xs : List X) (x : X) (i : ℕ) → f None ≡ f (Some x) → f (slice_get (xs ++ x ∷ []) i) ≡ f (slice_get xs i)
 slice_get-push_unseen f [] x zero e = sym e
 slice_get-push_unseen f [] x (suc i) e = refl
@@ -32,7 +32,7 @@ slice_get-set_here [] i old new e = cc
 slice_get-set_here (x ∷ xs) zero old new e = refl
 slice_get-set_here (x ∷ xs) (suc i) old new e = slice_get-set_here xs i old new e
 
--- a view that shows the new element and the old one alike doesn't change
+-- if a view shows the new element and the old one alike, the write doesn't change it
 pub slice_get-set_unseen : {X B : Type 0} (f : Option X → B) (xs : List X) (i : ℕ) (old new : X) (j : ℕ) → slice_get xs i ≡ Some old → f (Some new) ≡ f (Some old)
     → f (slice_get (set xs i new) j) ≡ f (slice_get xs j)
 slice_get-set_unseen f [] i old new j at e = refl

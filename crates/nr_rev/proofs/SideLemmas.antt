@@ -29,7 +29,8 @@ of_side-with_side_other Write Write new both apart = absurd (apart refl)
 pub of_side-twice : {A : Type 0} (side : Side) (a : A) → of_side side (twice a) ≡ a
 of_side-twice side a = each_side (λ s. of_side s (twice a) ≡ a) refl refl side
 
--- a property of both values of a pair and of a new value holds after a side is set to the new value
+-- if both values of a pair and a new value have a property, both values have it after one side is
+-- set
 pub with_side_all : {A : Type 0} (P : A → Type 0) (side : Side) (new : A) (both : Sides A) → P new → ((s : Side) → P (of_side s both)) → (s : Side) → P (of_side s (with_side side new both))
 with_side_all P Read new both p all = each_side _ p (all Write)
 with_side_all P Write new both p all = each_side _ (all Read) p

@@ -199,8 +199,8 @@ pub record TimersFit (descriptors : List DescriptorRow) (firings : List Entry) (
   pub numbered : 0 < next_arming
   pub in_range : next_arming < 2 ^ 64
 
--- free descriptor numbers: each was made, is listed once and belongs to a closing descriptor, and
--- its words say that no goroutine waits
+-- free descriptor numbers: each was made, is listed once and belongs to a closing descriptor with
+-- no goroutine parked or waiting on its words
 pub record FreeFits (descriptors : List DescriptorRow) (free : List ℕ) : Type 0 where
   pub made : All (λ d. d < length descriptors) free
   pub once : (d : ℕ) → count_by (λ f. f == d) free ≤ 1

@@ -4,9 +4,9 @@ ghost use Rattle.std.specs.Prelude.{◌≡◌, ◌≢◌, ◌==◌, MatchBool, S
 ghost use Rattle.std.specs.Str.{bytes_eq};
 ghost use Rattle.nr_rev.specs.CellName.{cell_index, cell_name, cell_named, cell_number, cell_numbered, cells_at};
 
-/// A value that can be read from a world. A variant's number is the number of a goroutine, a socket
-/// or a descriptor; if that one hasn't been made yet, the value is absent. A closed descriptor
-/// keeps its values.
+/// A value that can be read from a world. A cell with a number belongs to the goroutine, socket or
+/// descriptor with that number; if it hasn't been made yet, the value is absent. A closed
+/// descriptor keeps its values.
 #[derive(Clone, Copy, Debug, PartialEq, Eq)]
 pub enum Cell {
     /// The current time, in nanoseconds.

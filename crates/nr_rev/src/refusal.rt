@@ -40,7 +40,7 @@ pub enum Refusal {
     ClockGoesBack,
     /// No timer is armed, or the first one is not due yet.
     NoTimerDue,
-    /// The maximum number of firings, twice the limit of descriptors, are waiting to be run.
+    /// The number of waiting firings is twice the limit of descriptors, which is the maximum.
     FiringsFull,
     /// The list of firings has no firing at this place.
     NoSuchFiring,

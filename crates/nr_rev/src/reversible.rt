@@ -21,8 +21,8 @@ pub trait Reversible {
     type Delta;
 
     /// The maximum number of words in a delta, not counting the bytes that left a buffer. A number
-    /// counts one word for each 64 bits or part of them, a truth value or a choice one word, and
-    /// bytes one word for each eight or part of them.
+    /// counts as one word for each 64 bits or part of them, a truth value or a choice as one word,
+    /// and bytes as one word for each eight bytes or part of them.
     const WORDS: u32;
 
     ghost WORDS: { ℕ };

@@ -28,8 +28,9 @@ pub enum Step {
     PeerClose {
         socket: u32,
     },
-    /// The system call of `FD.Read` (`internal/poll/fd_unix.go`): takes at most `count` bytes of the input. Answers
-    /// `Got`; if the input is empty, `Eof` if the peer has closed, or else `Again`.
+    /// The system call of `FD.Read` (`internal/poll/fd_unix.go`): takes at most `count` bytes of
+    /// the input. Answers `Got`, or, for an empty input, `Eof` if the peer has closed and `Again`
+    /// if not.
     SysRead {
         goroutine: u32,
         socket: u32,
@@ -134,8 +135,8 @@ pub enum Step {
     WaitCheck {
         goroutine: u32,
     },
-    /// `runtime_pollSetDeadline`: sets a deadline in nanoseconds. A positive one is counted from now, 0 means none, and
-    /// a negative one has passed. Answers `Done`.
+    /// `runtime_pollSetDeadline`: sets a deadline in nanoseconds. A positive deadline is counted
+    /// from now, 0 means none, and a negative deadline has passed. Answers `Done`.
     SetDeadline {
         goroutine: u32,
         descriptor: u32,

@@ -39,8 +39,8 @@ impl TimerFunction {
     }
 }
 
-/// An armed timer. Timers go off in the order of their due times, and at the same time in the order in which they were
-/// armed.
+/// An armed timer. Timers go off in the order of their due times; those due at the same time, in
+/// the order in which they were armed.
 #[derive(Clone, Copy, Debug, PartialEq, Eq)]
 pub struct Timer {
     /// The time at which the timer is due, in nanoseconds.

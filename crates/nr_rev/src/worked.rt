@@ -189,8 +189,9 @@ pub fn deadline_recording_holds()
     ensures all_apply { first_refused_of a_stale_firing_of_both_deadlines ≡ None }
 {}
 
-/// The greatest time replaces a later deadline. A descriptor that is opened again has new numbers, so an event from
-/// before is stale. A timer doesn't go off while twice as many firings wait as the limit of descriptors.
+/// The greatest time replaces a later deadline. A descriptor that is opened again has new numbers,
+/// so an event from before is stale. No timer goes off while the number of waiting firings is twice
+/// the limit of descriptors.
 pub fn deadline_limits_hold()
     ensures greatest_time { cell_after a_deadline_past_the_greatest_time 4 (Cell.ReadDeadline 0)
         ≡ CellValue.Time (pos 9223372036854775807) }
