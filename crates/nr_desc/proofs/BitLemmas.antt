@@ -1,4 +1,4 @@
--- Single bits of the byte of marks: tested, set and cleared.
+-- Lemmas about testing, setting and clearing single bits of the byte of marks.
 use Rattle.std.proofs.Common.{◌≡◌, ℕ, ◌+◌, ◌*◌, ◌/◌, ◌%◌, ◌<◌, bit_and, bit_or, arith}
 use Rattle.std.proofs.lemmas.Nat.Bits.{and_pow}
 use Rattle.std.proofs.lemmas.Bool.Decides.{nat_tests}

@@ -1,4 +1,4 @@
--- A word has exactly one code, and marks have exactly one byte.
+-- Each word has exactly one code, and each set of marks has exactly one byte.
 use Rattle.std.proofs.Common.{◌≡◌, ℕ, ◌/◌, ◌%◌, ◌<◌, ◌==◌, refl, arith}
 use Rattle.std.proofs.lemmas.Bool.Decides.{nat_tests}
 use Rattle.nr_rev.specs.declared.descriptor.WaitWord.{WaitWord}

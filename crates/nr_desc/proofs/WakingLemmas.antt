@@ -1,4 +1,4 @@
--- The woken goroutines are those that a word held before and doesn't hold after.
+-- The woken goroutines are those that a word held before an operation but doesn't hold after it.
 use Rattle.std.proofs.Common.{◌≡◌, ◌∙◌, ℕ, None, Some, ap, refl, sym}
 use Rattle.std.proofs.lemmas.Option.{same_Some}
 use Rattle.nr_rev.specs.declared.descriptor.WaitWord.{WaitWord}
@@ -48,6 +48,6 @@ held_by (op.Fire function sequence) old new side g is = side_held side old.words
 held_by (op.Event tag mode error) old new side g is = side_held side old.words new.words g is
 held_by _ old new side g is = none_held side (of_side side old.words) g is
 
--- a goroutine that is woken at a side was held by its word
+-- a goroutine that is woken at a side was held by that side's word
 pub woken_held : (old new : Descriptor) (op : DescOp) (answer : DescAnswer) (side : Side) (g : ℕ) → StepTo old op answer new → of_side side answer.woken ≡ Some g → of_side side old.words ≡ Held g
 woken_held old new op answer side g step is = held_by op old new side g (ap (of_side side) (sym step.woken) ∙ is)

@@ -25,7 +25,7 @@ use Rattle.nr_desc.specs.Desc.{DescFits}
 use Rattle.nr_desc.specs.Op.{Outcome, armed_by, close, closed_by_words, left, opened, outcome, reset}
 use Rattle.nr_desc.specs.Auxiliary.Op.{StepTo, desc_reason, refusal_of, woken_by}
 
--- a delta leads back to exactly one descriptor
+-- undoing a delta restores only one descriptor
 pub DescBack-unique : (delta : DescDelta) (new a b : Descriptor) → DescBack delta new a
     → DescBack delta new b → a ≡ b
 DescBack-unique delta new a b p q = p ∙ sym q
@@ -51,11 +51,11 @@ steps_unique old op a b new other p q =
     let woken : a.woken ≡ b.woken = p.woken ∙ ap (woken_by op old) same ∙ sym q.woken in
     (λ i. record { answer = answers i; orders = orders i; woken = woken i }, same)
 
--- each operation may use the whole allowance
+-- the allowance of each operation is the maximum number of words
 pub weight_is_within : (op : DescOp) → MOST_WORDS ≤ MOST_WORDS
 weight_is_within op = lit≤ tt
 
--- the result isn't refused for lack of memory
+-- true if the result isn't a refusal for lack of memory
 abbrev NoMemory : {A : Type 0} → Result A Refusal → Type 0
 NoMemory (Ok a) = Unit {0}
 NoMemory (Err e) = e ≡ out_of_memory → ⊥

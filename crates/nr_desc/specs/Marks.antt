@@ -11,8 +11,8 @@ pub record DescMarks : Type 0 where
   pub event_error : Bool
   pub running : Sides Bool
 
--- the byte of the marks: bit 0 is closing, 1 an event error, 2 a running read timer, 3 a running
--- write timer
+-- the byte of the marks: bit 0 is closing, bit 1 an event error, bit 2 a running read timer, bit 3
+-- a running write timer
 abbrev pub marks_number : DescMarks → ℕ
 marks_number marks = bit marks.closing + 2 * bit marks.event_error + 4 * bit marks.running.read
     + 8 * bit marks.running.write
@@ -26,7 +26,7 @@ marks_of n =
       running = record { read = n / 4 % 2 == 1; write = n / 8 % 2 == 1 };
     }
 
--- a byte below 16 is the number of the marks that it encodes
+-- each byte below 16 is the number of the marks that it encodes
 pub marks_number-marks_of : (n : ℕ) → n < 16 → marks_number (marks_of n) ≡ n
 marks_number-marks_of n small =
     omega (arith, bit_of n, bit_of (n / 2), bit_of (n / 4), bit_of (n / 8))

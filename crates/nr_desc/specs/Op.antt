@@ -17,24 +17,24 @@ use Rattle.nr_desc.specs.declared.op.DescAnswer.{DescAnswer}
 use Rattle.nr_desc.specs.declared.op.DescOp.{DescOp}
 use Rattle.nr_desc.specs.declared.op.DescOp.TheVariants as op
 
--- the answer and the change, or the first reason that applies
+-- the answer and the change, or the first reason for a refusal
 abbrev pub Outcome : Type 0
 Outcome = Result (Answer × Change) Refusal
 
--- the outcome of opening for a socket
+-- the outcome of opening the descriptor for a socket
 abbrev pub opened : ℕ → Descriptor → Outcome
 opened socket d = do
   left ← opened_for socket d
   Ok (Done, quiet left)
 
--- the descriptor closed, if its words show no waiter
+-- the descriptor after closing; refused if it wasn't evicted, or if its words show a waiter
 abbrev pub closed_by_words : Descriptor → Result Descriptor Refusal
 closed_by_words d = do
   refused_unless d.closing CloseWithoutUnblock
   refused_if (is_awaited d.words.read || is_awaited d.words.write) WaiterInside
   closed d
 
--- the outcome of closing
+-- the outcome of closing the descriptor
 abbrev pub close : Descriptor → Outcome
 close d = do
   left ← closed_by_words d
@@ -47,18 +47,19 @@ reset side d = do
   refused_if ((check side d == 0) && is_awaited (of_side side d.words)) WaiterInside
   Ok (Code (check side d), quiet (if check side d == 0 then with_wait_word side Nil d else d))
 
--- the outcome of arming a side with this word: it waits, or was already ready
+-- the outcome of arming a side that has this word: nil becomes wait, and ready is consumed
 abbrev pub armed_by : Side → WaitWord → Descriptor → Outcome
 armed_by side Nil d = Ok (Answer.Wait, quiet (with_wait_word side Wait d))
 armed_by side Ready d = Ok (Code 0, quiet (with_wait_word side Nil d))
 armed_by side _ d = Err DoubleWait
 
--- the result of committing goroutine g to its wait: the side's word holds g if it still waits
+-- the result of committing goroutine g to its wait: if the side's word is still wait, it now holds
+-- g
 abbrev pub committed_by : Side → ℕ → WaitWord → Descriptor → Answer × Change
 committed_by side g Wait d = (Yes, quiet (with_wait_word side (Held g) d))
 committed_by side g _ d = (No, quiet d)
 
--- the result of ending a wait: the answer is whether the side's word was ready, and the word
+-- the result of ending a wait: the answer says whether the side's word was ready, and the word
 -- becomes nil
 abbrev pub swapped_by : Side → WaitWord → Descriptor → Answer × Change
 swapped_by side Ready d = (Yes, quiet (with_wait_word side Nil d))
@@ -70,7 +71,7 @@ done changed = do
   change ← changed
   Ok (Done, change)
 
--- the result of a firing; a stale one changes nothing
+-- the result of a firing: a stale firing changes nothing
 abbrev pub fired : Option Change → Descriptor → Answer × Change
 fired None d = (Stale, quiet d)
 fired (Some change) d = (Done, change)

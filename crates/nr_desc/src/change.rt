@@ -1,5 +1,5 @@
-//! The changes that operations make: a descriptor, the orders to its timers, and the goroutines that are woken. There
-//! is at most one order and one goroutine per side, reading first.
+//! The changes that operations make: a descriptor, the orders to its timers, and the goroutines
+//! that are woken. Each side has at most one order and one woken goroutine; reading comes first.
 
 ghost use Rattle.std.specs.Prelude.{◌≡◌, IsTrue, None};
 ghost use Rattle.nr_rev.specs.Descriptor as spec;
@@ -24,7 +24,7 @@ pub(crate) struct Followed {
     pub(crate) order: Option<TimerOrder>,
 }
 
-/// Returns the change to this descriptor without orders and without waking a goroutine.
+/// Returns the change to this descriptor that gives no orders and wakes no goroutine.
 #[inline(always)]
 pub(crate) fn quiet(desc: Desc) -> DescChange
     ensures viewed { change_view result ≡ spec.quiet desc }
@@ -66,8 +66,8 @@ impl DescChange {
     }
 }
 
-/// Applies an event of the poller (Go's `netpollready`): the descriptor gets the event's error, and the named sides
-/// become ready.
+/// Applies an event of the poller (Go's `netpollready`): the descriptor gets the event's error
+/// flag, and the sides that the mode names become ready.
 pub(crate) fn change_by_event(mode: Mode, error: bool, desc: Desc) -> DescChange
     ensures viewed { change_view result ≡ spec.change_by_event mode error desc }
     ensures woken { result.woken ≡ both_let_go desc.words result.desc.words }

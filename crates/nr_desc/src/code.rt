@@ -10,7 +10,7 @@ ghost use Rattle.nr_desc.specs.Auxiliary.Code.{code_of};
 use nr_rev::WaitWord;
 use std::marker::Model;
 
-/// A wait word as a number. Contracts see it as the word.
+/// A wait word as a number. Contracts see the word that it encodes.
 #[derive(Clone, Copy, Debug, PartialEq, Eq)]
 pub(crate) struct WordCode(u32);
 
@@ -53,7 +53,7 @@ impl WordCode {
         WordCode(2)
     }
 
-    /// Returns the code of a goroutine.
+    /// Returns the code of a word that holds this goroutine.
     #[inline(always)]
     pub(crate) fn held(goroutine: u32) -> WordCode
         requires { goroutine + 3 < 2 ^ 32 }

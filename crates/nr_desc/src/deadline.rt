@@ -14,7 +14,7 @@ use nr_rev::{
     Mode, Refusal, Side, Sides, TimerFunction, TimerOrder, deadline_from, raised_sequence,
 };
 
-/// Returns the descriptor with a deadline for the sides that a mode names.
+/// Returns the descriptor with a new deadline for the sides that a mode names.
 #[inline(always)]
 fn with_deadlines(mode: Mode, deadline: i64, desc: Desc) -> Desc
     ensures { result ≡ spec.with_deadlines mode deadline desc }
@@ -35,7 +35,7 @@ fn with_deadlines(mode: Mode, deadline: i64, desc: Desc) -> Desc
     }
 }
 
-/// Returns the descriptor with a deadline, counted from now, for the sides that a mode names.
+/// Returns the descriptor with a new deadline, counted from now, for the sides that a mode names.
 #[inline(always)]
 fn with_deadlines_from(clock: i64, mode: Mode, time: i64, desc: Desc) -> Desc
     ensures { result ≡ spec.with_deadlines mode (spec.deadline_from clock time) desc }
@@ -43,7 +43,8 @@ fn with_deadlines_from(clock: i64, mode: Mode, time: i64, desc: Desc) -> Desc
     with_deadlines(mode, deadline_from(clock, time), desc)
 }
 
-/// Returns whether a side's deadline needs a timer of its own. The write deadline needs none under combo.
+/// Returns whether a side's deadline needs its own timer. The write deadline needs none if it is
+/// the same as the read deadline.
 #[inline(always)]
 fn wants_timer(side: Side, desc: Desc) -> bool
     ensures { result ≡ spec.wants_timer side desc }
@@ -54,7 +55,8 @@ fn wants_timer(side: Side, desc: Desc) -> bool
     }
 }
 
-/// Returns the function of a side's timer. Under combo the read timer serves both sides.
+/// Returns the function of a side's timer. If both deadlines are the same, the read timer serves
+/// both sides.
 #[inline(always)]
 fn timer_function(side: Side, desc: Desc) -> TimerFunction
     ensures { result ≡ spec.timer_function side desc }
@@ -96,7 +98,7 @@ fn is_same_time(time: i64, other: i64) -> bool
     time == other
 }
 
-/// Returns whether two marks are equal.
+/// Returns whether two truth values are equal.
 #[inline(always)]
 fn is_same_mark(mark: bool, other: bool) -> bool
     ensures { result ≡ spec.same_bool mark other }
@@ -104,7 +106,8 @@ fn is_same_mark(mark: bool, other: bool) -> bool
     mark == other
 }
 
-/// Returns whether a side's deadline and combo are unchanged.
+/// Returns whether a side's deadline is unchanged, and one timer still serves both sides or still
+/// doesn't.
 #[inline(always)]
 fn is_unmoved(side: Side, old: Desc, desc: Desc) -> bool
     ensures { result
@@ -115,7 +118,8 @@ fn is_unmoved(side: Side, old: Desc, desc: Desc) -> bool
         && is_same_mark(old.is_combo(), desc.is_combo())
 }
 
-/// Returns the descriptor with the order for a side's timer after the deadlines changed from those of `old`.
+/// Returns the descriptor with the order, if any, that a side's timer needs after the deadlines
+/// changed from those of `old`.
 #[inline(always)]
 fn timer_follows(side: Side, old: Desc, desc: Desc) -> Result<Followed, Refusal>
     ensures viewed { Gives followed_view result (spec.timer_follows side old desc) }
@@ -160,7 +164,8 @@ impl DescChange {
     }
 }
 
-/// Returns the orders for both timers after the deadlines changed from those of `old`, reading first.
+/// Returns the orders that the timers of both sides need, reading first, after the deadlines
+/// changed from those of `old`.
 #[inline(always)]
 fn both_follow(old: Desc, desc: Desc) -> Result<DescChange, Refusal>
     ensures viewed { Gives change_view result (auxiliary.both_follow old desc) }
@@ -182,8 +187,8 @@ fn both_follow(old: Desc, desc: Desc) -> Result<DescChange, Refusal>
     })
 }
 
-/// Sets a deadline (Go's `poll_runtime_pollSetDeadline`): the timers follow, reading first, and the sides whose
-/// deadline has passed are unblocked.
+/// Sets a deadline (Go's `poll_runtime_pollSetDeadline`): adjusts the timers, reading first, and
+/// unblocks the sides whose deadline has passed.
 pub(crate) fn change_by_deadline(
     clock: i64,
     mode: Mode,

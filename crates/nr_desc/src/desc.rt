@@ -1,4 +1,4 @@
-//! A descriptor, the calls that read it, and changes of its fields.
+//! A descriptor, with methods that read it and methods that change its fields.
 
 ghost use Rattle.std.specs.Prelude.{◌≡◌, ◌==◌, ◌<◌, ◌^◌, pos};
 ghost use Rattle.nr_rev.specs.Descriptor as spec;
@@ -157,7 +157,7 @@ impl Desc {
         self.sequences.of(side)
     }
 
-    /// Returns the tag, which identifies stale events.
+    /// Returns the tag, by which stale events are recognized.
     #[inline(always)]
     pub fn fdseq(&self) -> u64
         ensures { result ≡ self.now.fdseq }
@@ -210,7 +210,7 @@ impl Desc {
         self.deadlines.of(side) < 0
     }
 
-    /// Returns whether both sides have one deadline, which is still to come.
+    /// Returns whether both sides have the same deadline, and it is in the future.
     #[inline(always)]
     pub(crate) fn is_combo(&self) -> bool
         ensures { result ≡ spec.is_combo self.now }
@@ -218,7 +218,7 @@ impl Desc {
         self.deadlines.read > 0 && self.deadlines.read == self.deadlines.write
     }
 
-    /// Returns the descriptor with another word at a side.
+    /// Returns the descriptor with a new word on a side.
     #[inline(always)]
     pub(crate) fn with_wait_word(self, side: Side, word: WordCode) -> Desc
         ensures { result ≡ spec.with_wait_word side word self }

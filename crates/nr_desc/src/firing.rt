@@ -47,7 +47,7 @@ impl DescChange {
     }
 }
 
-/// Returns whether a side that a function covers waits for its timer.
+/// Returns whether each side that the function covers has a future deadline, and the timer runs.
 #[inline(always)]
 fn is_timed(function: TimerFunction, desc: Desc) -> bool
     ensures { result ≡ spec.is_timed function desc }
@@ -60,7 +60,7 @@ fn is_timed(function: TimerFunction, desc: Desc) -> bool
     }
 }
 
-/// Runs a firing (Go's `netpolldeadlineimpl`), or returns `None` if its sequence is no longer the descriptor's.
+/// Runs a firing (Go's `netpolldeadlineimpl`), or returns `None` if its sequence is out of date.
 pub(crate) fn change_by_firing(
     function: TimerFunction,
     sequence: u64,

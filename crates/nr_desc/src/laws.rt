@@ -1,4 +1,4 @@
-//! Laws about woken goroutines, the numbers that store a descriptor, and the undo.
+//! Laws about woken goroutines, codes of words, bytes of marks, and the undo.
 
 ghost use Rattle.std.specs.Prelude.{◌≡◌, ◌<◌, ℕ, Some};
 ghost use Rattle.nr_rev.specs.Sides.{of_side};
@@ -21,8 +21,8 @@ pub fn the_woken_were_held()
         → of_side side old.words ≡ Held g }
 {}
 
-/// Each number is the code of exactly one word, and each word has exactly one code. Likewise for bytes below 16 and
-/// marks.
+/// Each number is the code of exactly one word, and each word has exactly one code. The same holds
+/// for bytes below 16 and marks.
 pub fn numbers_are_words_and_marks()
     ensures code { (n : ℕ) → code_of (wait_word_of n) ≡ n }
     ensures word { (word : WaitWord) → wait_word_of (code_of word) ≡ word }

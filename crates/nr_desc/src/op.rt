@@ -5,7 +5,7 @@ ghost use Rattle.std.specs.Prelude.{◌≡◌, ◌++◌, ◌<◌, option_to_list
 use nr_rev::{Answer, MOST_GOROUTINES, Mode, Side, Sides, TimerFunction, TimerOrder};
 use std::marker::Model;
 
-/// The number of a goroutine, below the maximum. Contracts see it as the number.
+/// A goroutine's number, below the greatest limit of goroutines. Contracts see a plain number.
 #[derive(Clone, Copy, Debug, PartialEq, Eq)]
 pub struct Goroutine(u32);
 
@@ -56,14 +56,14 @@ pub enum DescOp {
     Reset(Side),
     /// Checks whether anything prevents a wait (Go's `netpollcheckerr`). Answers `Code`.
     Check(Side),
-    /// Makes a side's word wait, or takes its readiness if it is ready (the first half of Go's `netpollblock`). Answers
-    /// `Wait`, or `Code(0)` if it was ready.
+    /// Makes a side's word wait, or consumes it if it is ready (the first half of Go's
+    /// `netpollblock`). Answers `Wait`, or `Code(0)` if it was ready.
     Arm(Side),
-    /// Makes a side's waiting word hold the goroutine (Go's `netpollblockcommit`). Answers `Yes`, or `No` if the word
-    /// doesn't wait.
+    /// Makes a side's word hold the goroutine, if the word is wait (Go's `netpollblockcommit`).
+    /// Answers `Yes`, or `No` if the word isn't wait.
     Commit(Side, Goroutine),
-    /// Resets a side's word (the second half of Go's `netpollblock`). Answers `Yes` if it was ready, and otherwise
-    /// `No`.
+    /// Makes a side's word nil (the second half of Go's `netpollblock`). Answers `Yes` if it was
+    /// ready, and otherwise `No`.
     Swap(Side),
     /// Sets a deadline (Go's `poll_runtime_pollSetDeadline`). Answers `Done`, with the orders to the timers and the
     /// woken goroutines.
@@ -72,7 +72,8 @@ pub enum DescOp {
         clock: i64,
         /// The sides of the deadline.
         mode: Mode,
-        /// The deadline: positive if it is to come, counted from now; negative if it has passed; 0 for none.
+        /// The deadline: positive and counted from now if it is in the future, negative if it has
+        /// passed, 0 for none.
         time: i64,
     },
     /// Marks the descriptor as closing (Go's `poll_runtime_pollUnblock`). Answers `Done`, with the orders to the timers
@@ -85,8 +86,8 @@ pub enum DescOp {
         /// The sequence with which the timer was armed.
         sequence: u64,
     },
-    /// Applies an event of the poller (Go's `netpollready`). Answers `Done` with the woken goroutines, or `Stale` if
-    /// the tag is another.
+    /// Applies an event of the poller (Go's `netpollready`). Answers `Done` with the woken
+    /// goroutines, or `Stale` if the tag is out of date.
     Event {
         /// The event's tag.
         tag: u64,
@@ -121,7 +122,8 @@ impl Orders {
         Orders { sides }
     }
 
-    /// Returns the order to each side's timer, if there is one. They are carried out reading first.
+    /// Returns the order to each side's timer, if there is one. The order for reading is carried
+    /// out first.
     #[inline(always)]
     pub fn sides(&self) -> Sides<Option<TimerOrder>>
         ensures { self.now ≡ option_to_list result.read ++ option_to_list result.write }
@@ -137,7 +139,7 @@ pub struct DescAnswer {
     pub answer: Answer,
     /// The orders to its timers.
     pub orders: Orders,
-    /// The goroutine that is woken at each side, if any: the one that the side's word held. They are woken reading
-    /// first.
+    /// The goroutine that is woken at each side, if any: the one that the side's word held. The one
+    /// for reading is woken first.
     pub woken: Sides<Option<u32>>,
 }

@@ -1,4 +1,4 @@
-//! Opening and closing, and increasing numbers by one.
+//! Opening, closing and evicting a descriptor.
 
 ghost use Rattle.std.specs.Prelude.{◌≡◌, IfOk, option_to_list};
 ghost use Rattle.nr_rev.specs.Descriptor as spec;
@@ -43,7 +43,8 @@ impl Desc {
         })
     }
 
-    /// Returns the descriptor closed (Go's `poll_runtime_pollClose`), using only its marks and words.
+    /// Returns the closed descriptor (Go's `poll_runtime_pollClose`). Only its marks and words
+    /// decide whether it may be closed.
     #[inline(always)]
     pub(crate) fn closed(self) -> Result<Desc, Refusal>
         ensures { Gives viewed_as_it_is result (closed_by_words self) }
@@ -60,8 +61,8 @@ impl Desc {
     }
 }
 
-/// Evicts a descriptor (Go's `poll_runtime_pollUnblock`): it is closing, its timers are stopped, and both sides are
-/// unblocked.
+/// Evicts a descriptor (Go's `poll_runtime_pollUnblock`): marks it as closing, stops its timers,
+/// and unblocks both sides.
 pub(crate) fn change_by_evict(desc: Desc) -> Result<DescChange, Refusal>
     ensures viewed { Gives change_view result (spec.change_by_evict desc) }
     ensures woken { IfOk result (λ change. change.woken ≡ both_let_go desc.words change.desc.words) }

@@ -40,7 +40,7 @@ pub(crate) struct Made {
     pub(crate) change: DescChange,
 }
 
-/// Returns an answer without orders and without waking a goroutine.
+/// Returns an answer that gives no orders and wakes no goroutine.
 #[inline(always)]
 fn made_quiet(answer: Answer, desc: Desc) -> Made
     ensures viewed { made_view result ≡ (answer, spec.quiet desc) }

@@ -39,7 +39,8 @@ impl Desc {
         })
     }
 
-    /// Makes a side's word wait, or takes its readiness if it is ready (the first half of Go's `netpollblock`).
+    /// Makes a side's word wait, or consumes it if it is ready (the first half of Go's
+    /// `netpollblock`).
     #[inline(always)]
     pub(crate) fn arm(self, side: Side) -> Result<Answered, Refusal>
         ensures { Gives answered_view result (spec.armed_by side (sides.of_side side self.words) self) }
@@ -57,7 +58,7 @@ impl Desc {
         }
     }
 
-    /// Makes a side's waiting word hold the goroutine (Go's `netpollblockcommit`).
+    /// Makes a side's word hold the goroutine, if the word is wait (Go's `netpollblockcommit`).
     #[inline(always)]
     pub(crate) fn commit(self, side: Side, goroutine: u32) -> Answered
         requires { goroutine + 3 < 2 ^ 32 }
@@ -76,7 +77,7 @@ impl Desc {
         }
     }
 
-    /// Resets a side's word (the second half of Go's `netpollblock`).
+    /// Makes a side's word nil (the second half of Go's `netpollblock`).
     #[inline(always)]
     pub(crate) fn swap(self, side: Side) -> Answered
         ensures { answered_view result ≡ spec.swapped_by side (sides.of_side side self.words) self }

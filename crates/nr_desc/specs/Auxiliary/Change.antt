@@ -13,18 +13,18 @@ use Rattle.nr_desc.specs.declared.waiting.Answered.{Answered}
 use Rattle.nr_desc.specs.declared.reversible.Made.{Made}
 use Rattle.nr_desc.specs.Change.{listed}
 
--- the goroutine that a word held before and doesn't hold after
+-- the goroutine that a word held before a change but doesn't hold after it
 abbrev pub let_go : WaitWord → WaitWord → Option ℕ
 let_go (Held g) (Held h) = None
 let_go (Held g) after = Some g
 let_go before after = None
 
--- the goroutines that the words of both sides held before and don't hold after
+-- the goroutines that the words of both sides held before a change but don't hold after it
 abbrev pub both_let_go : Sides WaitWord → Sides WaitWord → Sides (Option ℕ)
 both_let_go before after =
     record { read = let_go before.read after.read; write = let_go before.write after.write }
 
--- the change that a packed one encodes
+-- the change that a `DescChange` encodes
 abbrev pub change_view : DescChange → Change
 change_view c =
     record {
@@ -33,22 +33,22 @@ change_view c =
       woken = listed c.woken;
     }
 
--- the change that a packed one with at most one order encodes; it wakes no goroutine
+-- the change that a `Followed` encodes: it has at most one order and wakes no goroutine
 abbrev pub followed_view : Followed → Change
 followed_view f = record { descriptor = f.desc; orders = option_to_list f.order; woken = [] }
 
--- the new word, and the goroutines that are woken
+-- the new word and the list of woken goroutines in an `Unblocked`
 abbrev pub unblocked_view : Unblocked → WaitWord × List ℕ
 unblocked_view u = (u.word, option_to_list u.woken)
 
--- the answer, and a change of the descriptor only
+-- the answer in an `Answered`, and its change, which gives no orders and wakes no goroutine
 abbrev pub answered_view : Answered → Answer × Change
 answered_view a = (a.answer, quiet a.desc)
 
--- the answer and the change
+-- the answer and the change in a `Made`
 abbrev pub made_view : Made → Answer × Change
 made_view m = (m.answer, change_view m.change)
 
--- a descriptor as it is
+-- the view of a descriptor as itself
 abbrev pub viewed_as_it_is : Descriptor → Descriptor
 viewed_as_it_is d = d

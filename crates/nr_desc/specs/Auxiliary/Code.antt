@@ -12,11 +12,11 @@ code_of Ready = 1
 code_of Wait = 2
 code_of (Held g) = g + 3
 
--- the word of a code
+-- the word with this code
 abbrev pub wait_word_of : ℕ → WaitWord
 wait_word_of n =
     if n == 0 then Nil else (if n == 1 then Ready else (if n == 2 then Wait else Held (n - 3)))
 
--- a number is the code of the word that it encodes
+-- each number is the code of the word that it encodes
 pub code_of-wait_word_of : (n : ℕ) → code_of (wait_word_of n) ≡ n
 code_of-wait_word_of n = grind (arith, nat_tests)

@@ -12,8 +12,8 @@ use Rattle.nr_desc.specs.declared.op.DescOp.TheVariants as op
 use Rattle.nr_desc.specs.declared.reversible.Made.{Made}
 use Rattle.nr_desc.specs.Op.{Outcome, left, outcome}
 
--- the goroutine that is woken at each side: the one that its word held before, if the operation
--- unblocks words
+-- the goroutine that is woken at each side: if the operation unblocks words, the one that the
+-- side's word held before but not after
 abbrev pub woken_by : DescOp → Descriptor → Descriptor → Sides (Option ℕ)
 woken_by (op.SetDeadline clock mode t) old new = both_let_go old.words new.words
 woken_by op.Evict old new = both_let_go old.words new.words
@@ -21,24 +21,24 @@ woken_by (op.Fire function sequence) old new = both_let_go old.words new.words
 woken_by (op.Event tag mode error) old new = both_let_go old.words new.words
 woken_by _ old new = twice None
 
--- the result is the operation's outcome and wakes the same goroutines; or it is the reason of its
--- refusal
+-- true if the result is the operation's outcome and wakes the goroutines that the operation
+-- unblocks, or is the reason why the operation is refused
 abbrev pub ComesTo : DescOp → Descriptor → Result Made Refusal → Type 0
 ComesTo op old result =
     Gives made_view result (outcome old op)
     × IfOk result (λ made. made.change.woken ≡ woken_by op old made.change.desc)
 
--- the operation applies, with this answer and this resulting descriptor
+-- true if the operation applies, with this answer and this resulting descriptor
 pub record StepTo (old : Descriptor) (op : DescOp) (answer : DescAnswer) (new : Descriptor) : Type 0
   where
     pub defined : outcome old op ≡ Ok (left answer new)
     pub woken : answer.woken ≡ woken_by op old new
 
--- the reason of a refusal
+-- the reason of an outcome that is a refusal
 abbrev pub refusal_of : Outcome → Option Refusal
 refusal_of (Ok left) = None
 refusal_of (Err reason) = Some reason
 
--- why an operation is refused
+-- the reason why an operation is refused, if it is
 abbrev pub desc_reason : Descriptor → DescOp → Option Refusal
 desc_reason d op = refusal_of (outcome d op)
