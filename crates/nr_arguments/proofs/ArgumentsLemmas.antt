@@ -4,25 +4,25 @@ use Rattle.clap.specs.Words.{Row, Text, first_of}
 use Rattle.nr_arguments.specs.Arguments.{Ask, IsPlain, asked_in, asked_on}
 use Rattle.clap.proofs.OnLiterals.{clap_on_literals}
 
--- two views of an option's value, as a pair
+-- two views of an option's value make a view of the pair
 pub both_views : {B X Y : Type 0} (f : B → X) (g : B → Y) (o : Option B) (x : X) (y : Y) → Some x ≡ option_map f o
     → Some y ≡ option_map (λ (p : X × Y). p.1) (option_map {U = X × Y} (λ b. (f b, g b)) o) → option_map {U = X × Y} (λ b. (f b, g b)) o ≡ Some (x, y)
 both_views f g None x y e h = cc
 both_views f g (Some b) x y e h = cc
 
--- a name with its file
+-- the selection by a subcommand's name and its file
 asked_in-file : (found : Option (Text × List Row)) (name : Text) (rows : List Row) (file : Text) → found ≡ Some (name, rows) → Some file ≡ first_of (codes "file") rows
     → asked_in found ≡ asked_on name rows file
 asked_in-file found name rows file is read = ap asked_in is ∙ ap (option_and_then (asked_on name rows)) (sym read)
 
--- the name is this word
+-- the selection if the subcommand's name is this word
 pub asked_in-word : {B : Type 0} (f : B → Text) (g : B → List Row) (o : Option B) (name : Text) (rows : List Row) (file word : Text) → Some name ≡ option_map f o
     → Some rows ≡ option_map (λ (p : Text × List Row). p.1) (option_map {U = Text × List Row} (λ b. (f b, g b)) o) → Some file ≡ first_of (codes "file") rows → name ≡ word
     → asked_in (option_map {U = Text × List Row} (λ b. (f b, g b)) o) ≡ asked_on word rows file
 asked_in-word f g o name rows file word named with_rows read is =
     asked_in-file _ name rows file (both_views f g o name rows named with_rows) read ∙ ap (λ (n : Text). asked_on n rows file) is
 
--- no selection without a file
+-- without a file, there is no selection
 pub asked_in-none : (found : Option (Text × List Row)) (name : Text) (rows : List Row) → found ≡ Some (name, rows) → None ≡ first_of (codes "file") rows → asked_in found ≡ None
 asked_in-none found name rows is read = ap asked_in is ∙ ap (option_and_then (asked_on name rows)) (sym read)
 

@@ -21,23 +21,24 @@ use Rattle.nr_arguments.specs.declared.arguments.ArgumentsFault.TheVariants as f
 abbrev pub file_rule : Rule
 file_rule = record (new_rule (codes "file")) { required = true }
 
--- the subcommand of this name, with its FILE
+-- the subcommand with this name, and its argument FILE
 abbrev pub file_program : Text → App
 file_program name = with_rule (new_app name) file_rule
 
--- an optional argument `--name`
+-- an optional argument `--NAME` with this name
 abbrev pub option_rule : Text → Rule
 option_rule name = record (new_rule name) { long = Some name }
 
--- the subcommand `serve`, with its FILE and its options
+-- the subcommand `serve`, with its argument FILE and its options
 abbrev pub serve_program : App
 serve_program =
     with_rule (with_rule (with_rule (with_rule (with_rule (file_program (codes "serve"))
     (option_rule (codes "port"))) (option_rule (codes "fronts"))) (option_rule (codes "workers")))
     (option_rule (codes "journal"))) (option_rule (codes "connections"))
 
--- `netrev run FILE`, `netrev check FILE`, `netrev upgrade FILE`, `netrev changes FILE`, `netrev
--- suspects FILE` and `netrev serve FILE --port P ..`, and no other subcommand
+-- the command line of netrev, which has the subcommands `netrev run FILE`, `netrev check FILE`,
+-- `netrev upgrade FILE`, `netrev changes FILE`, `netrev suspects FILE` and `netrev serve FILE
+-- --port P ..`
 abbrev pub netrev : App
 netrev =
     with_subcommand (with_subcommand (with_subcommand (with_subcommand (with_subcommand
@@ -54,11 +55,11 @@ abbrev pub number_or : Option ℕ → Option Text → Option ℕ
 number_or usual None = usual
 number_or usual (Some text) = result_ok (number_of text)
 
--- the number that the rows give for an option, or the default if they don't contain it
+-- the number that the rows have for an option, or the default if they don't contain the option
 abbrev pub number_in : Text → Option ℕ → List Row → Option ℕ
 number_in name usual rows = number_or usual (first_of name rows)
 
--- the parameters of a session, or none if one of the numbers is out of range
+-- the parameters of a session, or `None` if one of the numbers is out of range
 abbrev pub if_in_range : Sharing → Option Sharing
 if_in_range s = if is_in_range s then Some s else None
 
@@ -86,7 +87,8 @@ sharing_in rows =
 abbrev pub Asked : Type 0
 Asked = Text × Text × Option Sharing
 
--- the selection by a subcommand for a file; for `serve`, the rows must give parameters in range
+-- the selection by a subcommand and its file; for `serve`, the parameters in the rows must be in
+-- range
 abbrev pub asked_on : Text → List Row → Text → Option Asked
 asked_on name rows file =
     if bytes_eq name (codes "serve") then option_map (λ sharing. (name, file, Some sharing))
@@ -96,7 +98,7 @@ asked_on name rows file =
 abbrev pub asked_in : Option (Text × List Row) → Option Asked
 asked_in = option_and_then (λ p. option_and_then (asked_on p.0 p.1) (first_of (codes "file") p.1))
 
--- the selection that a program stands for
+-- the selection that corresponds to a program
 abbrev pub asked_of : Program → Asked
 asked_of (program.Run file) = (codes "run", file.now, None)
 asked_of (program.Check file) = (codes "check", file.now, None)
@@ -105,7 +107,7 @@ asked_of (program.Changes file) = (codes "changes", file.now, None)
 asked_of (program.Suspects file) = (codes "suspects", file.now, None)
 asked_of (program.Serve file sharing) = (codes "serve", file.now, Some sharing)
 
--- the arguments, starting with the program's own name, are a command line with this selection
+-- the arguments, which start with the program's own name, are a command line with this selection
 pub record Ask (arguments : List Text) (asked : Asked) : Type 0 where
   pub faultless : fault_of netrev arguments ≡ []
   pub is_asked : asked_in (subcommand_of netrev arguments) ≡ Some asked
@@ -133,7 +135,7 @@ abbrev pub IsArgumentsFault : List Text → ArgumentsFault → Type 0
 IsArgumentsFault arguments fault.Usage = (program : Program) → ¬ Asks arguments program
 IsArgumentsFault arguments (fault.Memory refused) = Unit {0}
 
--- the subcommand found selects this program, or no program
+-- the subcommand that was found selects this program, or selects no program
 abbrev pub IsNamed : Option (Text × List Row) → Option Program → Type 0
 IsNamed found None = (program : Program) → ¬ (asked_in found ≡ Some (asked_of program))
 IsNamed found (Some program) = asked_in found ≡ Some (asked_of program)

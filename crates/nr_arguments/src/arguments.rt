@@ -29,14 +29,14 @@ pub const USUAL_JOURNAL: u32 = 4_096;
 pub enum Program<'a> {
     /// Reads commands from standard input and writes replies to standard output.
     Run { file: &'a str },
-    /// Reads and loads the recording.
+    /// Checks whether the recording can be replayed.
     Check { file: &'a str },
-    /// Writes the recording in version 2, each step with the answer that it gives, to standard output.
+    /// Writes the recording in version 2, each step with its answer, to standard output.
     Upgrade { file: &'a str },
     /// Writes the cells that each step changed, with their values, to standard output.
     Changes { file: &'a str },
-    /// Writes what became of deadlines, the lost wake-ups, the goroutines that sleep on and the held references of
-    /// closed sockets to standard output.
+    /// Writes what happened to deadlines, the lost wake-ups, the sleepers and the held references
+    /// to closed sockets to standard output.
     Suspects { file: &'a str },
     /// Answers the commands of several callers, who share one session, over the loopback.
     Serve { file: &'a str, sharing: Sharing },
@@ -86,7 +86,7 @@ impl From<Error> for ArgumentsFault {
     }
 }
 
-// Returns the subcommand of this name, with its file.
+// Returns the subcommand with this name, and its argument FILE.
 fn file_command<'a>(alloc: Global, name: &'a str) -> Result<Command<'a>, AllocError>
     ensures app { IfOk result (λ command. app_of command ≡ file_program name.entry.now) }
     ensures local { IfOk result (λ command. (out-Command command).has_globals ≡ false) }
@@ -95,7 +95,7 @@ fn file_command<'a>(alloc: Global, name: &'a str) -> Result<Command<'a>, AllocEr
     Command::new(alloc, name).arg(file)
 }
 
-// Returns the subcommand with another optional argument.
+// Returns the subcommand with one more optional argument.
 fn with_option<'a>(
     alloc: Global,
     program: Command<'a>,
@@ -109,7 +109,7 @@ fn with_option<'a>(
     program.arg(Arg::new(alloc, name).long(name))
 }
 
-// Returns the subcommand `serve`, with its file and its options.
+// Returns the subcommand `serve`, with its argument FILE and its options.
 fn serve_command<'a>(alloc: Global) -> Result<Command<'a>, AllocError>
     ensures app { IfOk result (λ command. app_of command ≡ serve_program) }
     ensures local { IfOk result (λ command. (out-Command command).has_globals ≡ false) }
@@ -154,7 +154,7 @@ fn number_in(matches: &ArgMatches<'_>, name: &str, usual: Option<u32>) -> Option
     }
 }
 
-// Returns the parameters in the options, if they are in range.
+// Returns the parameters that the options specify, if they are in range.
 fn sharing_in(matches: &ArgMatches<'_>) -> Option<Sharing>
     ensures asked { result ≡ sharing_in (rows_of (found_of matches.now)) }
     ensures range { IfSome result (λ sharing. is_in_range sharing ≡ true) }
@@ -198,8 +198,8 @@ fn matched_program<'a>(matches: &ArgMatches<'a>) -> Option<Program<'a>>
     }
 }
 
-/// Reads the program's arguments, which start with its own name, and returns the program that they select. Fails with
-/// `Usage` if they select none, and with `Memory` if memory runs out.
+/// Reads the program's arguments, which start with its own name, and returns the program that they
+/// select. Fails with `Usage` if they select no program, and with `Memory` if memory runs out.
 pub fn read_words<'a>(
     alloc: Global,
     arguments: &'a [&'a str],
@@ -217,7 +217,8 @@ pub fn read_words<'a>(
     }
 }
 
-/// A subcommand's name and the name of its file, which doesn't begin with a hyphen, select that program.
+/// The name of a subcommand and the name of a file that doesn't begin with a hyphen select the
+/// subcommand's program.
 pub fn plain_arguments_ask()
     ensures run { (program file : List ℕ) → IsPlain file
         → Ask (program ∷ codes "run" ∷ file ∷ []) (codes "run", file, None) }

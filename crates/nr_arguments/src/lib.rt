@@ -1,4 +1,4 @@
-//! The program's arguments: which program they select, with which file and which numbers.
+//! The program's arguments: the program that they select, with its file and its numbers.
 #![tactic(auto)]
 
 mod arguments;

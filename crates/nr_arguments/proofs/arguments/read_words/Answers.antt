@@ -12,7 +12,7 @@ netrev_is_free : is_simple_and_free netrev ≡ true
 unfolding clap_on_literals
 netrev_is_free = refl
 
--- the command line has no fault, and the matches select the program
+-- the command line has no fault, and the matches select a program
 pub returns-in-Some-clause-ok : goal.returns-in-Some-clause-ok
 returns-in-Some-clause-ok c =
     let is : app_of c.in_ok-command.command ≡ netrev = c.in_ok-command.ensures in
