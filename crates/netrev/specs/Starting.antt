@@ -1,4 +1,4 @@
--- What a program does with its file, and what is printed if none runs.
+-- What a program does with its file, and what is printed if no program runs.
 use Rattle.std.specs.Prelude.{◌≡◌, ◌⊎◌, ℕ, List, ◌++◌, codes}
 use Rattle.std.specs.declared.io.ErrorKind.{ErrorKind}
 use Rattle.std.specs.declared.io.ErrorKind.TheVariants as kind
@@ -22,12 +22,12 @@ use Rattle.nr_arguments.specs.declared.arguments.Program.TheVariants as program
 use Rattle.nr_arguments.specs.declared.arguments.ArgumentsFault.{ArgumentsFault}
 use Rattle.nr_arguments.specs.declared.arguments.ArgumentsFault.TheVariants as arguments
 
--- the reason for a fault of the arguments
+-- why no program ran, given a fault of the arguments
 abbrev pub unstarted_of_arguments : ArgumentsFault → Unstarted
 unstarted_of_arguments arguments.Usage = unstarted.Usage
 unstarted_of_arguments (arguments.Memory refused) = unstarted.Memory refused
 
--- `Memory` if the error is lack of memory, and otherwise the other reason
+-- `Memory` if the error is lack of memory, and otherwise this other reason
 abbrev pub unstarted_by : ErrorKind → Unstarted → Unstarted
 unstarted_by kind.OutOfMemory other = unstarted.Memory refused_memory
 unstarted_by _ other = other
@@ -60,8 +60,9 @@ Plays (program.Suspects file) bytes input left before after old new status =
 Plays (program.Serve file sharing) bytes input left before after old new status =
     (left ≡ input) × ServesAll bytes sharing before after old new status
 
--- What is printed if no program runs: after a usage error, the usage text on standard error, whole
--- unless a write failed; if memory ran out, a fault on standard output; and otherwise nothing.
+-- What is printed if no program runs. After a usage error, it is the usage text on standard error,
+-- whole unless a write failed. If memory ran out, it is a fault on standard output. Otherwise
+-- nothing is printed.
 abbrev pub PrintsUnstarted : Unstarted → Outgoing → Outgoing → Outgoing → Outgoing → ExitStatus
     → Type 0
 PrintsUnstarted unstarted.Usage old new before after status =

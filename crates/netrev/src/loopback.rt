@@ -1,4 +1,4 @@
-//! Callers over the loopback.
+//! Callers over the loopback interface.
 
 ghost use Rattle.std.specs.Prelude.{◌≡◌, [], ◌∷◌, ◌++◌};
 
@@ -9,8 +9,9 @@ use std::net::{Ipv4Addr, Shutdown, SocketAddr, TcpListener, TcpStream};
 use std::num::NonZeroU32;
 use std::time::Duration;
 
-/// The time in milliseconds that a read waits after the last reply. It suffices for a caller that reads up to the end
-/// of the replies and closes, and a caller that stays silent doesn't delay the next one.
+/// The time in milliseconds that a read waits after the last reply. This is enough for a caller
+/// that reads up to the end of the replies and then closes, and so short that a silent caller
+/// doesn't delay the next caller.
 const FAREWELL: u64 = 100;
 
 /// The callers at a port, served one after the other.
@@ -18,7 +19,7 @@ const FAREWELL: u64 = 100;
 pub(crate) struct Callers {
     /// The listener, or `None` if the port couldn't be bound.
     listener: Option<TcpListener>,
-    /// The number of callers still to serve, if it is limited.
+    /// The number of callers that remain to be served, or `None` if it is unlimited.
     left: Option<u32>,
     /// The arrivals so far.
     log: Conversations,
@@ -36,7 +37,7 @@ impl Callers {
     fn accept(&self) -> Option<(TcpStream, TcpStream)> {
         let (reader, _) = self.listener.as_ref()?.accept().ok()?;
         let writer = reader.try_clone().ok()?;
-        // Replies are short, so they are sent at once; without this option they are sent later.
+        // Without this option, short replies like these are delayed.
         let _ = writer.set_nodelay(true);
         Some((reader, writer))
     }
@@ -75,7 +76,7 @@ pub(crate) struct Loopback<'a> {
     rt: &'a HostRuntime,
     /// The port of the first front.
     port: u32,
-    /// The number of callers after which each port closes, if it is limited.
+    /// The number of callers after which each port closes, or `None` if ports stay open.
     connections: Option<NonZeroU32>,
     /// The ports that were opened.
     log: Fronts,
@@ -100,7 +101,7 @@ impl<'a> Loopback<'a> {
         }
     }
 
-    // Listens at the port of a front.
+    // Listens on the port of a front.
     fn listen(&self, front: usize) -> Option<TcpListener> {
         let front = u32::try_from(front).ok()?;
         let port = u16::try_from(self.port.checked_add(front)?).ok()?;

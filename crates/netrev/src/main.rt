@@ -1,10 +1,11 @@
 //! Replays a recorded schedule of goroutines, sockets and timers forwards and backwards.
 //!
-//! `netrev run FILE` reads commands from standard input and writes replies to standard output. `netrev check FILE`
-//! reports whether the recording can be replayed. `netrev upgrade FILE` writes the recording with the answer of each
-//! step. `netrev changes FILE` writes the cells that each step changed. `netrev suspects FILE` writes what became of
-//! deadlines, the lost wake-ups, the goroutines that sleep on and the held references of closed sockets. `netrev serve
-//! FILE --port P` answers the commands of several callers, who share one session, over the loopback.
+//! `netrev run FILE` reads commands from standard input and writes replies to standard output.
+//! `netrev check FILE` reports whether the recording can be replayed. `netrev upgrade FILE` writes
+//! the recording with the answer of each step. `netrev changes FILE` writes the cells that each
+//! step changed. `netrev suspects FILE` writes what happened to deadlines, the lost wake-ups, the
+//! sleepers and the held references to closed sockets. `netrev serve FILE --port P` answers the
+//! commands of several callers, who share one session, over the loopback interface.
 #![tactic(auto)]
 
 mod loopback;
@@ -21,7 +22,7 @@ use std::process::ExitCode;
 use std::thread::Threads;
 use std::{env, fs};
 
-// Returns the process's arguments. An argument that isn't text makes them a usage error.
+// Returns the process's arguments. If an argument isn't valid text, it returns a usage error.
 fn collect_arguments(rt: &HostRuntime) -> Result<Vec<String>, Unstarted> {
     match env::args(rt) {
         Ok(args) => Ok(args.collect(rt.alloc())?),
@@ -29,8 +30,8 @@ fn collect_arguments(rt: &HostRuntime) -> Result<Vec<String>, Unstarted> {
     }
 }
 
-// Runs the program that the arguments select, with the process's streams and the ports of the loopback. `serve` starts
-// threads.
+// Runs the program that the arguments select, with the process's streams and with ports of the
+// loopback interface. `serve` starts threads.
 fn run_program<H: Threads + Sync>(rt: &HostRuntime, handles: &H) -> Result<ExitStatus, Unstarted> {
     let alloc = rt.alloc();
     let texts = collect_arguments(rt)?;

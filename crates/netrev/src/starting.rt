@@ -54,7 +54,8 @@ impl From<AllocError> for Unstarted {
 }
 
 impl Unstarted {
-    /// Returns the reason for an error of this kind: `Memory` for lack of memory, and otherwise `other`.
+    /// Returns why no program ran after an error of this kind: `Memory` for lack of memory, and
+    /// otherwise `other`.
     pub fn of_kind(kind: ErrorKind, other: Unstarted) -> Unstarted
         ensures { result ≡ unstarted_by kind other }
     {
@@ -67,8 +68,9 @@ impl Unstarted {
     /// Reports why no program ran. Writes the usage text to `errors` after a usage error, and `fault 108 memory` to the
     /// output if memory ran out. Writes nothing if the file couldn't be read.
     ///
-    /// Returns `Usage` after a usage error, even if the text couldn't be written whole; `Refused` if memory ran out;
-    /// and `StreamFailed` if the file couldn't be read or the write to the output failed.
+    /// Returns `Usage` after a usage error, even if the text couldn't be written whole, `Refused`
+    /// if memory ran out, and `StreamFailed` if the file couldn't be read or the write to the
+    /// output failed.
     pub fn tell<O: Write, E: Write>(self, output: &mut Sink<O>, errors: &mut Sink<E>) -> ExitStatus
         ensures { PrintsUnstarted self output.old output.new errors.old errors.new result }
     {
@@ -83,9 +85,9 @@ impl Unstarted {
     }
 }
 
-/// Runs the program on the result of reading its file. If that is an error, reads and writes nothing, and returns
-/// `Memory` for lack of memory and otherwise `File`. `ports` supplies the callers of `serve`; the other programs open
-/// none.
+/// Runs the program on the result of reading its file. If that is an error, reads and writes
+/// nothing, and fails with `Memory` for lack of memory and otherwise with `File`. `ports` supplies
+/// the callers of `serve`; the other programs open no ports.
 pub fn start<W, R, P, I, O>(
     rt: &R,
     alloc: Global,

@@ -4,7 +4,7 @@ use Rattle.netrev.specs.Starting.{usage_text}
 use Rattle.netrev.proofs.StartingLemmas.{prints_whole_or_part}
 use Rattle.netrev.proofs.starting.Unstarted.tell.Goals as goal
 
--- the printed text is the usage text
+-- the text that is printed is the usage text
 pub returns-in-Usage : goal.returns-in-Usage
 returns-in-Usage g c =
     let went = subst (λ text. Prints c.args.errors.now c.print-printed.new.self text c.print-printed.result) c.as_bytes.ensures.value c.print-printed.ensures in
