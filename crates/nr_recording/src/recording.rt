@@ -90,11 +90,11 @@ impl Recording {
     ghost use Rattle.nr_recording.specs.Auxiliary.Recording.{IsRecording, are_writable, recording_of};
     ghost use Rattle.nr_recording.specs.Version.{most_buffer};
 
-    /// Makes a recording from these limits, steps and answers: one answer for each step in version 2,
-    /// none in version 1. Fails with `Limit` if a limit is out of its range, and otherwise with
+    /// Makes a recording from these limits, steps and answers: one answer for each step in version
+    /// 2, none in version 1. Fails with `Limit` if a limit is out of its range, and otherwise with
     /// `TooManySteps` if there are more than 1,000,000 steps. Otherwise fails with `Step` if a step
-    /// carries more than 65,536 bytes, sets the clock below 0, or shuts a write side in version 1, or
-    /// if the number of answers is wrong. An error drops the steps. The ranges are 1 to 4,096
+    /// carries more than 65,536 bytes, sets the clock below 0, or shuts a write side in version 1,
+    /// or if the number of answers is wrong. An error drops the steps. The ranges are 1 to 4,096
     /// goroutines, 1 to 256 sockets and descriptors, and a buffer of 1 to 65,536 bytes in version 1
     /// and up to 1,048,576 in version 2.
     pub fn new(
