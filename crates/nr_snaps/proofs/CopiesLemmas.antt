@@ -5,7 +5,7 @@ use Rattle.std.proofs.lemmas.Nat.{le-div}
 use Rattle.std.specs.List.{slice_get}
 use Rattle.nr_rev.proofs.ListUpdateLemmas.{slice_get-push_cases}
 
--- a property of each item, and of one more
+-- if each item and a further one have a property, each item has it after that one is appended
 pub each-push : {X : Type 0} (P : ℕ → X → Type 0) (xs : List X) (x : X) → ((i : ℕ) (item : X) → slice_get xs i ≡ Some item → P i item) → P (length xs) x → (i : ℕ) (item : X)
     → slice_get (xs ++ x ∷ []) i ≡ Some item → P i item
 each-push P xs x each last i item read =
@@ -14,7 +14,7 @@ each-push P xs x each last i item read =
       | inr pushed ↦ subst (λ j. P j item) (sym pushed.0) (subst (λ y. P (length xs) y) pushed.1 last)
     ]
 
--- k goes into a greater number at least as often
+-- dividing by k preserves order
 pub div-mono : (m n k : ℕ) → 0 < k → m ≤ n → m / k ≤ n / k
 div-mono m n k some below =
     let whole = div-mul-le_self m k in

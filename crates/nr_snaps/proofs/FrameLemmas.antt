@@ -1,4 +1,4 @@
--- A replay has one state at each position, and its steps apply.
+-- A replay has only one state at each position, and its steps apply.
 use Rattle.std.proofs.Common.{◌≡◌, ℕ, zero, suc, ◌+◌, Ok, Some, refl, sym, ap, ◌∙◌, subst, arith, add-one}
 use Rattle.std.specs.Prelude.{IsOk}
 use Rattle.nr_rev.specs.Run.{Recording, world_at}
@@ -13,7 +13,7 @@ use Rattle.nr_snaps.specs.Film.{Reel, IsFrame}
 
 module _ {State : Type 0} (steps : State → Step → Answer → State → Type 0)
     (unique : (old : State) (op : Step) (a b : Answer) (new other : State) → steps old op a new → steps old op b other → (a ≡ b) × (new ≡ other)) (r : Recording) where
-  -- a step leads on from a state to only one other
+  -- a step turns a state into only one other state
   LeadsOn-unique : (n : ℕ) (old a b : State) → LeadsOn steps r n old a → LeadsOn steps r n old b → a ≡ b
   LeadsOn-unique n old a b p q =
       let both : Some p.step ≡ Some q.step = sym p.next ∙ q.next in
@@ -21,7 +21,7 @@ module _ {State : Type 0} (steps : State → Step → Answer → State → Type 
       let leads = subst (λ s. steps old s p.answer a) same p.leads in
       (unique old q.step p.answer q.answer a b leads q.leads).1
 
-  -- a replay has one state at each position
+  -- a replay has only one state at each position
   pub Replays-unique : (origin : State) (n : ℕ) (a b : State) → Replays steps r origin n a → Replays steps r origin n b → a ≡ b
   Replays-unique origin zero a b p q = p ∙ sym q
   Replays-unique origin (suc n) a b p q =
@@ -30,7 +30,7 @@ module _ {State : Type 0} (steps : State → Step → Answer → State → Type 
 
 module _ {State : Type 0} (is_well_formed : State → Type 0) (world : State → World) (steps : State → Step → Answer → State → Type 0)
     (steps_are : (old : State) (step : Step) (answer : Answer) (new : State) → steps old step answer new → outcome (world old) step ≡ Ok (answer, world new)) where
-  -- the state that the step after a frame leads on to is the next frame
+  -- applying the step after a frame makes the next frame
   pub IsFrame-next : (film : Reel State) (n : ℕ) (old new : State) → IsFrame is_well_formed world steps film n old → LeadsOn steps film.recording n old new → is_well_formed new
       → IsFrame is_well_formed world steps film (n + 1) new
   IsFrame-next film n old new frame leads fits =
@@ -39,7 +39,8 @@ module _ {State : Type 0} (is_well_formed : State → Type 0) (world : State →
         replays = rw add-one (old, frame.replays, leads);
       }
 
-  -- a step that leads on from a state with the position's world applies there, and leads to the next position's world
+  -- if a step changes a state that represents the world at n, it applies at n, and the new state
+  -- represents the world at n + 1
   pub LeadsOn-applies : (r : Recording) (n : ℕ) (old new : State) → world old ≡ world_at r n → LeadsOn steps r n old new → AppliesAt r n × (world new ≡ world_at r (n + 1))
   LeadsOn-applies r n old new there leads =
       let made = steps_are old leads.step leads.answer new leads.leads in
@@ -62,7 +63,7 @@ module _ {State : Type 0} (is_well_formed : State → Type 0) (world : State →
       let here = LeadsOn-applies r n h.0 state before.1 h.2 in
       (subst (IsGoodTo r) (add-one n) (IsGoodTo-next r n before.0 here.0), subst (λ m. world state ≡ world_at r m) (add-one n) here.1)
 
-  -- so do the steps before a frame of a film of this recording
+  -- the steps before a frame of a film of this recording apply
   pub IsFrame-good : (film : Reel State) (r : Recording) → film.recording ≡ r → IsWorldAt is_well_formed world r 0 film.origin → (n : ℕ) (state : State) → IsFrame is_well_formed world steps film n state → IsGoodTo r n
   IsFrame-good film r is origin n state frame =
       (Replays-good r film.origin n state origin.there (subst (λ r. Replays steps r film.origin n state) is frame.replays)).0

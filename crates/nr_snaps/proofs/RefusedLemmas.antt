@@ -13,7 +13,7 @@ use Rattle.nr_snaps.specs.Fault.{IsStepFault}
 use Rattle.nr_snaps.specs.declared.fault.LoadFault.{LoadFault}
 use Rattle.nr_snaps.specs.declared.fault.LoadFault.TheVariants as fault
 
--- a shorter beginning of a beginning is one of the whole
+-- taking n items of the first m items is taking the first n, if n < m
 take_of_take : {X : Type 0} (xs : List X) (n m : ℕ) → n < m → take n (take m xs) ≡ take n xs
 take_of_take xs zero (suc m) less = refl
 take_of_take [] (suc n) (suc m) less = refl
@@ -29,7 +29,7 @@ get_of_take xs n zero less = absurd (omega (arith, less))
 abbrev first : ℕ → Recording → Recording
 first n r = record r { steps = take n r.steps }
 
--- a refused step doesn't apply, and gives no answer
+-- a refused step doesn't apply
 refused_is_not_ok : (r : Recording) (n : ℕ) (step : Step) (reason : Refusal) → outcome (world_at r n) step ≡ Err reason → ¬ IsOk (outcome (world_at r n) step)
 refused_is_not_ok r n step reason refused ok = let no : false ≡ true = subst IsOk refused ok in absurd (grind (arith, no))
 
@@ -43,7 +43,7 @@ refused_gives_none r n given reason refused gives =
 pub good_is_not_refused : (r : Recording) (n : ℕ) (reason : Refusal) → IsRefusedAt r n reason → ¬ IsGood r
 good_is_not_refused r n reason refused good = refused_is_not_ok r n refused.step reason refused.refused (good n refused.step refused.next)
 
--- no refused step comes before the end of those that apply
+-- if the first m steps apply, a refused step isn't among them
 not_before : (r : Recording) (n m : ℕ) (reason : Refusal) → IsRefusedAt r n reason → IsGood (first m r) → ¬ (n < m)
 not_before r n m reason refused good less =
     let next = get_of_take r.steps n m less ∙ refused.next in
@@ -51,20 +51,21 @@ not_before r n m reason refused good less =
     let applies = subst (λ w. IsOk (outcome w refused.step)) there (good n refused.step next) in
     refused_is_not_ok r n refused.step reason refused.refused applies
 
--- an answer that differs doesn't agree
+-- if the first m steps give their recorded answers, a step that gives another answer isn't among
+-- them
 not_agreed : (r : Recorded) (n m : ℕ) → AnswersOtherwiseAt r n → AnswersAgreeTo r m → ¬ (n < m)
 not_agreed r n m other agree less =
     other.differs.2 (agree n other.given less other.gives other.differs.0 other.differs.1)
 
 -- ---- one fault
 
--- the place of a fault, counted from 0
+-- the number of the faulty step, counted from 0
 abbrev place : LoadFault → ℕ
 place (fault.Memory refused) = 0
 place (fault.Refused step reason) = step - 1
 place (fault.OtherAnswer step) = step - 1
 
--- all steps before it are right, and no longer beginning has only right steps
+-- true if the first n steps apply and answer as recorded, and no longer list of first steps does
 record StopsAt (r : Recorded) (n : ℕ) : Type 0 where
   before : IsGood (first n (run_of r))
   agree : AnswersAgreeTo r n

@@ -1,4 +1,4 @@
--- The answers that the steps of a run give, and their recorded answers.
+-- The answers that the steps of a run give, compared with their recorded answers.
 use Rattle.std.specs.Prelude.{◌≡◌, ◌≢◌, ℕ, ◌<◌, take, slice_get, Option, Some, None, option_and_then, Ok, Err}
 use Rattle.nr_recording.specs.Recording.{Recorded, run_of, recorded_at}
 use Rattle.nr_rev.specs.Run.{IsGood, Recording, world_at}
@@ -15,26 +15,26 @@ abbrev pub answer_at : Recording → ℕ → Option Answer
 answer_at r n =
     option_and_then (λ step. answer_of (outcome (world_at r n) step)) (slice_get r.steps n)
 
--- true if a step's recorded answer, if any, is the one that it gave
+-- true if the step has no recorded answer, or gave the recorded one
 abbrev pub Agrees : Option Answer → Answer → Type 0
 Agrees recorded given = (answer : Answer) → recorded ≡ Some answer → answer ≡ given
 
--- true if a step has a recorded answer other than the one that it gave
+-- true if the step has a recorded answer and gave another one
 abbrev pub Differs : Option Answer → Answer → Type 0
 Differs recorded given = (answer : Answer) × (recorded ≡ Some answer) × (answer ≢ given)
 
--- true if each of the first n steps gives its recorded answer, if it has one
+-- true if each of the first n steps that has a recorded answer gives that answer
 abbrev pub AnswersAgreeTo : Recorded → ℕ → Type 0
 AnswersAgreeTo r n = (k : ℕ) (given : Answer) → k < n → answer_at (run_of r) k ≡ Some given
     → Agrees (recorded_at r k) given
 
--- true if each step gives its recorded answer, if it has one
+-- true if each step that has a recorded answer gives that answer
 abbrev pub AnswersAgree : Recorded → Type 0
 AnswersAgree r = (k : ℕ) (given : Answer) → answer_at (run_of r) k ≡ Some given
     → Agrees (recorded_at r k) given
 
--- the first n steps apply and give their recorded answers, and the next one applies and gives
--- another answer
+-- true if the first n steps apply and give their recorded answers, and the next step applies and
+-- gives another answer
 pub record AnswersOtherwiseAt (r : Recorded) (n : ℕ) : Type 0 where
   pub before : IsGood (record (run_of r) { steps = take n (run_of r).steps })
   pub agree : AnswersAgreeTo r n

@@ -1,3 +1,3 @@
--- Auxiliary definitions. Each file continues the file of its name, which holds what laws rest on.
+-- Auxiliary definitions. Each file here adds helpers to the file of the same name.
 pub mod Answers
 pub mod Fault

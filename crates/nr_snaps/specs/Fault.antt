@@ -1,4 +1,4 @@
--- The reasons why a recording is not loaded.
+-- The reasons why a recording can't be loaded.
 use Rattle.std.specs.Prelude.{◌≢◌, ℕ, ◌-◌, ◌<◌, List, ◌++◌, codes, decimal}
 use Rattle.nr_recording.specs.Faults.{memory_text}
 use Rattle.nr_recording.specs.Recording.{Recorded, run_of}
@@ -8,9 +8,9 @@ use Rattle.nr_snaps.specs.Answers.{AnswersAgreeTo, AnswersOtherwiseAt}
 use Rattle.nr_snaps.specs.declared.fault.LoadFault.{LoadFault}
 use Rattle.nr_snaps.specs.declared.fault.LoadFault.TheVariants as fault
 
--- True if the steps before the one with this number, counted from 1, apply and give their recorded
--- answers, and that step is refused for the reason, which is not running out of memory; or it
--- applies and gives another answer than the recorded one.
+-- True if the fault is that of the step with this number, counted from 1. The earlier steps apply
+-- and give their recorded answers, and this step either is refused for the reason, which isn't
+-- running out of memory, or applies and gives an answer other than the recorded one.
 abbrev pub IsStepFault : Recorded → LoadFault → Type 0
 IsStepFault r (fault.Memory refused) = ⊥
 IsStepFault r (fault.Refused step reason) = (0 < step) × (reason ≢ out_of_memory)

@@ -1,4 +1,4 @@
--- A film: a recording whose steps all apply, with copies of its replay.
+-- A film: a recording whose steps all apply, with copies of states of its replay.
 use Rattle.std.specs.Prelude.{◌≡◌, ℕ, ◌+◌, ◌*◌, ◌/◌, ◌≤◌, List, length, slice_get, Some}
 use Rattle.nr_rev.specs.Run.{IsGood, Recording}
 use Rattle.nr_rev.specs.Auxiliary.Run.{IsWorldAt}
@@ -17,14 +17,14 @@ pub record Reel (State : Type 0) : Type 0 where
 
 module _ {State : Type 0} (is_well_formed : State → Type 0) (world : State → World)
     (steps : State → Step → Answer → State → Type 0) where
-  -- the state is exactly that of the replay at position n; it is well formed and represents the
-  -- position's world
+  -- true if the state is exactly that of the replay at position n, is well formed, and represents
+  -- the position's world
   pub record IsFrame (film : Reel State) (n : ℕ) (state : State) : Type 0 where
     pub is_at : IsWorldAt is_well_formed world film.recording n state
     pub replays : Replays steps film.recording film.origin n state
 
-  -- the copies after position 0: one at each multiple of `every` up to the end, which stores the
-  -- replay's state there
+  -- true if there is one copy at each multiple of `every` after position 0, up to the end, and each
+  -- copy stores the replay's state at its position
   pub record HasCopies {Snapshot : Type 0} (kept : Snapshot → State) (film : Reel State)
       (later : List Snapshot) : Type 0 where
     pub count : length later ≡ length film.recording.steps / film.every

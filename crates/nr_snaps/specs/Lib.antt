@@ -1,9 +1,9 @@
 -- what the laws of THEOREM.md rest on, whole files
 pub mod Answers
 pub mod Fault
--- what callers need besides
+-- what callers need as well
 pub mod Film
--- inner: what only definitions and proofs of this crate use
+-- inner: used only within this crate
 pub mod Replay
--- what goes on with the files that the laws rest on
+-- helpers for those definitions
 pub mod Auxiliary

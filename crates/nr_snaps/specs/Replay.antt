@@ -4,7 +4,7 @@ use Rattle.nr_rev.specs.Run.{Recording}
 use Rattle.nr_rev.specs.declared.answer.Answer.{Answer}
 use Rattle.nr_rev.specs.declared.step.Step.{Step}
 
--- true if the step after position n leads from the old state to the new one
+-- true if the step after position n turns the old state into the new one
 pub record LeadsOn {State : Type 0} (steps : State → Step → Answer → State → Type 0) (r : Recording)
     (n : ℕ) (old new : State) : Type 0 where
   pub step : Step
@@ -12,8 +12,7 @@ pub record LeadsOn {State : Type 0} (steps : State → Step → Answer → State
   pub answer : Answer
   pub leads : steps old step answer new
 
--- true if the first n steps of the recording lead, one after the other, from the origin to the
--- state
+-- true if applying the first n steps of the recording turns the origin into the state
 abbrev pub Replays : {State : Type 0} → (State → Step → Answer → State → Type 0) → Recording → State
     → ℕ → State → Type 0
 Replays steps r origin zero state = state ≡ origin

@@ -1,4 +1,4 @@
-//! The recording of a film with the answers of its steps.
+//! Makes the recording of a film with the answers of its steps.
 
 ghost use Rattle.std.specs.Prelude.{◌≡◌, IfOk};
 ghost use Rattle.nr_snaps.specs.Auxiliary.Answers.{answered};
@@ -11,8 +11,9 @@ impl<W: Worlds + Drop> Film<W>
 where
     W::Snapshot: Drop,
 {
-    /// Returns the recording of the film's steps in version 2, each with the answer that it gives, whichever version
-    /// was loaded. It takes memory for a world, for the lists of steps and answers, and for the bytes in steps.
+    /// Returns a recording in version 2 of the film's steps, each with the answer that it gives,
+    /// even if a recording in version 1 was loaded. Allocates memory for a world, for the lists of
+    /// steps and answers, and for the bytes in steps. Fails if memory runs out.
     pub fn with_answers(&self) -> Result<Recording, Memory>
         ensures { IfOk result (λ recorded. recorded ≡ answered self.now.recording) }
     {

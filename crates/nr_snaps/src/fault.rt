@@ -1,4 +1,4 @@
-//! The reasons why a recording is not loaded.
+//! The reasons why a recording can't be loaded.
 
 ghost use Rattle.std.specs.Prelude.{◌≡◌};
 ghost use Rattle.nr_rev.specs.Refusing.{refused_memory};
@@ -12,14 +12,14 @@ use std::alloc::AllocError;
 use std::io::Write;
 use thiserror::Error;
 
-/// The reason why a recording is not loaded.
+/// The reason why a recording can't be loaded.
 #[derive(Clone, Copy, Debug, PartialEq, Eq, Error)]
 pub enum LoadFault {
-    /// The step with this number, counted from 1, does not apply after the ones before it.
+    /// The step with this number, counted from 1, does not apply after the earlier steps.
     #[error("step {step}: fault 107 reason {}", .reason.number())]
     Refused { step: usize, reason: Refusal },
-    /// The step with this number, counted from 1, applies after the ones before it, but its answer differs from the
-    /// recorded one.
+    /// The step with this number, counted from 1, applies after the earlier steps, but its answer
+    /// differs from the recorded one.
     #[error("step {step}: fault 109 answer")]
     OtherAnswer { step: usize },
     /// Memory ran out for the world that replays the steps, for a copy of it, or for the list of copies.
@@ -27,8 +27,8 @@ pub enum LoadFault {
     Memory(Memory),
 }
 
-/// The text is a line such as `step 5: fault 107 reason 2`, in which the reason is the number of the refusal; `step 5:
-/// fault 109 answer`; or `fault 108 memory`.
+/// The text is one line: `step 5: fault 107 reason 2`, where 2 is the number of the refusal,
+/// `step 5: fault 109 answer`, or `fault 108 memory`.
 impl Text for LoadFault {
     ghost text = { load_fault_line };
 

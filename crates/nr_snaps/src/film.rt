@@ -14,14 +14,15 @@ use nr_rev::{Answer, Memory, Refusal, Step, Worlds};
 use std::alloc::Global;
 use std::marker::Model;
 
-/// The fewest steps between two copies.
+/// The minimum number of steps between two copies.
 pub const LEAST_EVERY: usize = 64;
 
-/// The most steps between two copies.
+/// The maximum number of steps between two copies.
 pub const MOST_EVERY: usize = 65_536;
 
-/// A recording whose steps all apply, with a copy of its world at position 0 and after each `every` steps, up to the
-/// end. The copies after position 0 are snapshots, which hold the contents only. No call changes a film.
+/// A recording whose steps all apply, with a copy of its world at position 0 and after every
+/// `every` steps, up to the end. The copies after position 0 are snapshots, which store only the
+/// contents, without unused room. No call changes a film.
 #[derive(Drop)]
 pub struct Film<W: Worlds + Drop>
 where
@@ -76,7 +77,8 @@ where
         self.every
     }
 
-    /// Returns the step after position n: `step(0)` is the first one. Returns `None` from the end on.
+    /// Returns the step after position n: `step(0)` is the first one. Returns `None` at the end of
+    /// the recording and beyond.
     pub fn step(&self, n: usize) -> Option<&Step>
         ensures { option_copied result ≡ slice_get self.now.recording.steps n }
     {
@@ -90,7 +92,7 @@ where
         &self.start
     }
 
-    /// Returns the copy at position n, or the nearest one below it. It takes no memory.
+    /// Returns the copy at position n, or the nearest copy before n. Allocates no memory.
     pub fn snap_below(&self, n: usize) -> &W::Snapshot
         requires { n ≤ length self.now.recording.steps }
         ensures { IsFrame W.is_well_formed W.world W.steps self.now
@@ -104,7 +106,8 @@ where
         }
     }
 
-    /// Makes the world of the copy at position n, or of the nearest one below it, with memory of its own.
+    /// Makes a world, with memory of its own, that is equal to the copy at position n, or to the
+    /// nearest copy before n. Fails if memory runs out.
     pub fn world_below(&self, n: usize) -> Result<W, Memory>
         requires { n ≤ length self.now.recording.steps }
         ensures { IfOk result (λ world. IsFrame W.is_well_formed W.world W.steps self.now
@@ -113,8 +116,9 @@ where
         W::restored(self.snap_below(n))
     }
 
-    /// Restores into a world the copy at position n, or the nearest one below it. If the world has the limits of the
-    /// copy, its room is reused and no memory is taken. If memory runs out, the world stays as it is.
+    /// Makes a world equal to the copy at position n, or to the nearest copy before n. If the world
+    /// has the limits of the copy, reuses its memory and allocates none. If memory runs out, the
+    /// world is unchanged.
     pub fn restore_below(&self, world: &mut W, n: usize) -> Result<(), Memory>
         requires within { n ≤ length self.now.recording.steps }
         requires well_formed { W.is_well_formed world.old }
@@ -125,9 +129,9 @@ where
         world.restore(self.snap_below(n))
     }
 
-    /// Leads a world from position n to the next one, and stores the delta that undoes the step in `delta`. Only a step
-    /// that takes bytes out of a buffer can run out of memory; then the world stays as it is, and `delta` may hold
-    /// anything.
+    /// Moves a world from position n to the next position, and stores the delta that undoes the
+    /// step in `delta`. Only a step that removes bytes from a buffer can run out of memory. If that
+    /// happens, the world is unchanged, and `delta` may contain anything.
     #[inline(always)]
     pub fn apply(&self, world: &mut W, n: usize, delta: &mut W::Delta) -> Result<(), Memory>
         requires frame { IsFrame W.is_well_formed W.world W.steps self.now n world.old }
@@ -147,8 +151,8 @@ where
         }
     }
 
-    /// Leads a world from position n to the next one, and returns the answer of the step. It stores no delta and takes
-    /// no memory.
+    /// Moves a world from position n to the next position, and returns the answer of the step.
+    /// Stores no delta and allocates no memory.
     #[inline(always)]
     pub fn advance(&self, world: &mut W, n: usize) -> Answer
         requires frame { IsFrame W.is_well_formed W.world W.steps self.now n world.old }

@@ -1,4 +1,4 @@
-//! Laws of the definitions.
+//! Laws about the crate's definitions.
 
 ghost use Rattle.std.specs.Prelude.{◌≡◌, ℕ};
 ghost use Rattle.nr_rev.specs.Run.{IsGood, Recording};
@@ -12,7 +12,8 @@ ghost use Rattle.nr_snaps.specs.declared.film.TheConstants.{LEAST_EVERY, MOST_EV
 
 use nr_rev::Worlds;
 
-/// A film has one state at each position: two replays that end there have exactly the same state.
+/// A film has only one state at each position: two replays that end there have exactly the same
+/// state.
 pub fn a_position_has_one_frame<W: Worlds>()
     ensures { (film : Reel W) (n : ℕ) (a b : W)
         → IsFrame W.is_well_formed W.world W.steps film n a
@@ -25,14 +26,16 @@ pub fn the_numbers()
     ensures most { MOST_EVERY ≡ 65536 }
 {}
 
-/// If a recording has a fault at a step, not all of its steps apply and give their recorded answers, and it has no
-/// other fault. So `load` reports exactly the step and the reason.
+/// If a recording has a fault at a step, not all of its steps apply and give their recorded
+/// answers, and the recording has no other fault. So the step and the reason that `load` reports
+/// are the only ones.
 pub fn a_recording_has_one_fault()
     ensures bad { (r : Recorded) (fault : LoadFault) → IsStepFault r fault → ¬ (IsGood (run_of r) × AnswersAgree r) }
     ensures exact { (r : Recorded) (fault other : LoadFault) → IsStepFault r fault → IsStepFault r other → fault ≡ other }
 {}
 
-/// A recording with answers has the same run. So it loads as the same film, and adding answers again changes nothing.
+/// Adding answers to a recording doesn't change its run. So it loads as the same film, and adding
+/// answers again changes nothing.
 pub fn answers_leave_the_run()
     ensures { (r : Recording) → run_of (answered r) ≡ r }
 {}

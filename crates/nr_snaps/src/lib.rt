@@ -1,7 +1,8 @@
-//! Loads a recording: replays its steps once, and keeps copies of the world on the way.
+//! Loads a recording: replays its steps once, and keeps copies of the world along the way.
 //!
-//! A film is a recording whose steps all apply, with a copy of the world at position 0 and after each `every` steps.
-//! Each copy is exactly the state that the replay reached, not just one that represents the same world.
+//! A film is a recording whose steps all apply, with a copy of the world at position 0 and after
+//! every `every` steps. Each copy is exactly the state that the replay reached, not just one that
+//! represents the same world.
 #![tactic(auto)]
 
 mod answers;

@@ -1,4 +1,4 @@
-//! Replays a recording once, and keeps copies of the world on the way.
+//! Replays a recording once, and keeps copies of the world along the way.
 
 ghost use Rattle.std.specs.Prelude.{◌≡◌, ◌≢◌, ◌≤◌, ◌<◌, ◌+◌, length, IfOk, IfErr, OnOk, OnErr, MatchBool, Some};
 ghost use Rattle.nr_recording.specs.Recording.{run_of};
@@ -22,12 +22,13 @@ use std::alloc::Global;
 pub struct Snaps;
 
 impl Snaps {
-    /// Replays the recording once, and keeps a copy of the world at position 0 and after each `every` steps, up to the
-    /// end.
+    /// Replays the recording once, and keeps a copy of the world at position 0 and after every
+    /// `every` steps, up to the end.
     ///
-    /// Fails at the first step, by its number from 1, that does not apply, with the reason; or that applies and gives
-    /// another answer than the recorded one. The world at position 0, the copies and their list take memory; no step
-    /// does.
+    /// Fails at the first step that does not apply (`Refused`, with the reason) or that gives an
+    /// answer other than the recorded one (`OtherAnswer`), with the step's number, counted from 1.
+    /// Fails with `Memory` if memory runs out for the world at position 0, the copies or their
+    /// list; steps allocate no memory.
     pub fn load<W: Worlds + Drop>(
         alloc: Global,
         recording: Recording,
@@ -59,7 +60,7 @@ impl Snaps {
     }
 }
 
-// Returns the copy at position 0, which shares nothing.
+// Returns the copy at position 0, which shares no buffers with another copy.
 fn first_copy<W: Worlds>(start: &W) -> Result<W::Snapshot, Memory>
 where
     W::Snapshot: Drop,
@@ -100,7 +101,8 @@ where
     Ok(later)
 }
 
-// Leads the world from one position to another. It takes no memory, so an error is that of a step.
+// Moves the world from one position to another. Allocates no memory, so an error is always that of
+// a step.
 fn play<W: Worlds>(
     world: &mut W,
     recording: &Recording,
@@ -135,7 +137,7 @@ fn play<W: Worlds>(
     Ok(())
 }
 
-/// Returns whether a step has a recorded answer other than the one that it gave.
+/// Returns whether a step has a recorded answer and gave another one.
 pub fn differs(recorded: Option<Answer>, given: Answer) -> bool
     ensures { MatchBool result (Differs recorded given) (Agrees recorded given) }
 {
@@ -145,7 +147,8 @@ pub fn differs(recorded: Option<Answer>, given: Answer) -> bool
     }
 }
 
-// Applies the step after position n, and returns its answer. It stores no delta and takes no memory.
+// Applies the step after position n, and returns its answer. Stores no delta and allocates no
+// memory.
 #[inline(always)]
 fn advance<W: Worlds>(world: &mut W, recording: &Recording, n: usize) -> Result<Answer, Refusal>
     requires is_at { IsWorldAt W.is_well_formed W.world (run_of recording.now) n world.old }

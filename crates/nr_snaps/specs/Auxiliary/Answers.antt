@@ -1,4 +1,4 @@
--- Definitions that contracts and proofs cite beside `Answers`. No law of THEOREM.md rests on them.
+-- Helper definitions for `Answers`. The laws in THEOREM.md don't use them.
 use Rattle.std.specs.Prelude.{List, [], ◌∷◌}
 use Rattle.nr_recording.specs.Recording.{Recorded}
 use Rattle.nr_recording.specs.declared.recording.RecordedStep.{RecordedStep}
@@ -9,13 +9,13 @@ use Rattle.nr_rev.specs.World.{World, empty_world}
 use Rattle.nr_rev.specs.declared.step.Step.{Step}
 use Rattle.nr_snaps.specs.Answers.{answer_of}
 
--- steps from a world on, each with the answer that it gives
+-- the steps, each with the answer that it gives, if the first step is applied to w
 abbrev pub answered_steps : World → List Step → List RecordedStep
 answered_steps w [] = []
 answered_steps w (step ∷ steps) = record { step = step; answer = answer_of (outcome w step) }
     ∷ answered_steps (next_of w (outcome w step)) steps
 
--- the recording of a run in version 2: its steps, each with the answer that it gives
+-- the recording of a run in version 2: its limits, and its steps with the answers that they give
 abbrev pub answered : Recording → Recorded
 answered r = record {
   version = Two;

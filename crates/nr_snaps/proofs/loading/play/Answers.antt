@@ -9,7 +9,7 @@ use Rattle.nr_snaps.proofs.AnswerLemmas.{agree-next}
 use Rattle.nr_snaps.proofs.FrameLemmas.{IsFrame-good, IsFrame-next}
 use Rattle.nr_snaps.proofs.loading.play.Goals as goal
 
--- the steps before it were replayed, so they apply, but this one doesn't
+-- the earlier steps were replayed, so they apply, but this step doesn't
 pub returns-in-Err-clause-fault : goal.returns-in-Err-clause-fault
 returns-in-Err-clause-fault g c =
     let r = run_of c.args.recording.now in
@@ -30,7 +30,7 @@ returns-in-Err-clause-fault g c =
       subst (λ k. AnswersAgreeTo c.args.recording.now k) place c.loop-n.invariant.agree,
     )
 
--- the steps before it gave their recorded answers, but this one doesn't
+-- the earlier steps gave their recorded answers, but this step doesn't
 pub returns-then-differs-clause-fault : goal.returns-then-differs-clause-fault
 returns-then-differs-clause-fault g c =
     let r = run_of c.args.recording.now in

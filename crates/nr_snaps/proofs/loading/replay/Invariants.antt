@@ -9,7 +9,8 @@ use Rattle.nr_snaps.proofs.loading.replay.Given as goal
 abbrev pub ghost-play : goal.ghost-play
 ghost-play g a = g.film
 
--- the world is the frame of the last copy's position, and each copy stores the frame of its own
+-- the world is the frame at the last copy's position, and each copy stores the frame at its own
+-- position
 abbrev pub invariant-loop-i : goal.invariant-loop-i
 invariant-loop-i g l =
     record {

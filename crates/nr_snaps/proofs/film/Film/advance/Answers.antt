@@ -4,7 +4,7 @@ use Rattle.nr_snaps.proofs.AnswerLemmas.{answer_at-leads}
 use Rattle.nr_snaps.proofs.FrameLemmas.{IsFrame-next}
 use Rattle.nr_snaps.proofs.film.Film.advance.Goals as goal
 
--- the step leads on from the frame
+-- the step turns the frame into the next one
 pub returns-clause-frame : goal.returns-clause-frame
 returns-clause-frame g c =
     let leads : LeadsOn g.W.Reversible.steps c.args.self.now.recording c.args.n c.args.world.now c.advance.new.self =

@@ -3,7 +3,7 @@ use Rattle.nr_snaps.specs.Replay.{LeadsOn}
 use Rattle.nr_snaps.proofs.FrameLemmas.{IsFrame-next}
 use Rattle.nr_snaps.proofs.film.Film.apply.Goals as goal
 
--- the step leads on from the frame
+-- the step turns the frame into the next one
 pub returns-in-Ok-clause-frame : goal.returns-in-Ok-clause-frame
 returns-in-Ok-clause-frame g c =
     let leads : LeadsOn g.W.Reversible.steps c.args.self.now.recording c.args.n c.args.world.now c.apply_to.new.self =
