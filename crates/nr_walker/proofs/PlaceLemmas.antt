@@ -1,4 +1,5 @@
--- The places of steps: the step after position k has place k modulo the number of places.
+-- The places of deltas in the ring: the step after position k has place k modulo the number of
+-- places.
 use Rattle.std.proofs.Common.{◌≡◌, ◌≢◌, ℕ, suc, ◌+◌, ◌-◌, ◌*◌, ◌/◌, ◌%◌, ◌<◌, ◌≤◌, ◌⊎◌, inl, inr, List, length, Some, sym, ap, ◌∙◌, subst, arith, add-one}
 use Rattle.std.specs.List.{slice_get}
 use Rattle.std.proofs.Math.Nat.{add-mul, mod-eq_of_lt, mod_self, mul-le-mul_right, suc-mod}
@@ -13,7 +14,7 @@ below-or-at k n h = grind arith
 less-or-not : (x y : ℕ) → (x < y) ⊎ (y ≤ x)
 less-or-not x y = grind arith
 
--- different numbers with the same remainder are at least one round apart
+-- two different numbers with the same remainder modulo m differ by at least m
 rounds-apart : (k p m x y r : ℕ) → x * m + r ≡ k → y * m + r ≡ p → k < p → k + m ≤ p
 rounds-apart k p m x y r low high below =
     elim (less-or-not x y) [
@@ -26,7 +27,7 @@ rounds-apart k p m x y r low high below =
           absurd (omega (arith, fewer, low, high, below))
     ]
 
--- steps that are closer together than the number of places have different places
+-- two steps that differ by less than the number of places have different places
 pub apart : (k p m : ℕ) → k < p → p < k + m → k % m ≢ p % m
 apart k p m below near = λ same.
     let low = div-add-mod' k m in
@@ -34,13 +35,13 @@ apart k p m below near = λ same.
     let far = rounds-apart k p m (k / m) (p / m) (k % m) low high below in
     omega (arith, far, near)
 
--- after the last place comes the first
+-- the first place follows the last one
 pub wraps : (p d : ℕ) → p % (d + 1) ≡ d → (p + 1) % (d + 1) ≡ 0
 wraps p d last =
     ap (λ n. n % (d + 1)) (add-one p) ∙ suc-mod p (d + 1) ∙ ap (λ r. suc r % (d + 1)) last
     ∙ subst (λ m. suc d % m ≡ 0) (sym (add-one d)) (mod_self (suc d))
 
--- after any other place comes the next
+-- the next place follows any other place
 pub follows : (p d : ℕ) → p % (d + 1) < d → (p + 1) % (d + 1) ≡ p % (d + 1) + 1
 follows p d before =
     ap (λ n. n % (d + 1)) (add-one p) ∙ suc-mod p (d + 1) ∙ mod-eq_of_lt (omega (arith, before)) ∙ sym (add-one (p % (d + 1)))
@@ -49,7 +50,7 @@ follows p d before =
 pub place-within : (p d : ℕ) → p % (d + 1) < d + 1
 place-within p d = mod_below p (d + 1) (omega arith)
 
--- before the first place comes the last
+-- the last place precedes the first one
 pub wraps-back : (p d : ℕ) → (p + 1) % (d + 1) ≡ 0 → p % (d + 1) ≡ d
 wraps-back p d first =
     elim (below-or-at (p % (d + 1)) d (place-within p d)) [
@@ -57,7 +58,7 @@ wraps-back p d first =
       | inr last ↦ last
     ]
 
--- before any other place comes the one before it
+-- any place but the first is preceded by the place below it
 pub follows-back : (p d : ℕ) → 0 < (p + 1) % (d + 1) → p % (d + 1) ≡ (p + 1) % (d + 1) - 1
 follows-back p d some =
     elim (below-or-at (p % (d + 1)) d (place-within p d)) [
@@ -65,30 +66,30 @@ follows-back p d some =
       | inr last ↦ let next = wraps p d last in absurd (omega (arith, next, some))
     ]
 
--- the place of the step after the last one is the first
+-- the step after the one with the last place has the first place
 pub after-last : (position d place : ℕ) → place ≡ position % (d + 1) → d ≤ place → 0 ≡ (position + 1) % (d + 1)
 after-last position d place at last =
     let within = place-within position d in
     sym (wraps position d (omega (arith, at, last, within)))
 
--- the place of the step after any other place is the next
+-- the step after one with any other place has the next place
 pub after-other : (position d place : ℕ) → place ≡ position % (d + 1) → place < d → place + 1 ≡ (position + 1) % (d + 1)
 after-other position d place at other = ap (λ n. n + 1) at ∙ sym (follows position d (omega (arith, at, other)))
 
--- the place of the step before the first place is the last
+-- the step before one with the first place has the last place
 pub before-first : (position d place : ℕ) → 0 < position → place ≡ position % (d + 1) → place ≡ 0 → d ≡ (position - 1) % (d + 1)
 before-first position d place some at first =
     let whole : position ≡ position - 1 + 1 = omega (arith, some) in
     sym (wraps-back (position - 1) d (ap (λ n. n % (d + 1)) (sym whole) ∙ sym at ∙ first))
 
--- the place of the step before any other place is the one before it
+-- the step before one with any other place has the place below
 pub before-other : (position d place : ℕ) → 0 < position → place ≡ position % (d + 1) → 0 < place → place - 1 ≡ (position - 1) % (d + 1)
 before-other position d place some at other =
     let whole : position ≡ position - 1 + 1 = omega (arith, some) in
     let here : place ≡ (position - 1 + 1) % (d + 1) = at ∙ ap (λ n. n % (d + 1)) whole in
     ap (λ n. n - 1) here ∙ sym (follows-back (position - 1) d (subst (λ n. 0 < n) here other))
 
--- writing to one place leaves another unchanged
+-- writing to one place doesn't change another place
 pub slice_get-set_other : {X : Type 0} (xs : List X) (i j : ℕ) (new x : X) → j ≢ i → slice_get xs j ≡ Some x → slice_get (slice_set xs i new) j ≡ Some x
 slice_get-set_other xs i j new x other there =
     let within : j < length (slice_set xs i new) = let w = slice_get_within xs j x there in let l = length-set xs i new in omega (arith, w, l) in

@@ -1,4 +1,4 @@
--- The kept deltas grow at the end, and are undone from there.
+-- New deltas are added at the end of the kept ones, and undone from the end.
 use Rattle.std.proofs.Common.{◌≡◌, ℕ, ◌+◌, ◌-◌, ◌%◌, ◌<◌, ◌≤◌, ◌⊎◌, inl, inr, List, ◌++◌, ◌∷◌, [], length, Some, refl, sym, ap, ◌∙◌, subst, arith}
 use Rattle.std.specs.List.{slice_get}
 use Rattle.std.specs.Global.{Vec}
@@ -40,7 +40,7 @@ module _ {State Delta : Type 0} (is_well_formed : State → Type 0) (world : Sta
           deltas = λ k below near. absurd (omega (arith, below, near));
         }
 
-    -- writing to the place of another step leaves the kept deltas unchanged
+    -- writing to the place of the next step doesn't change the kept deltas
     kept-on : (depth position : ℕ) (places : List Delta) (written : Delta) (k : ℕ) → k < position → position < k + (depth + 1) → Kept depth places k
         → Kept depth (slice_set places (position % (depth + 1)) written) k
     kept-on depth position places written k below near kept =
@@ -50,7 +50,7 @@ module _ {State Delta : Type 0} (is_well_formed : State → Type 0) (world : Sta
           leads_back = kept.leads_back;
         }
 
-    -- the same kept deltas in other places
+    -- the invariant holds for another ring that contains the same kept deltas
     IsWay-over : (position next kept depth : ℕ) (state : State) (places others : Vec Delta) → depth + 1 ≤ vec_capacity others
         → ((k : ℕ) → k < position → position ≤ k + kept → Kept depth places.items k → Kept depth others.items k)
         → IsWay is_well_formed world steps back film position state places next kept depth → IsWay is_well_formed world steps back film position state others next kept depth
@@ -76,7 +76,7 @@ module _ {State Delta : Type 0} (is_well_formed : State → Type 0) (world : Sta
         (λ k below near there.
         subst (λ xs. Kept depth xs k) (sym (is ∙ ap (λ i. slice_set places.items i delta) way.next_is)) (kept-on depth position places.items delta k below (omega (arith, near, few)) there)) way
 
-    -- one more place leaves the kept deltas unchanged
+    -- adding a place doesn't change the kept deltas
     pub IsWay-longer : (position next kept depth : ℕ) (state : State) (places longer : Vec Delta) (delta : Delta) → longer.items ≡ places.items ++ delta ∷ [] → depth + 1 ≤ vec_capacity longer
         → IsWay is_well_formed world steps back film position state places next kept depth → IsWay is_well_formed world steps back film position state longer next kept depth
     IsWay-longer position next kept depth state places longer delta is room way =
@@ -119,17 +119,17 @@ module _ {State Delta : Type 0} (is_well_formed : State → Type 0) (world : Sta
               ];
         }
 
-    -- the facts about the place of the step before: the number that place_before returns
+    -- true if `earlier` is the place of the last step, as place_before returns it
     abbrev Earlier : ℕ → ℕ → ℕ → Type 0
     Earlier next earlier depth = (position : ℕ) → 0 < position → next ≡ position % (depth + 1) → earlier ≡ (position - 1) % (depth + 1)
 
-    -- the delta of the last step is in that place
+    -- the delta of the last step is in the place `earlier`
     last-kept : (position next earlier kept depth : ℕ) (state : State) (places : Vec Delta) → IsWay is_well_formed world steps back film position state places next kept depth → 0 < kept
         → Earlier next earlier depth → Kept depth places.items (position - 1) × (earlier ≡ (position - 1) % (depth + 1))
     last-kept position next earlier kept depth state places way some before =
         let behind = way.behind in (way.deltas (position - 1) (omega (arith, some, behind)) (omega (arith, some, behind)), before position (omega (arith, some, behind)) way.next_is)
 
-    -- the last step has a place
+    -- the place of the last step is in the ring
     pub IsWay-place : (position next earlier kept depth : ℕ) (state : State) (places : Vec Delta) → IsWay is_well_formed world steps back film position state places next kept depth → 0 < kept
         → Earlier next earlier depth → earlier < length places.items
     IsWay-place position next earlier kept depth state places way some before =
@@ -137,7 +137,8 @@ module _ {State Delta : Type 0} (is_well_formed : State → Type 0) (world : Sta
         subst (λ i. i < length places.items) (sym last.1) (slice_get_within places.items ((position - 1) % (depth + 1)) last.0.delta last.0.there)
 
     module _ (unique : (old : State) (op : Step) (a b : Answer) (new other : State) → steps old op a new → steps old op b other → (a ≡ b) × (new ≡ other)) where
-      -- the delta that is read there leads back to the film's state of the position before
+      -- undoing the delta that is read from the place restores the film's state at the previous
+      -- position
       pub IsWay-last : (position next earlier kept depth : ℕ) (state : State) (places : Vec Delta) (delta : Delta) → IsWay is_well_formed world steps back film position state places next kept depth → 0 < kept
           → Earlier next earlier depth → delta ≡ get_or places.items earlier delta → (old : State) × back delta state old × IsFrame is_well_formed world steps film (position - 1) old
       IsWay-last position next earlier kept depth state places delta way some before read =

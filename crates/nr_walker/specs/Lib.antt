@@ -1,4 +1,4 @@
 -- what callers need
 pub mod Walk
--- inner: what only definitions and proofs of this crate use
+-- inner: used only within this crate
 pub mod Way

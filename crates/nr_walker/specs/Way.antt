@@ -10,8 +10,7 @@ use Rattle.nr_walker.specs.declared.walker.TheConstants.{LEAST_DEPTH, MOST_DEPTH
 module _ {State Delta : Type 0} (is_well_formed : State → Type 0) (world : State → World)
     (steps : State → Step → Answer → State → Type 0) (back : Delta → State → State → Type 0)
     (film : Reel State) where
-  -- the delta leads back over the step after position k, from the film's state of the next position
-  -- to the state of k
+  -- true if undoing the delta turns the film's state at position k + 1 into its state at position k
   pub record LeadsBackTo (k : ℕ) (delta : Delta) : Type 0 where
     pub new : State
     pub old : State
@@ -19,13 +18,13 @@ module _ {State Delta : Type 0} (is_well_formed : State → Type 0) (world : Sta
     pub before : IsFrame is_well_formed world steps film k old
     pub undone : back delta new old
 
-  -- the place of the step after position k holds a delta that leads back over it
+  -- true if the place of the step after position k contains a delta that undoes that step
   pub record IsKept (depth : ℕ) (places : List Delta) (k : ℕ) : Type 0 where
     pub delta : Delta
     pub there : slice_get places (k % (depth + 1)) ≡ Some delta
     pub leads_back : LeadsBackTo k delta
 
-  -- the state is the film's state of the position; the deltas of the last steps are in their
+  -- true if the state is the film's at the position, the deltas of the last steps are in their
   -- places, and the next step has another place
   pub record IsWay (position : ℕ) (state : State) (places : Vec Delta) (next kept depth : ℕ) :
       Type 0 where

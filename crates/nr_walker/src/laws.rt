@@ -3,7 +3,7 @@
 ghost use Rattle.std.specs.Prelude.{◌≡◌};
 ghost use Rattle.nr_walker.specs.declared.walker.TheConstants.{LEAST_DEPTH, MOST_DEPTH};
 
-/// A walker keeps its last deltas, up to a number from 1 to 65,536.
+/// The maximum number of deltas that a walker keeps is from 1 to 65,536.
 pub fn the_numbers()
     ensures least { LEAST_DEPTH ≡ 1 }
     ensures most { MOST_DEPTH ≡ 65536 }

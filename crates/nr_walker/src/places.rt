@@ -4,7 +4,8 @@ ghost use Rattle.std.specs.Prelude.{◌≡◌, ℕ, ◌<◌, ◌≤◌, ◌+◌,
 
 use nr_rev::Worlds;
 
-/// Makes places until there are `count`, without taking memory. They hold deltas of no step.
+/// Adds places until there are `count`, without allocating memory. The new places contain deltas
+/// that belong to no step.
 pub(crate) fn make_places<W: Worlds>(places: &mut Vec<W::Delta>, count: usize)
 where
     W::Delta: Drop,

@@ -1,9 +1,9 @@
 //! The ways of a walker.
 
-/// The way in which a walker goes to a position.
+/// The way by which a walker goes to a position.
 #[derive(Clone, Copy, Debug, PartialEq, Eq)]
 pub(crate) enum Route {
-    /// Back over deltas that it keeps.
+    /// Back, by undoing deltas that the walker keeps.
     Back,
     /// Forward by fewer steps than lie between two copies.
     Forward,

@@ -14,17 +14,18 @@ use nr_snaps::Film;
 use std::alloc::Global;
 use std::marker::Model;
 
-/// The fewest deltas that a walker can be made to keep.
+/// The minimum depth of a walker: the number of deltas that it keeps.
 pub const LEAST_DEPTH: usize = 1;
 
-/// The most deltas that a walker can be made to keep.
+/// The maximum depth of a walker.
 pub const MOST_DEPTH: usize = 65_536;
 
 /// A world at a position of a film, with the deltas of the last steps.
 ///
-/// The delta of the step after position k is written to place k modulo `depth + 1` and stays there. There is one place
-/// more than kept deltas, so the next step overwrites no kept delta, even if it is refused. A place is initialized when
-/// a step first comes to it, in memory that was taken at once.
+/// The delta of the step after position k is written to place k modulo `depth + 1` and stays there.
+/// There is one more place than kept deltas, so the next step overwrites no kept delta, even if the
+/// step is refused. `new` allocates the memory for all places; a place is initialized when a step
+/// first needs it.
 #[derive(Drop)]
 pub struct Walker<'f, W: Worlds + Drop>
 where
@@ -69,8 +70,8 @@ where
     W::Delta: Drop,
     W::Snapshot: Drop,
 {
-    /// Makes a walker at position 0 that keeps the deltas of the last `depth` steps. Takes memory for a copy of the
-    /// world and for the deltas.
+    /// Makes a walker at position 0 that keeps the deltas of the last `depth` steps. Allocates
+    /// memory for a copy of the world and for the deltas, and fails if memory runs out.
     pub fn new(alloc: Global, film: &'f Film<W>, depth: usize) -> Result<Walker<'f, W>, Memory>
         requires least { LEAST_DEPTH ≤ depth }
         requires most { depth ≤ MOST_DEPTH }
@@ -106,7 +107,8 @@ where
         self.film
     }
 
-    /// Returns the number of deltas that it keeps, which is the number of steps that it can undo.
+    /// Returns the number of deltas that the walker keeps, which is the number of steps that it can
+    /// undo.
     pub fn kept(&self) -> usize
         ensures is { result ≡ self.now.kept }
         ensures within { result ≤ self.now.depth }
@@ -115,7 +117,7 @@ where
         self.kept
     }
 
-    /// Returns the most deltas that it keeps.
+    /// Returns the maximum number of deltas that the walker keeps.
     pub fn depth(&self) -> usize
         ensures is { result ≡ self.now.depth }
         ensures least { LEAST_DEPTH ≤ result }
@@ -124,7 +126,7 @@ where
         self.depth
     }
 
-    /// Returns the world at its position: exactly the state that the film's replay has there.
+    /// Returns the world at the walker's position, which is exactly the state of the film's replay.
     pub fn world(&self) -> &W
         ensures { IsFrame W.is_well_formed W.world W.steps self.now.film self.now.position
             result.now }
@@ -134,14 +136,15 @@ where
 
     /// Goes to position n, and returns the cost.
     ///
-    /// If the walker keeps all deltas on the way back to n, it undoes them. If n is ahead by fewer steps than lie
-    /// between two copies of the film, it applies those steps. Otherwise its world becomes the film's copy at or below
-    /// n, it drops all deltas, and applies the steps from there. It keeps the last deltas of the steps that it applied,
-    /// up to its depth.
+    /// If the walker keeps all deltas on the way back to n, it undoes them. If n is ahead by fewer
+    /// steps than lie between two copies of the film, it applies those steps. Otherwise it restores
+    /// the film's copy at or below n, drops all deltas, and applies the steps from there. It keeps
+    /// the deltas of the last steps that it applied, up to its depth.
     ///
-    /// Going back over deltas takes no memory, and a step takes memory only if bytes leave a buffer. If such a step
-    /// runs out of memory, the walker is before it, with the deltas of the steps so far. If restoring the copy runs out
-    /// of memory, the walker stays where it was.
+    /// Undoing deltas allocates no memory, and a step allocates memory only if bytes leave a
+    /// buffer. If memory runs out for such a step, the walker is at the position before it, with
+    /// the deltas of the steps so far. If memory runs out for restoring the copy, the walker is
+    /// unchanged.
     pub fn goto(&mut self, n: usize) -> Result<Moved, Memory>
         requires { n ≤ length self.old.film.recording.steps }
         ensures there { OnOk result (self.new ≡ walk_by (route self.old n) self.old n) }
@@ -194,7 +197,7 @@ where
         Route::FromCopy
     }
 
-    // Goes back to position n over deltas that it keeps. It takes no memory.
+    // Goes back to position n by undoing kept deltas. Allocates no memory.
     fn back_to(&mut self, n: usize)
         requires below { n ≤ self.old.position }
         requires kept { self.old.position - n ≤ self.old.kept }
@@ -205,7 +208,8 @@ where
         }
     }
 
-    // Goes forward to position n. If memory runs out, the walker is before the step that needs it.
+    // Goes forward to position n. If memory runs out, the walker is at the position before the step
+    // that needs it.
     fn forward_to(&mut self, n: usize) -> Result<(), Memory>
         requires from { self.old.position ≤ n }
         requires within { n ≤ length self.old.film.recording.steps }
@@ -219,7 +223,7 @@ where
         Ok(())
     }
 
-    // Restores the film's copy at or below n. If memory runs out, nothing has changed.
+    // Restores the film's copy at or below n. If memory runs out, nothing changes.
     fn to_copy_below(&mut self, n: usize) -> Result<(), Memory>
         requires { n ≤ length self.old.film.recording.steps }
         ensures ok { OnOk result (self.new ≡ at_copy self.old n) }
@@ -234,7 +238,8 @@ where
         Ok(())
     }
 
-    // Goes one step forward. If the walker is at its depth, it drops the oldest delta. If memory runs out, it stays.
+    // Goes one step forward. If the walker has as many deltas as its depth, it drops the oldest
+    // one. If memory runs out, the walker is unchanged.
     #[inline(always)]
     fn forward(&mut self) -> Result<(), Memory>
         requires within { self.old.position < length self.old.film.recording.steps }
@@ -253,7 +258,7 @@ where
         Ok(())
     }
 
-    // Goes one step back. It takes no memory.
+    // Goes one step back. Allocates no memory.
     #[inline(always)]
     fn backward(&mut self)
         requires { 0 < self.old.kept }

@@ -2,7 +2,7 @@ use Rattle.std.proofs.Common.{◌≡◌, ◌≤◌}
 use Rattle.nr_walker.specs.Walk.{backwards}
 use Rattle.nr_walker.proofs.walker.Walker.back_to.Given as goal
 
--- the walker went back, and hasn't passed n
+-- the walker has gone back, but not past n
 abbrev pub invariant-loop-self : goal.invariant-loop-self
 invariant-loop-self g l =
     record {

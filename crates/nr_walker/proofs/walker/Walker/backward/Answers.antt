@@ -2,7 +2,7 @@ use Rattle.std.proofs.Common.{◌<◌, refl, sym, subst, arith}
 use Rattle.nr_walker.proofs.WayLemmas.{IsWay-backward, IsWay-last, IsWay-place}
 use Rattle.nr_walker.proofs.walker.Walker.backward.Goals as goal
 
--- the last step has a place
+-- the place of the last step is in the ring
 pub index_mut-requires : goal.index_mut-requires
 index_mut-requires g c =
     let inside = c.self.inside in
@@ -12,7 +12,7 @@ index_mut-requires g c =
     let len = inside.places.ok.0 in
     omega (arith, within, len)
 
--- the delta of the last step leads back
+-- the delta of the last step can be undone
 pub undo_from-requires : goal.undo_from-requires
 undo_from-requires g c =
     let inside = c.self.inside in
@@ -21,7 +21,7 @@ undo_from-requires g c =
     c.place_before-self-inside.result inside.kept inside.depth inside.world inside.places c.index_mut.result.now c.self.invariant.0 some c.place_before-self-inside.ensures c.index_mut.ensures.value in
     (last.0, last.1)
 
--- the walker keeps one delta less, whose place is now that of the next step
+-- the walker keeps one delta fewer, and the removed delta's place is now that of the next step
 pub invariant_of-self : goal.invariant_of-self
 invariant_of-self g c =
     let inside = c.self.inside in

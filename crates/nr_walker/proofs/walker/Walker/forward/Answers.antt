@@ -11,7 +11,7 @@ use Rattle.nr_walker.proofs.WayLemmas.{IsWay-forward, IsWay-longer, IsWay-writte
 use Rattle.nr_walker.proofs.walker.Walker.forward.Goals as goal
 use Rattle.nr_walker.proofs.walker.Walker.forward.Goals.{then-self-len, else-self-len}
 
--- the place of the refused step may hold anything
+-- the place of the refused step may contain any delta
 pub invariant_of-self : goal.invariant_of-self
 invariant_of-self g c =
     let inside = c.self.inside in
@@ -27,7 +27,7 @@ invariant_of-self g c =
 less-than : (further next len : ℕ) → further ≤ next + 1 → next < len → further ≢ len → further < len
 less-than further next len near made not = grind arith
 
--- the new delta leads back to the old state
+-- undoing the new delta restores the old state
 pub invariant_of-self-2 : goal.invariant_of-self-2
 invariant_of-self-2 g c =
     let inside = c.self.inside in

@@ -2,7 +2,7 @@ use Rattle.std.proofs.Common.{◌≡◌, ◌-◌, ◌≤◌}
 use Rattle.nr_walker.specs.Walk.{forwards}
 use Rattle.nr_walker.proofs.walker.Walker.forward_to.Given as goal
 
--- the walker went forward, and hasn't passed n
+-- the walker has gone forward, but not past n
 abbrev pub invariant-loop-self : goal.invariant-loop-self
 invariant-loop-self g l =
     record {
