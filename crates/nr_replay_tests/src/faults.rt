@@ -1,4 +1,5 @@
-//! The texts of faults: the line, whose text is proved, and the message, which is derived.
+//! The texts of faults: the line, whose text is proved, and the message, whose implementation is
+//! derived.
 
 use nr_recording::{Fault, MakeFault, ReadFault, WriteFault};
 use nr_rev::Refusal;

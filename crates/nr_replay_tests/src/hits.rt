@@ -21,7 +21,8 @@ fn marks() -> Option<Marks> {
     Some(marks)
 }
 
-/// Returns the hits after a tick if this is the next step, and the hits at the end of an empty recording.
+/// Returns the hits after a tick, given the next step, and the hits at the end of an empty
+/// recording.
 fn hits_of(alloc: Global, next: &Step) -> Option<[ArrayVec<u32, MOST_MARKS>; 2]> {
     let marks = marks()?;
     let Ok(mut after) = World::fresh(alloc, LIMITS) else {

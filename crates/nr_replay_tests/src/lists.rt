@@ -1,4 +1,4 @@
-//! Bytes and queues: made from a `Vec`, and turned back into one.
+//! Bytes and queues, made from a `Vec` and turned back into a `Vec`.
 
 use nr_rev::{Bytes, Queue};
 use std::test::Fail;

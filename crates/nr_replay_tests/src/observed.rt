@@ -1,4 +1,4 @@
-//! A world that counts its calls, and refuses copies as the test requests.
+//! A world that counts the calls to it, and refuses copies as the test requests.
 
 ghost use Rattle.std.specs.Prelude.{◌≡◌};
 
@@ -16,12 +16,12 @@ use std::sync::atomic::{AtomicU32, Ordering};
 #[derive(Drop)]
 pub struct Observed {
     world: PlainWorld,
-    // the calls of `apply` and of `undo` since the world was made
+    // the number of calls of `apply` and of `undo` since the world was made
     applies: u32,
     undos: u32,
-    // the calls of `was_seen`
+    // the number of calls of `was_seen`
     seen: AtomicU32,
-    // which copies are refused; a world shares this with its copies and its snapshots
+    // which copies are refused; a world shares these bits with its copies and its snapshots
     refusals: Arc<AtomicU32>,
 }
 
@@ -33,7 +33,7 @@ impl Model for Observed {
     ghost view = { λ o. o.world };
 }
 
-/// A snapshot of such a world.
+/// A snapshot of an observed world.
 #[derive(Drop)]
 pub struct ObservedSnapshot {
     world: <PlainWorld as Worlds>::Snapshot,
@@ -48,7 +48,7 @@ impl Model for ObservedSnapshot {
     ghost view = { λ s. s.world };
 }
 
-// Returns another owner of the refusals.
+// Returns another handle of the shared bits.
 fn share(refusals: &Arc<AtomicU32>) -> Result<Arc<AtomicU32>, Memory> {
     match Arc::try_clone(refusals) {
         Ok(shared) => Ok(shared),
@@ -84,7 +84,8 @@ impl Observed {
         (self.applies, self.undos)
     }
 
-    /// Returns whether this was called on this world before. A copy and a restored world start again.
+    /// Returns whether this was called on this world before. A copy or a restored world starts with
+    /// no calls.
     pub fn was_seen(&self) -> bool {
         self.seen.fetch_add(1, Ordering::SeqCst) > 0
     }

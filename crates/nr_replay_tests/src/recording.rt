@@ -109,8 +109,8 @@ fn writes_what_is_read(rt: HostRuntime) -> Result<(), Fail> {
     Ok(())
 }
 
-/// Returns whether a writer that fails after this many bytes contains exactly those of the text, and `write` reports
-/// the failure.
+/// Returns whether a writer that fails after this many bytes has exactly the first bytes of the
+/// text, and `write` reports the failure.
 fn is_cut(alloc: Global, recording: &Recording, text: &[u8], room: usize) -> bool {
     let mut out = Sink::new(Stutter::new(Cup {
         held: Vec::new(alloc),

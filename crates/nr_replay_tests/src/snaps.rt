@@ -8,8 +8,8 @@ use nr_snaps::{Film, LoadFault, Snaps};
 use std::alloc::Global;
 use std::test::Fail;
 
-/// Returns why a film of 70 steps that set the clock to 1, 2 and so on, and one that sets it back to 69, can't be
-/// loaded.
+/// Returns why a recording can't be loaded whose first 70 steps set the clock to 1, 2 and so on,
+/// and whose last step sets it back to 69.
 fn fault_of_the_last(alloc: Global) -> Option<LoadFault> {
     let mut steps = Vec::new(alloc);
     add_ticks(&mut steps, 70).ok()?;
@@ -18,7 +18,7 @@ fn fault_of_the_last(alloc: Global) -> Option<LoadFault> {
     Snaps::load::<World>(alloc, recording, 64).err()
 }
 
-/// Returns the clock of the film's copy at a position, or of the nearest one below it.
+/// Returns the clock of the film's copy at a position, or of the nearest copy below it.
 fn clock_below(film: &Film<World>, n: usize) -> Option<CellValue> {
     if n > film.len() {
         return None;
@@ -103,14 +103,15 @@ fn another_answer_is_reported_where_its_step_applies(rt: HostRuntime) {
     );
 }
 
-/// Returns the film's recording with answers: the version, the number of steps, the last answer and the one after it.
+/// Returns the version and the number of steps of the film's recording with answers, its last
+/// answer, and the answer after the last step, which doesn't exist.
 fn answered(film: &Film<World>) -> Option<(Version, usize, [Option<Answer>; 2])> {
     let recording = film.with_answers().ok()?;
     let answers = [recording.answer(64), recording.answer(65)];
     Some((recording.version(), recording.len(), answers))
 }
 
-/// Returns the number of steps after the film is loaded again.
+/// Returns the number of steps of the film after its recording with answers was loaded again.
 fn loaded_again(alloc: Global, film: &Film<World>) -> Option<usize> {
     let recording = film.with_answers().ok()?;
     let again = Snaps::load::<World>(alloc, recording, 64).ok()?;

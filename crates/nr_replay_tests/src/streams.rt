@@ -4,7 +4,7 @@ ghost use Rattle.std.specs.Prelude.{Some};
 use std::io;
 use std::io::{ErrorKind, Read, Write};
 
-/// A reader that gives one byte per call, and fails after `left` bytes.
+/// A reader that returns one byte per call, and fails after `left` bytes.
 #[derive(Drop)]
 pub struct Drip<'a> {
     pub bytes: &'a [u8],
@@ -37,7 +37,7 @@ pub enum AtBrim {
     TakesNothing,
 }
 
-/// A writer that takes one byte per call, until it holds `room` bytes.
+/// A writer that accepts one byte per call, until it has `room` bytes.
 #[derive(Drop)]
 pub struct Cup {
     pub held: Vec<u8>,
@@ -113,7 +113,7 @@ impl<W: Write> Write for Stutter<W> {
     }
 }
 
-/// A writer that takes everything, and counts the calls.
+/// A writer that accepts all bytes, and counts the calls.
 #[derive(Drop)]
 pub struct Counted {
     pub held: Vec<u8>,

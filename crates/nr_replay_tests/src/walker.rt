@@ -1,4 +1,4 @@
-//! The cost of a walk: what it returns, and what a world counts.
+//! The cost of a walk, as the walk reports it and as a world counts it.
 
 use crate::films::ticking;
 use crate::observed::Observed;
@@ -39,7 +39,8 @@ const WALKS: [(usize, usize, usize, usize, usize); 8] = [
     (191, 63, 0, 1, 32),
 ];
 
-/// Returns the position of the first walk that has or reports another cost, or doesn't arrive.
+/// Returns the position of the first walk that doesn't arrive, or whose real or reported cost isn't
+/// the expected one.
 fn first_otherwise(walker: &mut Walker<Observed>) -> Option<usize> {
     for (n, applies, undos, copies, kept) in WALKS {
         let moved = Moved {

@@ -43,7 +43,7 @@ fn little_world(alloc: Global) -> Result<World, Memory>
     World::fresh(alloc, LIMITS)
 }
 
-/// Applies a step without an undo.
+/// Applies a step without an undo record.
 fn advance(world: &mut World, step: &Step) -> Result<Answer, Refusal>
     requires { IsWorld world.old }
     ensures { IsWorld world.new }
@@ -51,7 +51,7 @@ fn advance(world: &mut World, step: &Step) -> Result<Answer, Refusal>
     world.advance(step)
 }
 
-/// Applies the steps, up to the first that is refused.
+/// Applies the steps, up to the first step that is refused.
 fn lead(world: &mut World, steps: &[Step]) -> Result<(), Refusal>
     requires { IsWorld world.old }
     ensures { IsWorld world.new }
@@ -74,7 +74,8 @@ fn transacted(world: &mut World, steps: &[Step]) -> (Result<(), Refusal>, usize,
     (applied, deltas.len(), world.cell(Cell::Lock(0)))
 }
 
-/// Applies three lists of steps: one whose last step is refused, an empty one, and one that applies.
+/// Applies three lists of steps: a list whose last step is refused, an empty list, and a list that
+/// applies.
 fn transactions(world: &mut World) -> [(Result<(), Refusal>, usize, CellValue); 3]
     requires { IsWorld world.old }
 {
@@ -119,7 +120,7 @@ fn there_and_back(
     Ok((made, there, world.cell(observed)))
 }
 
-/// Takes and releases a reference, in one list and one by one.
+/// Takes and releases a reference, with both steps in one list and with one step at a time.
 fn references(world: &mut World) -> Result<[(usize, CellValue, CellValue); 3], Refusal>
     requires { IsWorld world.old }
 {
@@ -150,7 +151,7 @@ const SHUT: Step = Step::CloseWrite {
     socket: 0,
 };
 
-/// Shuts a write side once, and again.
+/// Shuts a write side twice.
 fn shuts(world: &mut World) -> Result<[(usize, CellValue, CellValue); 2], Refusal>
     requires { IsWorld world.old }
 {
@@ -218,7 +219,7 @@ fn traffic(alloc: Global) -> Result<[Step; 5], AllocError> {
     ])
 }
 
-/// Applies a step and drops its undo.
+/// Applies a step and drops its undo record.
 fn apply(world: &mut World, step: &Step) -> Result<Answer, Refusal>
     requires { IsWorld world.old }
     ensures { IsWorld world.new }
@@ -227,7 +228,7 @@ fn apply(world: &mut World, step: &Step) -> Result<Answer, Refusal>
     Ok(answer)
 }
 
-/// Returns the answer of the step on a copy without an undo.
+/// Returns the answer of the step on a copy, without an undo record.
 fn answer_of_a_copy(world: &World, step: &Step) -> Result<Answer, Refusal>
     requires { IsWorld world.now }
 {
@@ -254,7 +255,7 @@ fn held(world: &World, side: Side) -> Option<Bytes> {
     world.bytes(0, side).ok()?
 }
 
-/// Undoes the last of the deltas that lead back from the world.
+/// Undoes the last of the world's deltas.
 fn undo_last(world: &mut World, deltas: &mut ArrayVec<Delta, 8>)
     requires { (old : WorldParts) × LeadsBack WorldBack deltas.old.items world.old old }
     ensures { (old : WorldParts) × LeadsBack WorldBack deltas.new.items world.new old }
@@ -264,7 +265,7 @@ fn undo_last(world: &mut World, deltas: &mut ArrayVec<Delta, 8>)
     }
 }
 
-/// Applies three steps, and undoes this many of the last ones.
+/// Applies three steps, and undoes the last `count` of them.
 fn lead_and_return(world: &mut World, steps: &[Step; 3], count: u32) -> Result<(), Refusal>
     requires { IsWorld world.old }
 {
@@ -284,7 +285,8 @@ fn is_held(bytes: &Option<Bytes>, wanted: &[u8]) -> bool {
     }
 }
 
-/// Returns whether the input of socket 0 is the wanted one afterwards, or doesn't exist if none is wanted.
+/// Returns whether socket 0 has the wanted input after `lead_and_return`; `None` means that the
+/// input shouldn't exist.
 fn is_left(
     world: &mut World,
     steps: &[Step; 3],
@@ -312,8 +314,8 @@ fn undone(
     is_left(&mut world, steps, count, input)
 }
 
-/// Returns the results of `undone` for no, one, two and three undos after three steps, with which bytes arrive and one
-/// is read.
+/// Returns the results of `undone` for zero to three undos after three steps, by which bytes arrive
+/// and one byte is read.
 fn all_undone(alloc: Global, steps: &[Step; 3]) -> Result<[bool; 4], Refusal> {
     Ok([
         undone(alloc, steps, 0, Some(b"i".as_slice()))?,
@@ -401,7 +403,7 @@ fn missing_and_empty(world: &World) -> Result<(bool, bool), Refusal> {
     Ok((bytes.is_none(), is_empty))
 }
 
-/// Returns this for a world with one socket, which was just opened.
+/// Opens a socket, and returns the result of `missing_and_empty`.
 fn opened(world: &mut World) -> Result<(bool, bool), Refusal>
     requires { IsWorld world.old }
 {
@@ -435,7 +437,7 @@ fn answer_in_two_tries(world: &mut World, step: &Step) -> Result<Answer, Refusal
     }
 }
 
-/// Applies the steps of the traffic, each in at most two tries.
+/// Applies the steps of the traffic, each with at most two tries.
 fn take_in_two_tries(rt: &impl Abort, world: &mut World, traffic: &[Step; 5])
     requires { IsWorld world.old }
 {
@@ -451,7 +453,7 @@ fn take_in_two_tries(rt: &impl Abort, world: &mut World, traffic: &[Step; 5])
     }
 }
 
-/// Tests a failed allocation only if one is made to fail: `rt try --test --fail-alloc N`.
+/// Tests a failed allocation only if run with `rt try --test --fail-alloc N`, which makes one fail.
 #[test]
 fn goes_on_where_memory_was_refused(rt: HostRuntime) -> Result<(), Fail> {
     let Ok(steps) = traffic(rt.alloc()) else {
