@@ -1,5 +1,6 @@
-//! Buffers of a socket whose rings have room for four bytes, so that their bytes wrap round the end; and failed
-//! allocations. The tests also pass if any one allocation fails, because the second of two tries succeeds.
+//! Buffers of a socket with room for four bytes each, so that their bytes wrap round the end of the
+//! ring. The file also tests failed allocations. The tests also pass if any one allocation fails,
+//! because the second of two tries succeeds.
 
 ghost use Rattle.std.specs.Prelude.{◌≡◌, ◌≤◌, OnOk, [], length};
 ghost use Rattle.nr_rev.specs.Transaction.{LeadsBack};
@@ -88,7 +89,7 @@ fn held(sock: &Sock, side: Side) -> Held {
     ]
 }
 
-/// Plays a round and drops its undo.
+/// Applies a round of steps and drops its undo record.
 fn go(sock: &mut Sock, steps: &[Step]) -> Result<(), Refusal>
     requires { length steps.now ≤ 8 }
 {
@@ -96,7 +97,8 @@ fn go(sock: &mut Sock, steps: &[Step]) -> Result<(), Refusal>
     play(sock, steps, &mut deltas)
 }
 
-/// Plays a round and undoes it. Returns the input before, in between and afterwards.
+/// Applies a round of steps and undoes it. Returns the input before the round, after it, and after
+/// the undo.
 fn round(sock: &mut Sock, steps: &[Step]) -> Result<[Held; 3], Refusal>
     requires { length steps.now ≤ 8 }
 {
@@ -108,7 +110,7 @@ fn round(sock: &mut Sock, steps: &[Step]) -> Result<[Held; 3], Refusal>
     Ok([before, after, held(sock, Side::Read)])
 }
 
-/// Plays two rounds and undoes the second.
+/// Applies two rounds of steps and undoes the second.
 fn rounds(sock: &mut Sock, first: &[Step], second: &[Step]) -> Result<[Held; 3], Refusal>
     requires first { length first.now ≤ 8 }
     requires second { length second.now ≤ 8 }
@@ -125,7 +127,7 @@ fn held_by_a_copy(sock: &Sock) -> Option<Held> {
     }
 }
 
-/// Plays two rounds in new buffers, undoes the second, and copies the result.
+/// Applies two rounds of steps in new buffers, undoes the second, and copies the result.
 fn there_and_back(
     alloc: Global,
     first: &[Step],
@@ -139,7 +141,7 @@ fn there_and_back(
     Ok((played, held_by_a_copy(&sock)))
 }
 
-/// Returns a round that leaves bytes which wrap round the end.
+/// Returns a round of steps that leaves bytes which wrap round the end.
 fn first_round(alloc: Global) -> Result<[Step; 4], Memory> {
     Ok([
         OPEN,
@@ -149,7 +151,7 @@ fn first_round(alloc: Global) -> Result<[Step; 4], Memory> {
     ])
 }
 
-/// Returns a round that reads them.
+/// Returns a round of steps that reads these bytes.
 fn second_round(alloc: Global) -> Result<[Step; 2], Memory> {
     Ok([read(3), arrive(alloc, b"xyz")?])
 }
@@ -238,12 +240,12 @@ fn other_kinds_and_sizes_are_refused(rt: HostRuntime) -> Result<(), Fail> {
     Ok(())
 }
 
-/// Returns steps with a write, a shut, a write after it, and another shut.
+/// Returns steps that write, shut the write side, write again, and shut it again.
 fn writes_round_the_shutting(alloc: Global) -> Result<[Step; 5], Memory> {
     Ok([OPEN, write(alloc, b"hi")?, SHUT, write(alloc, b"h")?, SHUT])
 }
 
-/// Returns steps with a write whose bytes are drained after the write side is shut, and another write.
+/// Returns steps that write, shut the write side, drain the written bytes, and write again.
 fn writes_round_the_drain(alloc: Global) -> Result<[Step; 5], Memory> {
     Ok([OPEN, write(alloc, b"hi")?, SHUT, DRAIN, write(alloc, b"h")?])
 }
@@ -290,7 +292,8 @@ fn what_was_written_goes_out_once_the_write_side_is_shut(rt: HostRuntime) -> Res
     Ok(())
 }
 
-/// Shuts the write side and undoes it. Returns whether it was shut before, in between and afterwards.
+/// Shuts the write side and undoes this. Returns whether the side was shut before, in between and
+/// afterwards.
 fn shut(sock: &mut Sock) -> Result<[bool; 3], Refusal> {
     let before = sock.shut();
     let mut deltas = ArrayVec::new();
@@ -300,7 +303,7 @@ fn shut(sock: &mut Sock) -> Result<[bool; 3], Refusal> {
     Ok([before, after, sock.shut()])
 }
 
-/// Plays the steps, and then runs `shut`.
+/// Applies the steps, and then runs `shut`.
 fn lead_and_shut(sock: &mut Sock, steps: &[Step]) -> Result<[bool; 3], Refusal>
     requires { length steps.now ≤ 8 }
 {

@@ -1,6 +1,6 @@
-//! Descriptors with real numbers. The codes of words are 0 for nil, 1 for ready, 2 for wait, and for a goroutine its
-//! number plus 3. The byte of marks is the sum of 1 for closing, 2 for an event error, and 4 and 8 for running read and
-//! write timers.
+//! Descriptors with real numbers. The codes of words are 0 for nil, 1 for ready, 2 for wait, and a
+//! goroutine's number plus 3. The byte of marks is the sum of 1 for closing, 2 for an event error,
+//! and 4 and 8 for running read and write timers.
 
 ghost use Rattle.std.specs.Prelude.{◌≡◌, IfOk};
 ghost use Rattle.nr_desc.specs.Desc.{DescFits};
@@ -44,7 +44,8 @@ fn parked() -> Result<Desc, Refusal>
     Ok(desc)
 }
 
-/// The answer of an operation, the goroutines that it wakes, its orders, and the numbers after it and after its undo.
+/// The answer of an operation, the goroutines that it wakes, its orders to timers, and the numbers
+/// after it and after its undo.
 type Played = (
     Answer,
     Sides<Option<u32>>,

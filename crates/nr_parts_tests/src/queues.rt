@@ -1,5 +1,5 @@
-//! Goroutines in queues, with real numbers: the links before an operation, after it and after its undo. The tests also
-//! pass if any one allocation fails, because the second of two tries succeeds.
+//! Goroutines in queues, with real numbers: the links before an operation, after it, and after its
+//! undo. The tests also pass if any one allocation fails, because the second of two tries succeeds.
 
 ghost use Rattle.std.specs.Prelude.{◌≡◌, ◌≤◌, IfOk, length};
 ghost use Rattle.nr_gsema.specs.Applying.{IsQueuedUp};
@@ -10,8 +10,8 @@ use nr_rev::{Memory, Refusal, Reversible, Side, Status, transact};
 use std::alloc::Global;
 use std::test::Fail;
 
-/// Two goroutines, each of which may be missing: the front and back of a queue, or the ones before and after a
-/// goroutine.
+/// Two goroutines, each of which may be missing: the front and the back of a queue, or the
+/// goroutines before and after another one.
 type Pair = (Option<u32>, Option<u32>);
 
 /// The ends of the read queue at socket 0, and the neighbours of the goroutines 1, 2 and 3.
@@ -32,13 +32,13 @@ fn links(table: &GTable) -> Links {
     )
 }
 
-/// The links when 1, 2 and 3 are queued in this order.
+/// The links while goroutines 1, 2 and 3 are queued in this order.
 const OF_THREE: Links = (
     (Some(1), Some(3)),
     [(None, Some(2)), (Some(1), Some(3)), (Some(2), None)],
 );
 
-/// The links after 1 has left that queue.
+/// The links after goroutine 1 has left that queue.
 const OF_TWO: Links = (
     (Some(2), Some(3)),
     [(None, None), (None, Some(3)), (Some(2), None)],
@@ -90,7 +90,7 @@ fn play(table: &mut GTable, operations: &[GOperation]) -> Result<(), Refusal>
     transact(table, operations, &mut deltas)
 }
 
-/// Makes four goroutines, of which 1, 2 and 3 are queued, and 0 owes a release.
+/// Makes four goroutines. Goroutines 1, 2 and 3 are queued, and goroutine 0 owes a release.
 fn queue_up(table: &mut GTable) -> Result<(), Refusal>
     requires { IsQueuedUp table.old }
     ensures { IsQueuedUp table.new }
@@ -107,8 +107,8 @@ fn left(table: &GTable) -> Left {
     (table.count(0, Side::Read), links(table), table.status(1))
 }
 
-/// Queues the goroutines, makes a release by goroutine 0 and undoes it. Returns the links before, and the state after
-/// the release and after the undo.
+/// Queues the goroutines, lets goroutine 0 release the semaphore, and undoes the release. Returns
+/// the links before, and the state after the release and after the undo.
 fn released_and_undone(table: &mut GTable) -> Result<(Links, Left, Left), Refusal>
     requires { IsQueuedUp table.old }
 {
@@ -135,7 +135,7 @@ fn a_release_is_undone_with_the_links(rt: HostRuntime) -> Result<(), Fail> {
     Ok(())
 }
 
-/// Whether the operations apply, and the count and the links afterwards.
+/// The result of the operations, and the count and the links afterwards.
 type Played = (Result<(), Refusal>, Option<u32>, Links);
 
 fn played(table: &mut GTable, operations: &[GOperation]) -> Played
@@ -147,7 +147,8 @@ fn played(table: &mut GTable, operations: &[GOperation]) -> Played
     (applied, table.count(0, Side::Read), links(table))
 }
 
-/// Queues the goroutines, and plays operations of which the last is refused, and others that apply.
+/// Queues the goroutines. Then tries operations of which the last is refused, and operations that
+/// apply.
 fn refused_and_applied(table: &mut GTable) -> Result<[Played; 2], Refusal>
     requires { IsQueuedUp table.old }
 {

@@ -1,5 +1,5 @@
-//! Timers with real numbers: the places of a heap before an operation, after it and after its undo; refusals; and
-//! failed allocations.
+//! Timers with real numbers: the places of a heap before an operation, after it and after its undo.
+//! The file also tests refusals and failed allocations.
 
 ghost use Rattle.std.specs.Prelude.{◌≡◌, ◌≤◌, IfOk, length};
 ghost use Rattle.nr_timers.specs.State.{IsTimers};
@@ -121,7 +121,7 @@ fn each_entry_has_its_place_back(rt: HostRuntime) -> Result<(), Fail> {
             (0, 7),
         )?
     );
-    // of two entries that are due at the same time, the one armed first goes off
+    // of two timers that are due at the same time, the timer that was armed first goes off first
     assert!(rt;
         changes(
             rt.alloc(),
@@ -175,7 +175,8 @@ fn refusal_of(timers: &mut Timers, op: &TimersOp) -> Option<Refusal>
     timers.apply(op).err()
 }
 
-/// Applies one operation after the other. Returns the index of the first that isn't refused or applied as expected.
+/// Applies one operation after the other. Returns the index of the first operation that isn't
+/// refused or applied as expected.
 fn first_otherwise(timers: &mut Timers, refusals: &[(TimersOp, Option<Refusal>)]) -> Option<usize>
     requires { IsTimers timers.old }
     ensures { IsTimers timers.new }
@@ -188,10 +189,10 @@ fn first_otherwise(timers: &mut Timers, refusals: &[(TimersOp, Option<Refusal>)]
     None
 }
 
-/// The result of `first_otherwise`, and what is read from the timers afterwards.
+/// The result of `first_otherwise`, and the state of the timers afterwards.
 type Seen = (Option<usize>, Option<Entry>, Option<Entry>, Option<Entry>);
 
-/// Applies the operations, and returns this with both firings and the least entry.
+/// Runs `first_otherwise`, and returns its result with both numbers of firings and the least entry.
 fn asked(timers: &mut Timers, refusals: &[(TimersOp, Option<Refusal>)]) -> Seen
     requires { IsTimers timers.old }
 {
@@ -248,7 +249,7 @@ fn transacted(
     (applied, made, least, timers.least())
 }
 
-/// Applies operations that all apply, and others of which the last is refused.
+/// Tries operations that all apply, and operations of which the last is refused.
 fn transactions(
     timers: &mut Timers,
 ) -> [(Result<(), Refusal>, usize, Option<Entry>, Option<Entry>); 2]
@@ -315,7 +316,7 @@ fn asked_and_copied(timers: &mut Timers) -> (Option<usize>, Result<bool, Refusal
     (otherwise, copied)
 }
 
-/// Tests a failed allocation only if one is made to fail: `rt try --test --fail-alloc N`.
+/// Tests a failed allocation only if run with `rt try --test --fail-alloc N`, which makes one fail.
 #[test]
 fn goes_on_where_memory_was_refused(rt: HostRuntime) -> Result<(), Fail> {
     let mut timers = made(rt.alloc())?;
