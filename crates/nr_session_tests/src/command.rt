@@ -58,8 +58,9 @@ fn words_hold_opcode_tag_and_argument(rt: HostRuntime) -> Result<(), Fail> {
 
 #[test]
 fn other_numbers_are_no_words(rt: HostRuntime) -> Result<(), Fail> {
-    // a `continue` with an argument, opcode 0 and one above the greatest, no steps, 2^32 steps, a break before step 0,
-    // a kind 32, and the clock of a numbered thing
+    // in this order: `continue` with an argument, opcode 0, an opcode above the greatest, `stepi`
+    // with no steps and with 2^32 steps, breaks before step 0 and at kind 32, a watch of the clock
+    // with an index, and the greatest word
     let others = [
         327_683,
         0,

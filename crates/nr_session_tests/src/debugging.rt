@@ -1,4 +1,4 @@
-//! The state of a debugger, read by its own calls, and a reply that a writer cuts short.
+//! The state of a debugger, as its own calls return it, and a reply that a writer cuts short.
 
 use nr_command::{Debugger, Reply};
 use nr_replay_tests::{AtBrim, Cup};

@@ -1,4 +1,5 @@
-//! Words placed in one journal, by calls in turn. `nr_hostile_tests` contains the tests in which threads place them.
+//! Words that are placed in a journal by one call after another. `nr_hostile_tests` contains the
+//! tests in which threads place words.
 
 ghost use Rattle.std.specs.Prelude.{◌≡◌};
 ghost use Rattle.nr_journal.specs.Rule.{tag_of};
@@ -31,8 +32,9 @@ fn place(journal: &Journal, pass: &mut Pass, argument: u32) -> bool
     false
 }
 
-/// What the pass that fills a journal of two words sees: the word before, its own first word, whether each of three was
-/// placed, how many it has seen, and the next.
+/// The results of a pass that fills a journal of two words: the next word before it places any, its
+/// own first word, whether each of its three words was placed, the number of words that it has
+/// seen, and the next word after that.
 type Filled = (Option<u64>, u64, [bool; 3], usize, Option<u64>);
 
 fn fill(journal: &Journal, one: &mut Pass) -> Filled
@@ -49,8 +51,8 @@ fn fill(journal: &Journal, one: &mut Pass) -> Filled
     (before, word, placed, one.seen(), journal.next(one))
 }
 
-/// Returns how a pass that joins late compares with the first one, how the first one compares with it, and the first
-/// word that it sees.
+/// Returns how a late pass compares with the first pass, how the first pass compares with the late
+/// pass, and the first word that the late pass sees.
 fn come_late(
     journal: &Journal,
     one: &mut Pass,
@@ -64,7 +66,8 @@ fn come_late(
     (less, greater, journal.next(late))
 }
 
-/// Returns all words, and how both passes compare once one has seen everything that the other has.
+/// Returns all words, and how the first pass compares with the late pass after it has seen all
+/// words that the late pass has seen.
 fn see_all(journal: &Journal, one: &mut Pass, late: &mut Pass) -> Option<(Vec<u64>, Ordering)>
     requires { (one.old.table ≡ journal.now) × (late.old.table ≡ journal.now) }
 {

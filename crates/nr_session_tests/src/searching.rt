@@ -30,7 +30,7 @@ fn opening(alloc: Global) -> Result<Vec<Step>, AllocError> {
     Ok(steps)
 }
 
-/// Returns a film of 192 steps; the third and the following set the clock to 1, 2 and so on.
+/// Returns a film of 192 steps, which set the clock to 1, 2 and so on from the third step on.
 fn ticking(alloc: Global) -> Option<Film<World>> {
     let mut steps = opening(alloc).ok()?;
     add_ticks(&mut steps, 190).ok()?;
@@ -77,7 +77,7 @@ fn hit(position: usize, mark: u32) -> Found {
     Found::Hit(Hit { position, marks })
 }
 
-/// Holds one worker until another one has searched a segment.
+/// Holds one worker until another worker has searched a segment.
 #[derive(Drop)]
 struct Turnstile {
     held: usize,
@@ -106,8 +106,8 @@ impl Gate for Turnstile {
     }
 }
 
-/// Searches with two workers, one of which is held. Returns what is found, and whether the other one searched a segment
-/// meanwhile.
+/// Searches with two workers, one of which is held. Returns what they find, and whether the other
+/// worker searched a segment meanwhile.
 fn found_while_held<R: Threads + Sync>(
     rt: &R,
     alloc: Global,
@@ -159,7 +159,7 @@ fn four_hits() -> [Option<Found>; 4] {
     ]
 }
 
-/// Returns whether this many workers find these results.
+/// Returns whether this many workers find the expected results.
 fn is_found_by<R: Threads + Sync>(
     rt: &R,
     alloc: Global,
@@ -183,7 +183,8 @@ fn any_number_of_workers_finds_the_same(rt: HostRuntime) -> Result<(), Fail> {
     Ok(())
 }
 
-/// Workers that start each search with claims which no worker made and with a hint of a hit that needn't exist.
+/// Workers that start each search with claims that no worker made, and with a hint of a hit that
+/// may not exist.
 #[derive(Drop)]
 struct Misled<R: Threads + Sync> {
     many: ManyWorkers<R, Open>,
@@ -207,7 +208,7 @@ impl<R: Threads + Sync> Finder for Misled<R> {
     }
 }
 
-/// Returns whether misled workers, whose claims and hint are preset to these, find the same.
+/// Returns whether misled workers with these preset claims and this hint find the expected results.
 fn is_found_by_misled<R: Threads + Sync>(
     rt: &R,
     alloc: Global,

@@ -1,4 +1,4 @@
-//! Two fronts in threads of their own, one of which waits until the other was answered.
+//! Two fronts in threads of their own; one front waits until the caller of the other was answered.
 
 use nr_machine::World;
 use nr_replay_tests::ticking;
@@ -16,7 +16,8 @@ use std::sync::atomic::Ordering::SeqCst;
 use std::test::*;
 use std::thread::Threads;
 
-/// A reader that gives its line once. If it waits, it does so only after the other front's reply was written.
+/// A reader that returns its line once. If it waits, it returns the line only after the other
+/// front's reply was written.
 #[derive(Drop)]
 struct Giving<'a> {
     line: &'a [u8],
@@ -53,7 +54,7 @@ impl Read for Giving<'_> {
     }
 }
 
-/// A writer that notes that it was written to.
+/// A writer that records that it was written to.
 #[derive(Drop)]
 struct Noting<'a>(&'a AtomicBool);
 
@@ -75,7 +76,7 @@ struct Wire<'a> {
     noting: Noting<'a>,
 }
 
-/// One caller, until it is taken.
+/// The only caller of a front, until it has come.
 #[derive(Drop)]
 struct Caller<'a> {
     wire: Option<Wire<'a>>,
@@ -103,7 +104,7 @@ impl<'a> Connections for Caller<'a> {
     }
 }
 
-/// What the two wires share, and which of them waits for the other.
+/// The state that the two wires share, and which wire waits for the other.
 #[derive(Drop)]
 struct Wires<'a> {
     given: &'a AtomicBool,
@@ -167,7 +168,7 @@ fn share_over<R: Threads + Sync>(rt: &R, alloc: Global, wires: Wires<'_>) -> Opt
     share(rt, alloc, &film, OneWorker::<&R>::new(), shape, &mut ports).ok()
 }
 
-/// Runs the session in which the first front waits for the second, or the other way round.
+/// Runs a session in which the first front waits for the second, or the second for the first.
 fn share_between<R: Threads + Sync>(rt: &R, alloc: Global, first_waits: bool) -> Option<Ended> {
     let (given, answered) = (AtomicBool::new(false), AtomicBool::new(false));
     let (more, reported) = (AtomicBool::new(false), AtomicBool::new(false));
