@@ -39,7 +39,7 @@ const CHANGED: &str = "1 lock 0 = 0
 ok 12 steps
 ";
 
-/// A socket is opened, and a goroutine that doesn't exist reads.
+/// A socket is opened, and a goroutine that doesn't exist reads from it.
 const REFUSED: &str = "[\"sockopen\",16,16]\n[\"sysread\",3,0,8]\n[\"tick\",5]\n";
 
 /// The output for that recording.
@@ -80,7 +80,7 @@ fn what_is_no_recording_has_its_fault_alone(rt: HostRuntime) -> Result<(), Alloc
     Ok(())
 }
 
-// More lines than are written at once.
+// The output has more lines than one write has.
 #[test]
 fn each_of_many_lines_is_there_once(rt: HostRuntime) -> Result<(), AllocError> {
     let alloc = rt.alloc();

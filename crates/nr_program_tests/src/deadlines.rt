@@ -1,12 +1,12 @@
-//! What became of deadlines, as `suspects` prints it.
+//! What happened to deadlines, as `suspects` prints it.
 use crate::playing::suspects;
 use nr_programs::ExitStatus;
 use nr_replay_tests::HEADER;
 use std::alloc::AllocError;
 use std::test::*;
 
-/// A goroutine sets deadlines, which wake a parked goroutine twice: one call ends, and the second deadline is taken
-/// back too soon.
+/// A goroutine sets deadlines, which wake a parked goroutine twice. The first deadline ends a call,
+/// and the second is set again too soon.
 const DEADLINES: &str = "[\"sockopen\",16,16]
 [\"pollopen\",0,0]
 [\"spawn\"]
@@ -32,7 +32,7 @@ const DEADLINES: &str = "[\"sockopen\",16,16]
 [\"setdeadline\",1,0,\"r\",90]
 ";
 
-/// What became of these deadlines.
+/// What happened to these deadlines.
 const CAME: &str = "at 12 passed-deadline desc 0 r set 4 by 1 rw moved 5 by 1
 at 14 timeout gor 0 desc 0 r set 4 by 1 rw moved 5 by 1
 at 22 passed-deadline desc 0 r set 15 by 1 r

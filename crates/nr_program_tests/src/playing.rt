@@ -24,7 +24,7 @@ impl Played {
     }
 }
 
-/// How a script on streams ended, and the rest of the streams.
+/// How a script on streams ended, and what is left of the streams.
 #[derive(Drop)]
 pub(crate) struct Ended<I, O> {
     pub(crate) status: ExitStatus,
@@ -71,7 +71,7 @@ pub(crate) fn run<R: Threads + Sync>(
     })
 }
 
-/// Runs the script that prints locks, and returns the rest of the streams.
+/// Runs the script that prints locks, and returns how it ended and what is left of the streams.
 pub(crate) fn run_over<R: Threads + Sync>(
     rt: &R,
     alloc: Global,
@@ -115,7 +115,8 @@ impl Program {
         })
     }
 
-    /// Returns whether exactly the first bytes are written if the writer fails after them.
+    /// Returns whether exactly the first bytes are written if the writer fails after this many
+    /// bytes.
     pub(crate) fn is_cut(self, alloc: Global, recording: &str, room: usize, text: &str) -> bool {
         let mut output = Sink::new(Cup {
             held: Vec::new(alloc),

@@ -1,4 +1,5 @@
-//! Recordings and the output of `check` for each. `run` refuses the same recordings, and then reads none of its input.
+//! Recordings, and the output of `check` for each. `run` refuses the same recordings, and then
+//! reads no input.
 use crate::playing::{check, run_over};
 use crate::texts::{EARLY, SCRIPT};
 use nr_programs::ExitStatus;
@@ -19,7 +20,8 @@ struct Report {
     line: &'static str,
 }
 
-/// The first recordings are one for each reason that a recording can have, by number.
+/// The first recordings have one for each reason for which a step can be refused, in the order of
+/// the reasons' numbers.
 static RECORDINGS: [Report; 34] = [
     Report {
         header: SMALL,
@@ -278,13 +280,13 @@ static RECORDINGS: [Report; 34] = [
     },
 ];
 
-/// Returns whether `check` gives this result.
+/// Returns whether `check` has this result.
 fn is_checked(alloc: Global, report: &Report) -> Result<bool, AllocError> {
     let played = check(alloc, report.header, report.steps)?;
     Ok(played.is(report.status, report.line))
 }
 
-/// Returns whether `run` gives this result, too, for a refused recording, and reads nothing.
+/// Returns whether `run` has this result too if the recording is refused, and reads no input.
 fn is_refused<R: Threads + Sync>(
     rt: &R,
     alloc: Global,

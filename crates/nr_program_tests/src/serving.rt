@@ -24,9 +24,9 @@ enum Then {
     Ends,
     /// Its reads fail.
     Fails,
-    /// It sends bytes without end.
+    /// It sends bytes forever.
     GoesOn,
-    /// It sends bytes without end, but `end_replies` fails.
+    /// It sends bytes forever, and `end_replies` fails.
     IsGone,
 }
 
@@ -41,7 +41,7 @@ struct Part {
 #[derive(Drop)]
 struct Seen {
     reads: AtomicU32,
-    /// The number of bytes that match the expected replies, up to the first difference.
+    /// The number of bytes in the writes that match the expected replies at their place.
     right: AtomicU32,
     written: AtomicU32,
 }
@@ -55,7 +55,8 @@ impl Seen {
         }
     }
 
-    /// Asserts that the caller was read so often, and got exactly the expected replies.
+    /// Asserts that the caller's lines were read this many times, and that it got exactly the
+    /// expected replies.
     fn assert(&self, rt: &impl Abort, part: &Part, reads: u32) {
         assert_eq!(rt; self.reads.load(SeqCst), reads, "reads of {}", part.lines);
         let replies = u32::try_from(part.replies.len()).unwrap_or(u32::MAX);
@@ -74,7 +75,7 @@ impl Seen {
     }
 }
 
-/// A caller that plays a part.
+/// A caller with its part, and what it has received.
 #[derive(Clone, Copy)]
 struct Caller<'a> {
     part: &'a Part,
@@ -169,7 +170,7 @@ impl<'a> Connections for Callers<'a> {
     }
 }
 
-/// The callers of all fronts, one front's after the other's, with this many at each.
+/// The callers of all fronts, in the order of the fronts, with `each` callers at each front.
 #[derive(Drop)]
 struct Switchboard<'a> {
     each: usize,
@@ -198,7 +199,7 @@ impl<'a> Ports for Switchboard<'a> {
     }
 }
 
-/// Serves a recording of twelve steps to these callers, with this many at each front.
+/// Serves a recording of twelve steps to these callers, with `each` callers at each front.
 fn serve<R: Threads + Sync>(
     rt: &R,
     alloc: Global,

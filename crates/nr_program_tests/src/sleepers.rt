@@ -34,7 +34,7 @@ const ONE_FREE: &str = "[\"syswrite\",0,0,\"61\"]\n";
 
 const ERROR: &str = "[\"pollevent\",0,1,\"w\",1]\n";
 
-/// The descriptor is opened again, for a socket with room to write one byte.
+/// The descriptor is reopened for a socket that has room to write one byte.
 const OPENED_ANEW: &str = "[\"evict\",0,0]
 [\"pollclose\",0,0]
 [\"sockopen\",2,1]

@@ -1,4 +1,4 @@
-//! Streams that give or take one byte per call, and stop.
+//! Streams that move one byte per call, and stop.
 use crate::playing::{Program, record, run_on};
 use crate::texts::{REPLIES, SCRIPT};
 use nr_programs::ExitStatus;
@@ -10,7 +10,8 @@ use std::thread::Threads;
 /// A number greater than the length of the script or of its replies.
 const ALL: usize = 1_000;
 
-/// How much of the script can be read and how much of its replies can be written, and the expected result.
+/// The number of bytes of the script that can be read, the number of bytes of its replies that can
+/// be written, and the expected result.
 #[derive(Clone, Copy)]
 struct Cut<'a> {
     left: usize,
@@ -21,7 +22,7 @@ struct Cut<'a> {
     write_failed: bool,
 }
 
-/// Returns a read that fails after this many bytes.
+/// Returns the case in which a read fails after this many bytes.
 fn starved(left: usize, replies: &str) -> Cut<'_> {
     Cut {
         left,
@@ -33,7 +34,7 @@ fn starved(left: usize, replies: &str) -> Cut<'_> {
     }
 }
 
-/// Returns a write that fails after this many bytes of a text.
+/// Returns the case in which a write fails after this many bytes of a text.
 fn filled(room: usize, text: &str) -> Cut<'_> {
     Cut {
         left: ALL,
@@ -45,7 +46,7 @@ fn filled(room: usize, text: &str) -> Cut<'_> {
     }
 }
 
-/// Returns whether the script on a recording has this result.
+/// Returns whether the script has this result on a recording.
 fn is_so<R: Threads + Sync>(
     rt: &R,
     alloc: Global,

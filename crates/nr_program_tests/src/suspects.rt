@@ -5,7 +5,8 @@ use nr_replay_tests::HEADER;
 use std::alloc::AllocError;
 use std::test::*;
 
-/// A goroutine takes an event and sleeps without a read; another closes the socket, and ends while holding a reference.
+/// A goroutine takes an event and sleeps without a read. Another goroutine closes the socket, and
+/// ends while it holds a reference.
 const SUSPICIOUS: &str = "[\"sockopen\",16,16]
 [\"pollopen\",0,0]
 [\"arrive\",0,\"6869\"]
@@ -29,7 +30,8 @@ at 14 held-reference sock 0 gor 1 count 1 since 12 gone
 ok 14 steps
 ";
 
-/// A goroutine tries the socket before it sleeps, and another returns what it took.
+/// A goroutine tries the socket before it sleeps, and another goroutine returns the reference that
+/// it took.
 const INNOCENT: &str = "[\"sockopen\",16,16]
 [\"pollopen\",0,0]
 [\"pollevent\",0,1,\"r\",0]

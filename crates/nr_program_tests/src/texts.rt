@@ -42,7 +42,7 @@ pub(crate) const EARLY: &str = r#"["sockopen",16,16]
 ["blockswap",0]
 "#;
 
-/// A write side is shut between two writes, and the bytes of the first are drained.
+/// A write side is shut between two writes, and the bytes of the first write are drained.
 pub(crate) const SHUTS: &str = "[\"sockopen\",1048576,4,[\"number\",0]]
 [\"syswrite\",0,0,\"6869\",[\"put\",2]]
 [\"closewrite\",0,0,\"done\"]
