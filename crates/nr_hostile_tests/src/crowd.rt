@@ -1,4 +1,4 @@
-//! More fronts than words, in threads of their own.
+//! Fronts in threads of their own, over a journal with room for fewer words than fronts.
 
 ghost use Rattle.std.specs.Prelude.{◌≡◌};
 
@@ -58,7 +58,7 @@ impl<'a, 'f, R: Threads + Sync> User<'a, 'f, R> {
     }
 }
 
-/// Runs a step of each user, in a thread of its own if possible.
+/// Runs one step of each user, in a thread of its own if possible.
 fn step_each<R: Threads + Send + Sync>(rt: &R, users: &mut [User<'_, '_, R>]) {
     for_each_mut(rt, users, 8, &|_, user: &mut User<'_, '_, R>| user.step());
 }
@@ -83,7 +83,7 @@ fn eight<'a, 'f, R: Threads + Sync>(
     Some(users)
 }
 
-/// Ends all users, and returns each one's answer and number of words.
+/// Ends all users, and returns the answer and the number of words of each user.
 fn end_all<R: Threads + Sync>(
     alloc: Global,
     users: Vec<User<'_, '_, R>>,
@@ -95,7 +95,7 @@ fn end_all<R: Threads + Sync>(
     Some(answers)
 }
 
-/// Returns the words of a journal, as a front that joins late sees them.
+/// Returns the words of a journal, as a pass that joins late sees them.
 fn all_words(journal: &Journal, seat: Seat) -> Option<Vec<u64>>
     requires { seat.table ≡ journal.now }
 {
@@ -103,8 +103,8 @@ fn all_words(journal: &Journal, seat: Seat) -> Option<Vec<u64>>
     journal.finish(&mut late).ok()
 }
 
-/// Runs one step of each of eight fronts over a journal of seven words. Returns each one's answer and number of words,
-/// and the words.
+/// Runs one step of each of eight fronts over a journal of seven words. Returns the answer and the
+/// number of words of each front, and the words.
 fn crowd_over<R: Threads + Send + Sync>(
     rt: &R,
     alloc: Global,
@@ -127,7 +127,7 @@ fn crowd<R: Threads + Send + Sync>(
     crowd_over(rt, alloc, &film)
 }
 
-/// Returns how often each place from 1 on was answered.
+/// Returns how many fronts were answered at each position from 1 on.
 fn places(answers: &[(Answered, usize)]) -> [u32; 7] {
     let mut places = [0u32; 7];
     for (answer, seen) in answers {
@@ -143,7 +143,7 @@ fn places(answers: &[(Answered, usize)]) -> [u32; 7] {
     places
 }
 
-/// Returns the tags of those words that are a step, in ascending order, each once.
+/// Returns the tags of the words that are a `stepi`, each tag once and in ascending order.
 fn tags(alloc: Global, words: &[u64]) -> Result<Vec<u64>, AllocError> {
     let mut tags = Vec::new(alloc);
     for word in words {

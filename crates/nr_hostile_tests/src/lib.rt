@@ -1,5 +1,5 @@
-//! Tests of fronts and of the line loop by public calls: sessions of lines, streams that fail, memory that runs out,
-//! journals that are full, and fronts in threads of their own.
+//! Tests of fronts and of the line loop by their public calls: sessions of lines, streams that
+//! fail, memory that runs out, journals that are full, and fronts in threads of their own.
 #![tactic(auto)]
 
 #[cfg(test)]

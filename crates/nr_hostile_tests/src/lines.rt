@@ -1,4 +1,5 @@
-//! Lines that are sent to a front, and then to the same or another front, and their replies.
+//! Lines that are sent to a front, then lines that are sent to the same or to another front, and
+//! the replies.
 
 use crate::scripts::{Script, Second, Tape, TwoScripts, play, undisturbed};
 use nr_lines::End;
@@ -7,13 +8,14 @@ use std::test::*;
 /// The lines that are sent to a front, and the expected result.
 struct Part {
     lines: &'static str,
-    /// The copies of the film's world to refuse: one bit for each request, from the lowest on.
+    /// Which copies of the film's world are refused: one bit for each request, from the lowest bit
+    /// on.
     refused: u32,
     replies: &'static str,
     end: End,
 }
 
-/// A front's part, and the part after it.
+/// The part of one front, and the part after it.
 struct Session {
     /// What the session shows.
     topic: &'static str,

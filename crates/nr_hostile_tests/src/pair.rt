@@ -40,7 +40,8 @@ fn wait_for_both<R: Threads + Sync>(journal: &Journal, front: &mut Lone<'_, R>)
     }
 }
 
-/// Places a hundred commands, and queries until another front's hundred have run, too.
+/// Places a hundred commands, and queries until the hundred commands of the other front have run
+/// too.
 fn step_and_wait<R: Threads + Sync>(journal: &Journal, mut front: Lone<'_, R>) -> Pass
     requires { front.table ≡ journal.now }
     ensures { result.table ≡ journal.now }
@@ -50,8 +51,8 @@ fn step_and_wait<R: Threads + Sync>(journal: &Journal, mut front: Lone<'_, R>) -
     front.end()
 }
 
-/// Lets two fronts place a hundred commands each at the same time. Returns how their numbers of words compare, and the
-/// words.
+/// Lets two fronts place a hundred commands each at the same time. Returns how the numbers of words
+/// that they have seen compare, and the words.
 fn step_at_once<R: Threads + Send + Sync>(
     rt: &R,
     alloc: Global,

@@ -1,5 +1,5 @@
-//! Scripts for fronts, over streams that move byte by byte, are interrupted at every second call, and end or fail in
-//! the middle.
+//! Scripts for fronts, over streams that move one byte per call, are interrupted at every second
+//! call, and end or fail in the middle.
 
 ghost use Rattle.std.specs.Prelude.{◌≡◌};
 
@@ -23,7 +23,8 @@ pub(crate) struct Script {
     /// The number of bytes of the replies that can be written.
     pub(crate) room: usize,
     pub(crate) then: AtBrim,
-    /// The copies of the film's world to refuse: one bit for each request, from the lowest on.
+    /// Which copies of the film's world are refused: one bit for each request, from the lowest bit
+    /// on.
     pub(crate) refused: u32,
 }
 
@@ -147,7 +148,7 @@ fn film_of(alloc: Global, tape: Tape) -> Option<Film<Observed>> {
     }
 }
 
-/// Plays both scripts, and returns their results and the number of words that were placed.
+/// Runs both scripts, and returns their results and the number of words that were placed.
 pub(crate) fn play<R: Wait + Threads + Sync>(
     rt: &R,
     alloc: Global,

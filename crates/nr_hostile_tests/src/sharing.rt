@@ -37,7 +37,7 @@ fn front<'f, R: Threads + Sync>(
     }
 }
 
-/// Enters the journal by a seat, and returns the pass.
+/// Enters the journal with a seat, and returns the pass.
 pub(crate) fn enter(journal: &Journal, seat: Seat) -> Option<Pass>
     requires { seat.table ≡ journal.now }
     ensures { IfSome result (λ pass. (pass.table ≡ journal.now) × (pass.pass_state.seen ≡ [])) }
@@ -63,7 +63,8 @@ pub(crate) fn enter_front<'f, R: Threads + Sync>(
     front(rt, alloc, pass, film)
 }
 
-/// Makes a journal of this many words, two fronts with the tags 0 and 1, and a third pass.
+/// Makes a journal with room for this many words, two fronts with the tags 0 and 1, and a third
+/// pass.
 pub(crate) fn share<'f, R: Threads + Sync>(
     rt: &R,
     alloc: Global,

@@ -9,7 +9,7 @@ use std::sync::Wait;
 use std::test::*;
 use std::thread::Threads;
 
-/// Returns a script followed by another at the same front.
+/// Returns a script that is followed by another script at the same front.
 fn one_behind_the_other(first: Script, second: &'static str) -> TwoScripts {
     TwoScripts {
         tape: Tape::Woken,
@@ -38,7 +38,7 @@ fn lines_and_rest(text: &[u8]) -> (u64, u64) {
 struct Cut {
     lines: &'static str,
     replies: &'static str,
-    /// True if the last line is a step.
+    /// True if the last line is a `stepi`.
     steps_last: bool,
 }
 
@@ -55,8 +55,8 @@ static CUTS: [Cut; 2] = [
     },
 ];
 
-/// Asserts the result if the replies are cut after this many bytes: the line whose reply was cut has run, and the front
-/// continues from there.
+/// Asserts the result of cutting the replies after this many bytes: the line whose reply was cut
+/// has run, and the front continues after it.
 fn assert_cut<R: Wait + Threads + Sync + Abort>(
     rt: &R,
     alloc: Global,
@@ -122,7 +122,7 @@ fn a_read_fails_behind_each_byte(rt: HostRuntime) -> Result<(), Fail> {
         };
         let both = one_behind_the_other(first, "info position");
         let (before, behind, placed) = play(&rt, rt.alloc(), &both).ok_or("not played")?;
-        // a line that isn't whole is no command, even if it reads like one
+        // a line without its end isn't a command, even if its first bytes are one
         let (replies, there, words) = if left < 8 {
             ("", "at 0 of 12 forward\n", 0)
         } else {

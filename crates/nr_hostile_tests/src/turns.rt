@@ -71,7 +71,7 @@ pub(crate) fn ask<R: Threads + Sync>(
     }
 }
 
-/// The front to which a line is sent: the one with tag 0, or the other one with tag 1.
+/// The front to which a line is sent: `One` has tag 0, and `Other` has tag 1.
 #[derive(Clone, Copy)]
 enum User {
     One,
@@ -82,7 +82,8 @@ enum User {
 struct Turns {
     /// The number of words for which the journal has room.
     room: usize,
-    /// The requested copies of the film's world to refuse: one bit for each request, from the lowest on.
+    /// Which copies of the film's world are refused: one bit for each request, from the lowest bit
+    /// on.
     refused: u32,
     lines: &'static [(User, &'static str)],
     answers: &'static [Answered],
@@ -116,7 +117,8 @@ fn ask_all<R: Threads + Sync>(
 struct Ended {
     /// The number of words that each front has seen.
     seen: (usize, usize),
-    /// How the third pass's number of words compares with the first's, and the first's with the second's.
+    /// How the number of words that the third pass has seen compares with the first pass's, and the
+    /// first pass's with the second's.
     met: (Ordering, Ordering),
     /// The words that the third pass sees.
     words: Vec<u64>,
@@ -256,8 +258,9 @@ static TURNS: [Turns; 5] = [
         ],
         words: &[65_794],
     },
-    // The first front's search takes a copy. For that search, two copies are refused to the other front, which
-    // therefore places nothing. The words are a watch and a search with tag 0, and one step with tag 1.
+    // The first front's search takes a copy. When the other front runs that search, two copies are
+    // refused, so it places nothing. The words are a watch and a search with tag 0, and one step
+    // with tag 1.
     Turns {
         room: 8,
         refused: 0b110,
@@ -317,9 +320,9 @@ fn offer_no_command(journal: &Journal, pass: &mut Pass) -> bool
     matches!(journal.offer(pass, word), Offered::Placed)
 }
 
-/// Places a word that isn't a command with tag 2, a step by the front with tag 0, another word that isn't a command
-/// with tag 0, and a step by the front with tag 1. Returns whether each such word was placed, the answers to the steps,
-/// and the final state.
+/// Places a word that isn't a command with tag 2, a step by the front with tag 0, another word that
+/// isn't a command with tag 0, and a step by the front with tag 1. Returns whether each of the two
+/// other words was placed, the answers to the steps, and the final state.
 fn step_behind_over<R: Threads + Sync>(
     rt: &R,
     alloc: Global,
@@ -348,7 +351,7 @@ fn a_word_that_is_no_command_takes_a_place(rt: HostRuntime) -> Result<(), Fail> 
     let (placed, answers, ended) = step_behind_no_commands(&rt, rt.alloc()).ok_or("not played")?;
     assert_eq!(rt; placed, [true, true]);
     assert_eq!(rt; answers, [Answered::At(1), Answered::At(2)]);
-    // the first front has seen everything except the other's step
+    // the first front has seen all words except the other front's step
     assert_eq!(rt; ended.seen, (3, 4));
     assert_eq!(rt; ended.met, (Ordering::Less, Ordering::Less));
     assert_eq!(rt;
