@@ -117,7 +117,7 @@ pub(crate) static CALLS: [(&str, Call); 48] = [
 ];
 
 impl Call {
-    /// Returns the call of this name.
+    /// Returns the call with this name.
     pub(crate) fn named(word: &str) -> Option<Call> {
         for (name, call) in CALLS.iter() {
             if *name == word {
@@ -127,8 +127,8 @@ impl Call {
         None
     }
 
-    /// Makes the call while requests for memory may be refused, and then again with memory. Returns `None` if memory
-    /// ran out while preparing it.
+    /// Makes the call while requests for memory may be refused, and then again with memory. Returns
+    /// `None` if memory ran out during the preparation.
     pub(crate) fn make_twice<H: Threads + Sync>(
         self,
         rt: &HostRuntime,

@@ -8,8 +8,8 @@ use nr_rev::{Cell, CellValue, Refusal, Worlds};
 use nr_snaps::{Film, LoadFault, Snaps};
 use std::alloc::{AllocError, Global};
 
-/// The number of steps in the long recording: those of the text, followed by steps that set the clock to 1, 2 and so
-/// on.
+/// The number of steps in the long recording, which has the steps of the text, followed by steps
+/// that set the clock to 1, 2 and so on.
 pub(crate) const STEPS: usize = 192;
 
 /// The number of steps between two copies.

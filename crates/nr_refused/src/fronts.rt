@@ -29,7 +29,7 @@ enum Answer {
     /// The expected reply.
     Right,
     Memory,
-    /// The command of this number ran out of memory, and its reply is owed.
+    /// The command with this number ran out of memory, and its reply is owed.
     Owed(usize),
     NothingOwed,
     /// Any other answer.
@@ -37,7 +37,7 @@ enum Answer {
 }
 
 impl Answer {
-    // Returns which answer this is, if the reply should print as this text.
+    // Returns which answer this reply is, given the text of the expected reply.
     fn of(reply: Result<Reply, FrontFault>, text: &str) -> Answer {
         match reply {
             Ok(reply) => {
@@ -82,7 +82,7 @@ fn prints_as(reply: &Reply, text: &str) -> bool {
     is_out && room.get(..all.saturating_sub(left)) == Some(text.as_bytes())
 }
 
-/// Sends a line to a front, and returns which answer it got, if the reply should print as this text.
+/// Sends a line to a front, and returns which answer it got, given the text of the expected reply.
 fn ask<H: Threads + Sync>(
     front: &mut Lone<'_, H>,
     journal: &Journal,
@@ -119,7 +119,7 @@ fn ask_all<H: Threads + Sync>(
     are_right
 }
 
-// Enters the journal by a seat, and returns the pass.
+// Enters the journal with a seat, and returns the pass.
 fn enter(journal: &Journal, seat: Seat) -> Option<Pass>
     requires { seat.table ≡ journal.now }
     ensures { IfSome result (λ pass. (pass.table ≡ journal.now) × (pass.pass_state.seen ≡ [])) }
@@ -184,7 +184,7 @@ fn steps_and_looks<H: Threads + Sync>(front: &mut Lone<'_, H>, journal: &Journal
     Came::of(ask_all(front, journal, lines.as_slice()))
 }
 
-// Makes a front with the pass that was returned.
+// Makes a front with the pass that a refused call returned.
 fn make_again<H: Threads + Sync>(
     _handles: &H,
     alloc: Global,
@@ -201,7 +201,7 @@ fn make_again<H: Threads + Sync>(
     }
 }
 
-// Makes a front, and makes it again if the pass was returned.
+// Makes a front, and makes it again if the call was refused and returned the pass.
 fn make_with<H: Threads + Sync>(
     rt: &HostRuntime,
     handles: &H,
@@ -238,7 +238,7 @@ fn make_over<H: Threads + Sync>(
     Some(make_with(rt, handles, &journal, film, pass))
 }
 
-/// Tests making a front; the second time it uses the pass that was returned.
+/// Tests making a front. The second call uses the pass that the first call returned.
 pub(crate) fn make_twice<H: Threads + Sync>(rt: &HostRuntime, handles: &H) -> Option<Twice> {
     let film = film(rt.alloc())?;
     make_over(rt, handles, &film)
@@ -252,7 +252,7 @@ pub(crate) enum Play {
     /// A step after another front's search.
     ExecBehindAnother,
     Look,
-    /// A request for an owed reply.
+    /// A `resume` for an owed reply.
     Resume,
     SixLines,
 }
@@ -276,7 +276,8 @@ fn play_over<H: Threads + Sync>(
 // The reply of the search in the tests below.
 const FOUND: &str = "at 2 by 1\n";
 
-// Tests a search that may run out of memory. If it does, its reply is owed, and commands are refused until then.
+// Tests a search that may run out of memory. If it does, its reply is owed, and further commands
+// are refused until `resume` returns the reply.
 fn exec<H: Threads + Sync>(rt: &HostRuntime, journal: &Journal, front: &mut Lone<'_, H>) -> Twice
     requires { front.old.table ≡ journal.now }
 {
@@ -351,7 +352,7 @@ fn look<H: Threads + Sync>(rt: &HostRuntime, journal: &Journal, front: &mut Lone
     }
 }
 
-// Tests requesting the reply of a search that ran out of memory, when the search may run out of memory again.
+// Tests `resume` for a search that ran out of memory and may run out of memory again.
 fn resume_owed<H: Threads + Sync>(
     rt: &HostRuntime,
     journal: &Journal,
@@ -363,7 +364,7 @@ fn resume_owed<H: Threads + Sync>(
     refuse_next(rt);
     let answer = ask(front, journal, "continue", FOUND);
     if answer != Answer::Owed(2) {
-        // no request is refused
+        // no request was refused
         return Twice::once(Came::of(begun && answer.is_right()));
     }
     refuse(rt);
@@ -382,7 +383,7 @@ fn resume_owed<H: Threads + Sync>(
     }
 }
 
-/// Six lines, each with its reply and the number of commands placed after it.
+/// Six lines, each with its reply and the number of commands that are placed after it.
 static SIX_LINES: [(&str, &str, usize); 6] = [
     ("watch rg 0", "mark 1\n", 1),
     ("continue", "at 2 by 1\n", 2),
@@ -392,8 +393,9 @@ static SIX_LINES: [(&str, &str, usize); 6] = [
     ("info position", "at 2 of 12 forward\n", 4),
 ];
 
-// Sends a line until it is answered. If memory ran out for the line or for another front's command, sends it again. If
-// its own command was placed and its reply is owed, which happens only for a search, requests the reply.
+// Sends a line until it is answered. If memory ran out for the line or for another front's command,
+// sends it again. If the line's command was placed and its reply is owed, which happens only for a
+// search, requests the reply.
 fn answered<H: Threads + Sync>(
     journal: &Journal,
     front: &mut Lone<'_, H>,
@@ -418,7 +420,8 @@ fn answered<H: Threads + Sync>(
     }
 }
 
-// Sends the six lines. Returns `Wrong` if one of the answers is wrong, or else `Refused` if one was refused.
+// Sends the six lines. Returns `Wrong` if an answer is wrong, otherwise `Refused` if a line was
+// refused, and otherwise `Right`.
 fn answered_all<H: Threads + Sync>(journal: &Journal, front: &mut Lone<'_, H>) -> Came
     requires { front.old.table ≡ journal.now }
     ensures { front.new.table ≡ journal.now }
@@ -431,7 +434,8 @@ fn answered_all<H: Threads + Sync>(journal: &Journal, front: &mut Lone<'_, H>) -
     all
 }
 
-// Tests the six lines while one request is refused, and then checks with the other front what they left.
+// Tests the six lines while requests may be refused, and then checks with the other front what the
+// lines left.
 fn six_lines<H: Threads + Sync>(
     rt: &HostRuntime,
     journal: &Journal,
@@ -465,7 +469,7 @@ fn film_of(alloc: Global, play: Play) -> Option<Film<World>> {
     }
 }
 
-/// Runs the test. In `SixLines`, each of the lines may be refused, and is then sent again.
+/// Runs the test. In `SixLines`, each line may be refused, and a refused line is sent again.
 pub(crate) fn play_twice<H: Threads + Sync>(
     rt: &HostRuntime,
     handles: &H,

@@ -9,7 +9,7 @@ use nr_journal::{Journal, Offered, Pass, Passes, Seat};
 use nr_rev::Memory;
 use std::alloc::Global;
 
-// Returns a checkpoint's word with the pass's tag: opcode 9 and no argument.
+// Returns the word of the command `checkpoint` with the pass's tag: opcode 9 and no argument.
 fn word_of(pass: &Pass) -> u64
     ensures { HasOpcode result × (tag_of result ≡ pass.now.pass_state.tag) }
 {
@@ -25,7 +25,7 @@ fn place(journal: &Journal, pass: &mut Pass) -> bool
     matches!(journal.offer(pass, word), Offered::Placed)
 }
 
-// Returns whether exactly two words can be placed in a new journal.
+// Returns whether a new journal has room for exactly two words.
 fn has_room_for_two(journal: &Journal, pass: &mut Pass) -> bool
     requires { pass.old.table ≡ journal.now }
 {
@@ -37,7 +37,7 @@ fn has_room_for_two(journal: &Journal, pass: &mut Pass) -> bool
     placed == [true, true, false] && pass.seen() == 2
 }
 
-// Returns whether exactly two words can be placed in a new journal with this first seat.
+// Returns whether a new journal with this first seat has room for exactly two words.
 fn seats_two(journal: &Journal, seat: Seat) -> bool
     requires { seat.table ≡ journal.now }
 {
@@ -47,7 +47,7 @@ fn seats_two(journal: &Journal, seat: Seat) -> bool
     }
 }
 
-// Makes a journal of two words.
+// Makes a journal with room for two words.
 fn make(alloc: Global) -> Came {
     match Journal::new(alloc, 2) {
         Ok((journal, seat)) => Came::of(seats_two(&journal, seat)),
@@ -55,7 +55,7 @@ fn make(alloc: Global) -> Came {
     }
 }
 
-// Makes a journal of two words for a single pass.
+// Makes a journal with room for two words and for a single pass.
 fn make_alone(alloc: Global) -> Came {
     match Journal::alone(alloc, 2) {
         Ok((journal, mut pass)) => Came::of(has_room_for_two(&journal, &mut pass)),
@@ -63,7 +63,7 @@ fn make_alone(alloc: Global) -> Came {
     }
 }
 
-// Returns whether a journal of two words has two passes left, with the tags 0 and 1, and room for two words.
+// Returns whether a new journal has two passes left, with the tags 0 and 1, and room for two words.
 fn gives_two(journal: &Journal, passes: &mut Passes) -> bool
     requires table { passes.old.table ≡ journal.now }
     requires two { (passes.old.next ≡ 0) × (passes.old.passes ≡ 2) }
@@ -73,7 +73,7 @@ fn gives_two(journal: &Journal, passes: &mut Passes) -> bool
     (first.tag(), second.tag()) == (0, 1) && has_room_for_two(journal, &mut first)
 }
 
-// Makes a journal of two words and two passes.
+// Makes a journal with room for two words and for two passes.
 fn make_of_passes(alloc: Global) -> Came {
     match Journal::of_passes(alloc, 2, 2) {
         Ok((journal, mut passes)) => Came::of(gives_two(&journal, &mut passes)),
@@ -81,7 +81,7 @@ fn make_of_passes(alloc: Global) -> Came {
     }
 }
 
-/// Tests making a journal of two passes.
+/// Tests making a journal for two passes.
 pub(crate) fn make_of_passes_twice(rt: &HostRuntime) -> Twice {
     refuse(rt);
     let first = make_of_passes(rt.alloc());
@@ -114,7 +114,8 @@ pub(crate) fn make_alone_twice(rt: &HostRuntime) -> Twice {
     }
 }
 
-// Returns the result of reading, if the words should be this many checkpoints with tag 0.
+// Returns the result of reading, given that the words should be this many `checkpoint` commands
+// with tag 0.
 fn is_read(words: Result<Vec<u64>, Memory>, count: usize) -> Came {
     match words {
         Ok(words) => {

@@ -1,10 +1,11 @@
 //! Makes a call of netrev's libraries while requests for memory may be refused, and then again with memory: `nr_refused
 //! CALL`, or `nr_refused all` for all calls, one after the other.
 //!
-//! The program refuses nothing itself. It prints the line `refuse` when requests may be refused from now on, and
-//! `grant` when they may not. python/tests/program/each_call.py preloads scripts/refused.c before the C library, which
-//! obeys these lines. A line with the result of both calls follows. If a call was refused, the program has also
-//! compared what the call must leave unchanged.
+//! The program refuses nothing itself. It prints the line `refuse` when requests may be refused
+//! from then on, and `grant` when they may no longer be refused. python/tests/program/each_call.py
+//! preloads scripts/refused.c, which obeys these lines, before the C library. Then it prints a line
+//! with the result of both calls. If a call was refused, the program also checks that the call left
+//! unchanged what it must.
 #![tactic(auto)]
 
 mod calls;
@@ -36,7 +37,7 @@ fn main(rt: HostRuntime) -> ExitCode {
     }
 }
 
-// Runs the command of the arguments, and returns the exit status.
+// Runs the command that the arguments name, and returns the exit status.
 fn run<H: Threads + Sync>(rt: &HostRuntime, handles: &H) -> io::Result<u8> {
     let words: Vec<String> = env::args(rt)?.collect(rt.alloc())?;
     let Some(word) = words.get(1) else {

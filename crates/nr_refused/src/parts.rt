@@ -1,5 +1,5 @@
-//! The parts of a packed world with memory of their own: goroutines, buffers and timers. A lock word and a descriptor
-//! have none.
+//! The parts of a packed world that have memory of their own: goroutines, buffers and timers. Lock
+//! words and descriptors have no memory of their own.
 
 use crate::twice::{Came, Twice, grant, refuse};
 use nr_gsema::{GOperation, GTable};
@@ -15,7 +15,7 @@ fn came_of_table(made: Result<GTable, Memory>, goroutines: u32) -> Came {
     }
 }
 
-// Returns whether exactly this many goroutines were made, all idle, and none is queued.
+// Returns whether exactly this many goroutines were made, all of them are idle, and none is queued.
 fn has_goroutines(table: &GTable, goroutines: u32) -> bool {
     let last = goroutines
         .checked_sub(1)
@@ -81,7 +81,8 @@ fn came_of_sock(made: Result<Sock, Memory>, bytes: &[u8]) -> Came {
     }
 }
 
-// Returns whether exactly these bytes can be read, or, if there are none, whether the socket wasn't opened.
+// Returns whether exactly these bytes can be read; without bytes, returns whether the socket wasn't
+// opened.
 fn has_bytes(sock: &Sock, bytes: &[u8]) -> bool {
     sock.is_made() != bytes.is_empty()
         && sock.byte(Side::Read, 0) == bytes.get(0).copied()
@@ -174,7 +175,7 @@ fn came_of_timers(made: Result<Timers, Memory>, times: &[i64]) -> Came {
     }
 }
 
-// Returns whether exactly these timers are armed, in this order of places, and none has gone off.
+// Returns whether exactly these timers are armed, in this order in the heap, and none has gone off.
 fn has_times(timers: &Timers, times: &[i64]) -> bool {
     let due = |place| timers.at_place(place).map(|entry| entry.timer.due);
     timers.len() == times.len()
@@ -205,7 +206,7 @@ fn arm(side: Side, due: i64) -> TimersOp {
     }
 }
 
-// Makes timers of which the one armed later is due first.
+// Makes two timers, of which the second is due first.
 fn armed(alloc: Global) -> Option<Timers> {
     let mut timers = Timers::with_limits(alloc, 2).ok()?;
     timers.apply(&arm(Side::Read, 20)).ok()?;

@@ -10,7 +10,7 @@ use nr_snaps::Film;
 use std::num::NonZeroU32;
 use std::thread::Threads;
 
-// Returns marks that watch the unread bytes and break before step 151.
+// Returns marks that watch the number of unread bytes and break before step 151.
 fn marks() -> Marks {
     let mut marks = Marks::new();
     let _ = marks.add_watch(Cell::Input(0));

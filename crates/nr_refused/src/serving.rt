@@ -10,7 +10,7 @@ use nr_text::Sink;
 use std::alloc::Global;
 use std::thread::Threads;
 
-/// Lines whose replies don't depend on the front that is served first, and that allocate no memory.
+/// Lines that allocate no memory, and whose replies don't depend on which front is served first.
 static PARTS: [Part; 2] = [
     Part {
         lines: "checkpoint\nquit\n",
@@ -30,7 +30,7 @@ const SHARING: Sharing = Sharing {
     connections: None,
 };
 
-// Returns a copy of the text, which the call takes.
+// Returns a copy of the text, which the call consumes.
 fn copied_text(alloc: Global) -> Option<Vec<u8>> {
     Vec::from_slice(alloc, TEXT.as_bytes()).ok()
 }
@@ -55,8 +55,8 @@ fn serve_into<H: Threads + Sync>(
     (status, all.saturating_sub(left))
 }
 
-// Returns the result of serving. If memory was refused, either none of the callers may have been served, or all were
-// and only the words couldn't be collected.
+// Returns the result of serving. If memory was refused, either no caller was served, or all callers
+// were served and only the words couldn't be collected.
 fn came_of_serving(status: ExitStatus, out: Option<&[u8]>, seen: &[Seen; 2]) -> Came {
     let are_right = seen[0].is_right(&PARTS[0]) && seen[1].is_right(&PARTS[1]);
     let are_untouched = seen[0].is_untouched() && seen[1].is_untouched();
@@ -69,7 +69,7 @@ fn came_of_serving(status: ExitStatus, out: Option<&[u8]>, seen: &[Seen; 2]) -> 
     }
 }
 
-/// Tests serving two callers. Returns `None` if memory ran out before requests may be refused.
+/// Tests serving two callers. Returns `None` if memory ran out during the preparation.
 pub(crate) fn serve_twice<H: Threads + Sync>(rt: &HostRuntime, handles: &H) -> Option<Twice> {
     let alloc = rt.alloc();
     let mut room = [0u8; 64];

@@ -16,7 +16,7 @@ pub(crate) struct Part {
 #[derive(Drop)]
 pub(crate) struct Seen {
     reads: AtomicU32,
-    // the number of bytes that matched the expected replies
+    // the number of bytes in the writes that matched the expected replies at their place
     right: AtomicU32,
     written: AtomicU32,
 }
@@ -42,7 +42,7 @@ impl Seen {
     }
 }
 
-/// A caller that plays a part.
+/// A caller with its part, and what it has received.
 #[derive(Clone, Copy)]
 pub(crate) struct Caller<'a> {
     part: &'a Part,
@@ -87,7 +87,7 @@ impl Write for Replies<'_> {
     }
 }
 
-/// One caller, until it is taken.
+/// The only caller of a front, until it has come.
 #[derive(Drop)]
 pub(crate) struct Callers<'a> {
     caller: Option<Caller<'a>>,

@@ -9,7 +9,8 @@ use nr_snaps::Film;
 use nr_text::Sink;
 use std::alloc::Global;
 
-/// A goroutine waits for bytes at a socket and reads them. The text is in the form that `write` gives it.
+/// A goroutine waits for bytes at a socket and reads them. The text is exactly what `write` writes
+/// for its recording.
 pub(crate) const TEXT: &str = r#"{"buf":16,"desc":2,"gor":4,"netrev":1,"sock":2}
 ["sockopen",16,16]
 ["pollopen",0,0]
@@ -75,7 +76,7 @@ const CHANGED: &str = "1 lock 0 = 0
 ok 12 steps
 ";
 
-/// Room for more bytes than any text that is written here.
+/// A number greater than the length of any text that is written here.
 const ROOM: usize = 1_024;
 
 /// Tests reading the text.
@@ -99,7 +100,7 @@ fn came_of_reading(alloc: Global, reading: Result<Recording, ReadFault>) -> Came
     }
 }
 
-// Returns the result of writing a recording into enough room, if it should be this text.
+// Returns the result of writing a recording with enough room, given the expected text.
 fn written(alloc: Global, recording: &Recording, text: &str) -> Came {
     let mut room = [0u8; ROOM];
     let (result, count) = write_into(alloc, recording, room.as_mut_slice());
@@ -119,12 +120,13 @@ fn write_into(
     (result, all.saturating_sub(left))
 }
 
-// Returns whether these bytes are whole lines from the beginning of a text.
+// Returns whether these bytes are the first lines of a text, each of them whole.
 fn are_first_lines(out: &[u8], text: &str) -> bool {
     matches!(out.last(), None | Some(b'\n')) && text.as_bytes().starts_with(out)
 }
 
-// Returns the result of writing. If memory was refused, only some first lines may be written, and whole.
+// Returns the result of writing. If memory was refused, only some of the first lines may be
+// written, each of them whole.
 fn came_of_writing(outcome: Result<(), WriteFault>, out: Option<&[u8]>, text: &str) -> Came {
     let Some(out) = out else {
         return Came::Wrong;
@@ -223,8 +225,8 @@ fn upgrade_into(alloc: Global, room: &mut [u8]) -> (ExitStatus, usize) {
     (status, all.saturating_sub(left))
 }
 
-// Returns the result of upgrading. If memory was refused, the output must end with the line of that fault, after whole
-// lines.
+// Returns the result of upgrading. If memory was refused, the output must be whole lines and then
+// the line of that fault.
 fn came_of_upgrading(status: ExitStatus, out: Option<&[u8]>) -> Came {
     let Some(out) = out else {
         return Came::Wrong;
@@ -273,8 +275,8 @@ fn came_of_changing(status: ExitStatus, out: Option<&[u8]>) -> Came {
     }
 }
 
-/// A call ends with a deadline; a goroutine takes an event and sleeps without a read; another closes the socket and
-/// keeps a reference.
+/// A deadline ends a call. A goroutine takes an event and sleeps without a read. Another goroutine
+/// closes the socket and keeps a reference.
 const SUSPICIOUS: &str = r#"{"buf":16,"desc":2,"gor":4,"netrev":1,"sock":2}
 ["sockopen",16,16]
 ["pollopen",0,0]

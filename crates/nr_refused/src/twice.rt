@@ -1,4 +1,5 @@
-//! The results of a test: of the call while requests for memory may be refused, and of the same call with memory.
+//! The results of a test: the result of a call while requests for memory may be refused, and the
+//! result of the same call with memory.
 
 /// The result of a call.
 #[derive(Clone, Copy, Debug, PartialEq, Eq)]
@@ -26,12 +27,12 @@ impl Came {
         }
     }
 
-    /// Returns the result if everything before was right, and otherwise `Wrong`.
+    /// Returns this result if the earlier results were right, and otherwise `Wrong`.
     pub(crate) fn behind(self, was_right: bool) -> Came {
         if was_right { self } else { Came::Wrong }
     }
 
-    /// Returns `Wrong` instead of `Refused` unless this holds.
+    /// Returns `Wrong` in place of `Refused` unless the call left everything as it must.
     pub(crate) fn leaving(self, as_it_was: bool) -> Came {
         match self {
             Came::Refused if !as_it_was => Came::Wrong,
@@ -48,7 +49,7 @@ pub(crate) struct Twice {
 }
 
 impl Twice {
-    /// Returns the results of a call that got all the memory that it requested, or requests none, and needn't be
+    /// Returns the results of a call that got all the memory that it requested, so it isn't
     /// repeated.
     pub(crate) fn once(came: Came) -> Twice {
         Twice {
@@ -57,7 +58,7 @@ impl Twice {
         }
     }
 
-    /// Returns whether the call was right with memory, and before that right or refused.
+    /// Returns whether the first call was right or refused, and the call with memory was right.
     pub(crate) fn is_right(self) -> bool {
         self.first != Came::Wrong && self.again == Came::Right
     }
@@ -73,7 +74,7 @@ impl Twice {
     }
 }
 
-/// From now on requests for memory may be refused.
+/// Lets requests for memory be refused from now on.
 pub(crate) fn refuse(rt: &HostRuntime) {
     let _printed = println!(rt; "refuse");
 }
@@ -83,7 +84,7 @@ pub(crate) fn refuse_next(rt: &HostRuntime) {
     let _printed = println!(rt; "refuse the next");
 }
 
-/// From now on no request is refused.
+/// Lets no request be refused from now on.
 pub(crate) fn grant(rt: &HostRuntime) {
     let _printed = println!(rt; "grant");
 }

@@ -11,21 +11,21 @@ use std::alloc::AllocError;
 /// The number of deltas that these walkers keep.
 const DEPTH: usize = 32;
 
-/// A position, and the number of deltas kept there.
+/// A position, and the number of deltas that the walker keeps there.
 struct Stop {
     position: usize,
     kept: usize,
 }
 
-/// A walk from one position to another, and where the walker may be after a refused request: at the start, or before
-/// the step that allocates memory.
+/// A walk from one position to another, and the two positions at which a refused request may leave
+/// the walker: the start of the walk, and the position before the step that allocates memory.
 pub(crate) struct Leg {
     from: usize,
     to: usize,
     stops: [Stop; 2],
 }
 
-/// The position before the step that reads bytes, the eleventh.
+/// The position before the step that reads bytes, which is the eleventh step.
 const AT_READ: Stop = Stop {
     position: 10,
     kept: 10,
@@ -55,7 +55,8 @@ impl Leg {
         ],
     };
 
-    /// A walk back, from the first copy on and over the step that reads bytes, because the deltas don't reach so far.
+    /// A walk back, farther than the deltas reach. It starts at the first copy and goes over the
+    /// step that reads bytes.
     pub(crate) const BACK: Leg = Leg {
         from: 190,
         to: 15,
@@ -69,7 +70,7 @@ impl Leg {
     };
 }
 
-// Returns whether the walker is at a position, with its world.
+// Returns whether the walker is at a position and has the world of that position.
 fn is_at_position(walker: &Walker<'_, World>, position: usize) -> bool {
     walker.position() == position && is_at(walker.world(), position)
 }

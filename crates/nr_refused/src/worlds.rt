@@ -1,4 +1,4 @@
-//! Worlds of either representation: making, copying, snapshotting and restoring them.
+//! Worlds in both representations: making, copying, snapshotting and restoring them.
 
 ghost use Rattle.std.specs.Prelude.{◌≡◌};
 
@@ -16,7 +16,7 @@ const LIMITS: Limits = Limits {
     buffer: 16,
 };
 
-/// Cells that all have a value when bytes have arrived.
+/// Cells that have a value after bytes have arrived.
 static CELLS: [Cell; 12] = [
     Cell::Clock,
     Cell::Waiters,
@@ -32,7 +32,7 @@ static CELLS: [Cell; 12] = [
     Cell::DescriptorSequence(0),
 ];
 
-// Returns whether the world contains only goroutine 0, and nothing waits.
+// Returns whether the world has only goroutine 0, and no goroutine waits.
 fn is_empty<W: Worlds>(world: &W) -> bool
     requires { W.is_well_formed world.now }
 {
@@ -98,7 +98,7 @@ fn have_same_bytes<W: Worlds>(one: &W, other: &W) -> bool {
     }
 }
 
-// Copies a world. From then on no request is refused.
+// Copies a world. No later request is refused.
 fn copy<W: Worlds + Drop>(rt: &HostRuntime, world: &W) -> Came
     requires { W.is_well_formed world.now }
 {
@@ -125,7 +125,8 @@ fn keeps<W: Worlds + Drop>(world: &W, snapshot: &W::Snapshot) -> bool
     }
 }
 
-// Takes a snapshot of a world, which may share bytes with the last snapshot. From then on no request is refused.
+// Takes a snapshot of a world. It may share bytes with the last snapshot. No later request is
+// refused.
 fn rest<W: Worlds + Drop>(rt: &HostRuntime, world: &W, last: &W::Snapshot) -> Came
 where
     W::Snapshot: Drop,
@@ -143,7 +144,7 @@ where
     }
 }
 
-// Restores a world from its snapshot. From then on no request is refused.
+// Restores a world from its snapshot. No later request is refused.
 fn restore<W: Worlds + Drop>(rt: &HostRuntime, world: &W, snapshot: &W::Snapshot) -> Came
     requires well_formed { W.is_well_formed world.now }
     requires kept { W.kept snapshot.now ≡ world.now }
@@ -160,7 +161,7 @@ fn restore<W: Worlds + Drop>(rt: &HostRuntime, world: &W, snapshot: &W::Snapshot
     }
 }
 
-// Restores a snapshot in the memory of another world. From then on no request is refused.
+// Restores a snapshot in the memory of another world. No later request is refused.
 fn restore_in_place<W: Worlds + Drop>(
     rt: &HostRuntime,
     world: &W,
