@@ -1,7 +1,8 @@
-//! netrev's programs over lists: the oracle. `make agree` compares its output with netrev's, byte for byte.
+//! The oracle: netrev's programs over lists. `make agree` compares its output with netrev's, byte
+//! for byte.
 //!
-//! `netrev_plain run FILE`, `netrev_plain check FILE` and `netrev_plain upgrade FILE` do the same as netrev's, with the
-//! same code, over the world of `nr_plain`.
+//! `netrev_plain run FILE`, `netrev_plain check FILE` and `netrev_plain upgrade FILE` do the same
+//! as netrev's commands, with the same code, but over the world of `nr_plain`.
 #![tactic(auto)]
 
 use nr_plain::PlainWorld;
