@@ -1,4 +1,4 @@
--- The entry that a removal took out can be inserted again.
+-- An entry that was removed can be inserted again.
 use Rattle.std.proofs.Common.{◌≡◌, ⊎_elim, ℕ, ◌+◌, ◌<◌, ◌≤◌, List, [], ◌∷◌, ◌++◌, length, refl, sym, ap, ◌∙◌, subst, arith}
 use Rattle.std.specs.List.{swap}
 use Rattle.std.proofs.lemmas.List.{get_or_append_left, get_or_push, length_push}

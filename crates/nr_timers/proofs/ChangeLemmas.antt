@@ -1,4 +1,5 @@
--- Insertion and removal as a push or a pop, an exchange, and a move up or down.
+-- Lemmas that take an insertion or a removal apart: a push or a pop, an exchange, and a move up or
+-- down.
 use Rattle.std.proofs.Common.{◌≡◌, ◌≢◌, ◌⊎◌, inl, inr, ⊎_elim, ℕ, zero, suc, ◌+◌, ◌-◌, ◌<◌, ◌≤◌, Bool, true, false, List, [], ◌∷◌, ◌++◌, length, take, refl, sym, ap, ◌∙◌, subst, arith}
 use Rattle.std.specs.List.{swap}
 use Rattle.std.proofs.lemmas.List.{ext_get_or, get_or_append_left, get_or_push, length_push, take_at, take_all, take_more, get_or-take, length-take-le}
@@ -15,7 +16,7 @@ use Rattle.nr_timers.proofs.OrderLemmas.{less_once, not_less-trans, same_less}
 use Rattle.nr_timers.proofs.PathLemmas.{Leads-between, at-swap, swap-swap, moved_down-moved_up, moved_up-moved_down, length-moved_up, length-moved_down}
 use Rattle.nr_timers.proofs.SiftLemmas.{path_end, size_of, size_of_up}
 
--- a move up or down in a list that differs only at p
+-- a move up or down gives the same result in a list that differs only at p
 module _ (mid old new : List Entry) (p : ℕ) (x : Entry) (within : p < length new) (was_at : x ≡ at mid p) (same : (k : ℕ) → k < length new → k ≢ p → at mid k ≡ at old k) where
   pub Raised-over : (q : ℕ) → Raised mid p (at mid p) q new → Raised old p x q new
   Raised-over q h =
@@ -208,7 +209,7 @@ module _ (old : List Entry) (p : ℕ) (within : p < length old) where
   pub length-refilled : length (refilled old p) ≡ length old - 1
   length-refilled = let size = length-swap old p (length old - 1) in length-take-le (length old - 1) (swap old p (length old - 1)) (omega arith)
 
-  -- the entries after p is refilled
+  -- the entries after the last entry was moved to p
   pub at_refilled : (k : ℕ) → k < length old - 1 → (k ≡ p → ⊥) → at (refilled old p) k ≡ at old k
   at_refilled k lt other = get_or-take (length old - 1) (swap old p (length old - 1)) k blank lt ∙ moved.2 k other (λ e. omega arith)
 
@@ -321,7 +322,7 @@ module _ (old : List Entry) (p : ℕ) (within : p < length old) where
         pub sifted_back : TakenBack p q new rest → RemovedBack p q entry new old
         sifted_back back = let more = size_rest in let there = inside in removed_back rest new q entry is entry_is (omega arith) (inr (omega arith, omega arith)) back
 
--- the list after the last entry was removed
+-- the list after the last entry was moved to p
 pub refilled_is : (old mid rest : List Entry) (p n : ℕ) → n ≡ length old → mid ≡ swap old p (n - 1) → rest ≡ take (length mid - 1) mid → rest ≡ refilled old p
 refilled_is old mid rest p n e1 e2 e3 =
     let e : mid ≡ swap old p (length old - 1) = e2 ∙ ap (λ x. swap old p (x - 1)) e1 in

@@ -1,5 +1,4 @@
--- A heap's entries are the timers of the descriptors: there are as many, and the least is at place
--- 0.
+-- A heap has as many entries as the descriptors have timers, and the least of these is at place 0.
 use Rattle.std.proofs.Common.{◌≡◌, ◌≢◌, ◌⊎◌, inl, inr, ⊎_elim, ℕ, zero, suc, ◌+◌, ◌<◌, ◌≤◌, Bool, true, false, if◌then◌else◌, List, [], ◌∷◌, ◌++◌, length, Option, Some, None, refl, sym, ap, ◌∙◌, subst, arith}
 use Rattle.std.specs.Prelude.{slice_get, slice_index_or}
 use Rattle.nr_rev.proofs.SideLemmas.{of_side-twice}
@@ -22,7 +21,7 @@ use Rattle.nr_timers.proofs.OrderLemmas.{least_first, less_once}
 use Rattle.nr_timers.proofs.DrawnLemmas.{Has}
 use Rattle.nr_timers.proofs.LookupLemmas.{key_is, one_side, timer_found, timer_none, has_or_absent, Apart-tail}
 
--- an entry among others is somewhere in the list
+-- an entry that a list contains has a place in the list
 in_has : (e : Entry) (xs : List Entry) → In e xs → Has e xs
 in_has e [] p = absurd p
 in_has e (x ∷ xs) (inl same) = (0, omega arith, same)
@@ -65,7 +64,7 @@ once_of (x ∷ xs) apart = (
   once_of xs (Apart-tail key x xs apart),
 )
 
--- distinct entries that are all in another list aren't more than that list's
+-- a list of distinct entries that are all in another list isn't longer than that list
 without : (x : Entry) (ys : List Entry) → In x ys → List Entry
 without x [] p = []
 without x (y ∷ ys) (inl e) = ys
@@ -95,12 +94,12 @@ no_more (x ∷ xs) ys once all =
     (λ z q. ⊎_elim (λ e. absurd (once.0 z q (ap key e))) (λ r. r) (in_without x z ys p (all z (inr q)))) in
     omega arith
 
--- the entry that is before all others is the least
+-- an entry that is before all others of a list is the least
 least_none : (xs : List Entry) → length xs ≡ 0 → least_of xs ≡ None
 least_none [] e = refl
 least_none (x ∷ xs) e = absurd (omega arith)
 
--- the entry is before all others of the list
+-- true if the entry is before all others of the list
 abbrev IsFirst : Entry → List Entry → Type 0
 IsFirst e xs = (x : Entry) → In x xs → (x ≡ e) ⊎ (is_less e x ≡ true)
 
@@ -151,7 +150,7 @@ from_in (sides ∷ timers) d e p =
     (λ there. let r = from_in timers (d + 1) e there in let is = r.1 in (suc r.0, omega arith, r.2))
     (in_append e (entries_at d sides) (entries_from (d + 1) timers) p)
 
--- each of their timers is among the entries
+-- each timer of the descriptors has an entry
 abbrev entry : ℕ → Side → Timer → Entry
 entry d side timer = record { descriptor = d; side = side; timer = timer }
 

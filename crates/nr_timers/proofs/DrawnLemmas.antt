@@ -14,7 +14,7 @@ use Rattle.nr_timers.specs.Auxiliary.Change.{TakenBack, InsertedBack, RemovedBac
 use Rattle.nr_timers.proofs.PathLemmas.{at-swap, swap-swap, moved_down-moved_up, moved_up-moved_down, length-moved_up, length-moved_down}
 use Rattle.nr_timers.proofs.ChangeLemmas.{at_pushed, at_last, at-moved_down, length-TakenBack, TakenBack-none}
 
--- each entry of the one heap is in the other, at a place of its own
+-- each entry of the new heap is in the old one, and different entries have different places there
 pub record Drawn (whole some : List Entry) : Type 0 where
   pub from : ℕ → ℕ
   pub within : (p : ℕ) → p < length some → from p < length whole
@@ -113,7 +113,7 @@ Drawn-down (suc n) xs p lt =
     (Drawn-down n xs (parent p) (omega arith))
     (Drawn-swap (moved_down n xs (parent p)) p (parent p) (omega arith) (omega arith))
 
--- a heap has the same entries after a move back
+-- a heap still has the same entries after an undone move
 pub Drawn-back : (new rest : List Entry) (p q : ℕ) → ((p ≡ length new) × (q ≡ p) ⊎ (p < length new) × (q < length new)) → TakenBack p q new rest → Drawn new rest × Drawn rest new
 Drawn-back new rest p q (inl h) back =
     let still : new ≡ rest = TakenBack-unique p p new new rest (TakenBack-none new p) (subst (λ i. TakenBack p i new rest) h.1 back) in
@@ -131,7 +131,7 @@ Drawn-back new rest p q (inr h) (inr back) =
           (subst (λ (ys : List Entry). Drawn (moved_up back.0 new q) ys) (moved_down-moved_up back.0 new q h.1) (Drawn-down back.0 (moved_up back.0 new q) q (omega arith))),
     )
 
--- the entry is somewhere in the list
+-- true if the list contains the entry
 abbrev pub Has : Entry → List Entry → Type 0
 Has x xs = (p : ℕ) × (p < length xs) × (at xs p ≡ x)
 
@@ -167,7 +167,7 @@ Apart-pushed f xs e h other p q lt lt_q same =
     )
     (cases_lt p (length xs))
 
--- a removal, from its undo
+-- what the undo of a removal says about the entries
 module _ (p q : ℕ) (e : Entry) (new old : List Entry) (back : RemovedBack p q e new old) where
   both_ways : Drawn new back.1 × Drawn back.1 new
   both_ways = Drawn-back new back.1 p q back.0 back.2
@@ -199,7 +199,7 @@ module _ (p q : ℕ) (e : Entry) (new old : List Entry) (back : RemovedBack p q 
   pub Drawn-removed : Drawn old new
   Drawn-removed = Drawn-trans old back.1 new (Drawn-trans old (back.1 ++ e ∷ []) back.1 from_old (Drawn-pushed back.1 e)) both_ways.1
 
-  -- so was the removed entry
+  -- the removed entry was in the heap before
   pub Has-removed : Has e old
   Has-removed =
       let size = length_push back.1 e in
@@ -222,7 +222,7 @@ module _ (p q : ℕ) (e : Entry) (new old : List Entry) (back : RemovedBack p q 
       (ap f (at_pushed back.1 e there.0 there.1 ∙ there.2) ∙ same ∙ ap f (sym (at_last back.1 e))) in
       omega arith
 
--- an insertion, from its undo
+-- what the undo of an insertion says about the entries
 module _ (q : ℕ) (new old : List Entry) (back : InsertedBack q new old) where
   mid_is : old ++ at new q ∷ [] ≡ moved_down back.1 new (length new - 1)
   mid_is =
@@ -256,7 +256,7 @@ module _ (q : ℕ) (new old : List Entry) (back : InsertedBack q new old) where
       let size = length_push old (at new q) in
       Drawn-has new (old ++ at new q ∷ []) (at new q) from_new (length old, omega arith, at_last old (at new q))
 
-  -- there is no other new entry
+  -- no entry other than the inserted one is new
   pub Has-there : (x : Entry) → Has x new → Has x old ⊎ (x ≡ at new q)
   Has-there x h = Has-pushed old (at new q) x (Drawn-has (old ++ at new q ∷ []) new x to_new h)
 

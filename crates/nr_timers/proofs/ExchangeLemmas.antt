@@ -93,7 +93,7 @@ module _ (old new : List Entry) (p c : ℕ) (above : 0 < c) (is_child : parent c
       let p_below : p < c = omega arith in
       let c_le : c ≤ q = OnPath-le q c h.on_path in
       let to_p : OnPath q p = (suc h.on_path.0, subst (λ x. Leads (suc h.on_path.0) q x) is_child (Leads-more h.on_path.0 q c h.on_path.1 above)) in
-      -- a place of the path below p is c or below it
+      -- a place on the path below p is c or is below c
       let below : (k : ℕ) → OnPath q k → p < k → (k ≡ c) ⊎ ((c < k) × (c ≤ parent k)) =
       λ k on_path lower. ⊎_elim
       (λ le. let on_c = Leads-between h.on_path.0 on_path.0 q c k h.on_path.1 on_path.1 le in

@@ -1,4 +1,4 @@
--- The index after an exchange, a push and a pop.
+-- Lemmas about the index after an exchange, a push and a pop.
 use Rattle.std.proofs.Common.{◌≡◌, ◌≢◌, ⊎_elim, ℕ, zero, suc, ◌+◌, ◌-◌, ◌<◌, List, [], ◌∷◌, ◌++◌, length, get_or, set, take, refl, sym, ap, ◌∙◌, subst, arith}
 use Rattle.std.specs.List.{swap, sum_by}
 use Rattle.std.proofs.lemmas.List.{get_or-set_same, get_or-set_other, length-set, get_or_append_left, get_or_push, length_push, get_or-take, length-take-le}
@@ -11,7 +11,7 @@ use Rattle.nr_timers.specs.Index.{key, Absent, Keyed}
 use Rattle.nr_timers.specs.Auxiliary.Index.{free, IsIndexed}
 use Rattle.nr_timers.proofs.PathLemmas.{at-swap}
 
--- an index gives each entry a key of its own
+-- entries with an index have distinct keys
 pub keyed : (xs : List Entry) (ix : List ℕ) → IsIndexed xs ix → Keyed xs (length ix)
 keyed xs ix h = record {
   below = h.below;

@@ -13,7 +13,7 @@ use Rattle.nr_timers.specs.Index.{key, key_of, Absent}
 use Rattle.nr_timers.specs.TimersOf.{is_for, timer_of, SetsTimer}
 use Rattle.nr_timers.proofs.DrawnLemmas.{Has}
 
--- a cell belongs to only one descriptor's side
+-- each cell belongs to only one descriptor's side
 pub one_side : (d e : ℕ) (s t : Side) → key_of d s ≡ key_of e t → (d ≡ e) × (s ≡ t)
 one_side d e Read Read h = let is : 2 * d ≡ 2 * e = h in (omega arith, refl)
 one_side d e Read Write h = let is : 2 * d ≡ 2 * e + 1 = h in absurd (omega arith)

@@ -1,4 +1,4 @@
--- Exchanges along paths to the root.
+-- Lemmas about exchanges along paths to the root.
 use Rattle.std.proofs.Common.{◌≡◌, ⊎_elim, ℕ, zero, suc, ◌<◌, ◌≤◌, List, length, refl, sym, ap, ◌∙◌, subst, arith}
 use Rattle.std.specs.List.{swap}
 use Rattle.std.proofs.lemmas.List.{ext_get_or}
@@ -56,7 +56,7 @@ moved_up-moved_down (suc n) places p h =
     ap (λ xs. moved_up n xs (parent p)) (swap-swap (moved_down n places (parent p)) p (parent p) (omega arith) (omega arith))
     ∙ moved_up-moved_down n places (parent p) (omega arith)
 
--- the topmost exchange first
+-- a move down makes its topmost exchange first
 pub moved_down-more : (n : ℕ) (places : List Entry) (q c : ℕ) → Leads n q c → moved_down (suc n) places q ≡ moved_down n (swap places c (parent c)) q
 moved_down-more zero places q c h = rw h refl
 moved_down-more (suc n) places q c h = ap (λ xs. swap xs q (parent q)) (moved_down-more n places (parent q) c h.1)

@@ -1,4 +1,4 @@
--- An operation that is performed has its result, leaves well-formed timers, and can be undone.
+-- A performed operation has the defined result, keeps the timers well formed, and can be undone.
 use Rattle.std.proofs.Common.{◌≡◌, ℕ, ℤ, ◌+◌, ◌-◌, ◌*◌, ◌^◌, ◌<◌, ◌≤◌, true, List, [], ◌∷◌, ◌++◌, length, Option, Some, None, refl, sym, ap, ◌∙◌, subst, ⊎_elim, arith, lit≤}
 use Rattle.std.specs.Prelude.{int_le, nat_lt, if◌then◌else◌, remove, slice_get}
 use Rattle.std.proofs.lemmas.Option.{slice_get_within}

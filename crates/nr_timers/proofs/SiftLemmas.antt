@@ -1,4 +1,4 @@
--- An entry's move up or down, from one exchange and the rest of the move.
+-- Lemmas that build an entry's move up or down from one exchange and the rest of the move.
 use Rattle.std.proofs.Common.{◌≡◌, ⊎_elim, ℕ, suc, ◌+◌, ◌<◌, ◌≤◌, true, false, List, length, refl, sym, ap, ◌∙◌, subst, arith}
 use Rattle.std.specs.List.{swap}
 use Rattle.std.proofs.lemmas.List.Edits.{Swapped, length-swap}
@@ -12,7 +12,7 @@ use Rattle.nr_timers.specs.PathLaws.{Leads-more, OnPath-le}
 use Rattle.nr_timers.proofs.PathLemmas.{at-swap, moved_down-more, length-moved_up, length-moved_down}
 use Rattle.nr_timers.proofs.ExchangeLemmas.{OrderedAbove-up, Raised-up, OrderedBelow-down, Sunk-down}
 
--- the least so far, compared with one more entry
+-- the least entry so far, compared with one more entry
 pub least_new : (xs : List Entry) (from i least new : ℕ) → new ≡ i → is_less (at xs i) (at xs least) ≡ true → ((j : ℕ) → from ≤ j → j < i → is_less (at xs j) (at xs least) ≡ false) → (j : ℕ)
     → from ≤ j → j < i + 1 → is_less (at xs j) (at xs new) ≡ false
 least_new xs from i least new e less so_far j lo hi =
@@ -90,7 +90,7 @@ pub none_less : (old : List Entry) (p c : ℕ) → is_less (at old c) (at old p)
     → i < length old → parent i ≡ p → is_less (at old i) (at old p) ≡ false
 none_less old p c not_less least i above within child = not_less-trans (at old p) (at old c) (at old i) not_less (least i above within child)
 
--- one more exchange in a known move
+-- a move with one more exchange
 pub lower_more : (old mid new : List Entry) (p q : ℕ) → q < p → ((n : ℕ) × Leads n (parent p) q × (mid ≡ moved_down n old (parent p))) → new ≡ swap mid p (parent p)
     → (n : ℕ) × Leads n p q × (new ≡ moved_down n old p)
 lower_more old mid new p q lt h e = (suc h.0, (omega arith, h.1), e ∙ ap (λ xs. swap xs p (parent p)) h.2)

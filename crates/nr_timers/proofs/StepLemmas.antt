@@ -1,4 +1,4 @@
--- The result of an operation, from the changes of the heap.
+-- Lemmas that derive the result of an operation from the changes of the heap.
 use Rattle.std.proofs.Common.{◌≡◌, ◌≢◌, ◌⊎◌, inl, inr, ⊎_elim, ℕ, ℤ, ◌+◌, ◌-◌, ◌*◌, ◌^◌, ◌<◌, true, List, [], ◌∷◌, ◌++◌, length, Option, Some, None, refl, sym, ap, ◌∙◌, subst, arith}
 use Rattle.std.specs.Prelude.{int_le}
 use Rattle.std.specs.Prelude.{slice_get}
@@ -25,7 +25,7 @@ use Rattle.nr_timers.proofs.ChangeLemmas.{at_last}
 use Rattle.nr_timers.proofs.DrawnLemmas.{Drawn, Drawn-all, Has, Drawn-has, Drawn-apart, Has-pushed, Apart-pushed, Drawn-removed, Has-removed, Has-left, removed_apart, Has-kept, Has-inserted, Has-there, inserted_apart}
 use Rattle.nr_timers.proofs.LookupLemmas.{key_is, one_side, timer_found, timer_none, same_timer, sets_timer}
 
--- the entry of one cell was removed, and all others remain
+-- true if the entry of one cell was removed, and all others remain
 pub record Emptied (k : ℕ) (old new : List Entry) : Type 0 where
   pub drawn : Drawn old new
   pub absent : Absent k new
@@ -84,7 +84,7 @@ module _ (old new : List Entry) (drawn : Drawn old new) where
       n.firings_once
       (λ x y h g. has_apart next old firings x y n (Drawn-has old new x drawn h) g)
 
--- the timers of the emptied side and of the others
+-- after a side's entry was removed, that side has no timer, and all others keep theirs
 emptied_sets : (d limit : ℕ) (side : Side) (old new : List Entry) → Keyed old limit → Emptied (key_of d side) old new → SetsTimer d side None old new
 emptied_sets d limit side old new keyed e =
     sets_timer d side None old new (timer_none d side new e.absent)
@@ -235,7 +235,7 @@ module _ (old : State) (well : IsTimers old) (e : Entry) (mid new : List Entry) 
         in_range = omega arith;
       }
 
--- the armed entry with the timer of the removed one is the removed one
+-- if the armed entry gets the timer of the removed entry, it equals the removed entry
 pub with_old_timer : (new : List Entry) (to : ℕ) (e gone : Entry) → at new to ≡ e → key gone ≡ key e → with_timer new to gone.timer ≡ gone
 with_old_timer new to e gone arrives same =
     let both = one_side e.descriptor gone.descriptor e.side gone.side (sym (key_is e) ∙ sym same ∙ key_is gone) in

@@ -1,4 +1,4 @@
--- The state after an undo is the one to which the delta leads back.
+-- An undo restores the state that its delta determines.
 use Rattle.std.proofs.Common.{◌≡◌, ℕ, ◌-◌, ◌*◌, List, length, take, sym, ap, ◌∙◌, subst, arith, suc, [], ◌∷◌, ◌++◌, zero, Some}
 use Rattle.std.specs.Prelude.{insert, remove, slice_get}
 use Rattle.std.proofs.lemmas.List.{append-nil, drop_all}
@@ -69,7 +69,7 @@ rearmed_needs now to place last limit timer mid back is (old, b) = (
   subst (λ n. Keyed old.entries n) (sym is) b.keyed,
 )
 
--- removing the last firing
+-- reading the last firing
 pub last_is : (xs : List Entry) (e : Entry) → slice_get xs (length xs - 1) ≡ Some e → e ≡ at xs (length xs - 1)
 last_is xs e is = sym (get_or_from_slice_get xs (length xs - 1) e blank is)
 

@@ -1,4 +1,4 @@
--- The undo of an operation, from entries and the numbers of places.
+-- The undo of an operation, which stores at most one entry and some places.
 use Rattle.std.specs.Prelude.{◌≡◌, ℕ, ◌+◌, ◌-◌, ◌*◌, ◌<◌, ◌≤◌, List, length, take, insert}
 use Rattle.nr_rev.specs.declared.timer.Entry.{Entry}
 use Rattle.nr_rev.specs.declared.timer.Timer.{Timer}
@@ -17,15 +17,15 @@ use Rattle.nr_timers.specs.State.{State}
 abbrev pub with_timer : List Entry → ℕ → Timer → Entry
 with_timer entries place timer = record (at entries place) { timer = timer }
 
--- The undo of an arming that replaced no timer, whose entry went to a place. In the old state, too,
--- each entry had its own key within the limit.
+-- True if this undoes an arming that replaced no timer and put its entry at the place `to`. In the
+-- old state, too, the entries had distinct keys below the limit.
 pub record ArmedBack (to : ℕ) (new old : State) : Type 0 where
   pub places : InsertedBack to new.entries old.entries
   pub keyed : Keyed old.entries (2 * new.descriptors)
   pub number : new.next ≡ old.next + 1
   pub rest : old ≡ record new { entries = old.entries; next = old.next }
 
--- the undo of an arming that replaced a timer, whose entry was removed first
+-- true if this undoes an arming that replaced a timer: its entry was removed first
 pub record RearmedBack (to place last : ℕ) (timer : Timer) (new old : State) : Type 0 where
   pub places : (mid : List Entry) × InsertedBack to new.entries mid
       × RemovedBack place last (with_timer new.entries to timer) mid old.entries
@@ -33,13 +33,13 @@ pub record RearmedBack (to place last : ℕ) (timer : Timer) (new old : State) :
   pub number : new.next ≡ old.next + 1
   pub rest : old ≡ record new { entries = old.entries; next = old.next }
 
--- the undo of a removal of the entry from a place
+-- true if this undoes the removal of the entry at a place
 pub record StoppedBack (place last : ℕ) (entry : Entry) (new old : State) : Type 0 where
   pub places : RemovedBack place last entry new.entries old.entries
   pub keyed : Keyed old.entries (2 * new.descriptors)
   pub rest : old ≡ record new { entries = old.entries }
 
--- the undo of a pop: the entry that is the last firing now was removed from place 0
+-- true if this undoes a pop: the entry that is now the last firing was removed from place 0
 pub record PoppedBack (last : ℕ) (new old : State) : Type 0 where
   pub some : 0 < length new.firings
   pub places : RemovedBack 0 last (at new.firings (length new.firings - 1)) new.entries old.entries
@@ -49,13 +49,13 @@ pub record PoppedBack (last : ℕ) (new old : State) : Type 0 where
     firings = take (length new.firings - 1) new.firings;
   }
 
--- the undo of the removal of a firing from a place
+-- true if this undoes the removal of the firing at a place
 pub record FiringBack (place : ℕ) (entry : Entry) (new old : State) : Type 0 where
   pub within : place ≤ length new.firings
   pub room : length new.firings < 2 * new.descriptors
   pub rest : old ≡ record new { firings = insert new.firings place entry }
 
--- the undo leads from the new timers back to the old ones
+-- true if the undo turns the new timers back into the old ones
 abbrev pub UndoBack : TimersUndo → State → State → Type 0
 UndoBack (Armed to) new old = ArmedBack to new old
 UndoBack (Rearmed to place last timer) new old = RearmedBack to place last timer new old
@@ -64,7 +64,7 @@ UndoBack Still new old = old ≡ new
 UndoBack (Popped last) new old = PoppedBack last new old
 UndoBack (Taken place entry) new old = FiringBack place entry new old
 
--- the delta leads from the new timers back to the old ones, by its undo
+-- true if the delta's undo turns the new timers back into the old ones
 abbrev pub TimersBack : TimersDelta → State → State → Type 0
 TimersBack delta new old = UndoBack delta.undo new old
 

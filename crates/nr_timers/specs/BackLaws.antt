@@ -1,4 +1,4 @@
--- The undo of an insertion and of a removal leads to exactly one heap.
+-- Undoing an insertion or a removal restores only one heap.
 use Rattle.std.proofs.Common.{◌≡◌, inl, inr, ℕ, zero, suc, ◌-◌, List, [], ◌∷◌, ◌++◌, length, take, sym, ap, ◌∙◌, arith}
 use Rattle.std.specs.List.{swap}
 use Rattle.nr_rev.specs.declared.timer.Entry.{Entry}

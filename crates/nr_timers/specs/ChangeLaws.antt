@@ -1,4 +1,4 @@
--- An insertion or a removal leads to exactly one heap and one place, if no two entries are equal in
+-- An insertion or a removal has only one resulting heap and place, if no two entries are equal in
 -- the order.
 use Rattle.std.proofs.Common.{◌≡◌, ◌⊎◌, inl, inr, ⊎_elim, ℕ, zero, suc, ◌-◌, ◌<◌, ◌≤◌, Bool, true, false, true≢false, List, length, refl, sym, ap, ◌∙◌, subst, arith}
 use Rattle.std.proofs.lemmas.List.{ext_get_or}
@@ -9,7 +9,7 @@ use Rattle.nr_timers.specs.PathToRoot.{parent, Leads, OnPath, Raised, Sunk}
 use Rattle.nr_timers.specs.PathLaws.{Leads-le, Leads-lt, Leads-more, OnPath-le, OnPath-more, OnPath-ends, on_path_or_not}
 use Rattle.nr_timers.specs.Change.{Inserted, Removed}
 
--- of the entries at any two places one is less
+-- for any two places, one of the two entries is less than the other
 abbrev pub Distinct : List Entry → Type 0
 Distinct entries =
     (p q : ℕ) → p < length entries → q < length entries
@@ -72,7 +72,7 @@ module _ (old : List Entry) (p : ℕ) (x : Entry) (distinct : Distinct old) wher
         (h.least i k on_r lt_i (omega arith) (omega arith) (sym e))
         (g.least k i on_q lt_k above (omega arith) e)
 
-    -- one path continues where the other ends
+    -- of two paths from the same place, one continues where the other ends
     meets : (n s : ℕ) → Leads n s p → OnPath q s → OnPath r s ⊎ OnPath s r
     meets zero s h0 on = inl (subst (λ i. OnPath r i) h0 h.on_path)
     meets (suc n) s leads on =
@@ -92,7 +92,7 @@ module _ (old : List Entry) (p : ℕ) (x : Entry) (distinct : Distinct old) wher
         (meets n (parent s) leads.1 (let more = Leads-more on.0 q s on.1 leads.0 in
         (suc on.0, more)))
 
-    -- a path goes no further than a place of which no child is less
+    -- a move down stops at the first place without a lesser child
     no_further : OnPath r q → q ≡ r
     no_further on =
         ⊎_elim (λ e. e)

@@ -1,4 +1,4 @@
--- The removal of the entry of a key, if there is one, and its undo.
+-- The removal of a key's entry, if it has one, and the undo of the removal.
 use Rattle.std.specs.Prelude.{◌≡◌, ℕ, ◌<◌, List, length, Option, Some, None}
 use Rattle.nr_rev.specs.declared.timer.Entry.{Entry}
 use Rattle.nr_timers.specs.declared.heap.Gone.{Gone}
@@ -9,29 +9,29 @@ use Rattle.nr_timers.specs.Change.{Removed}
 use Rattle.nr_timers.specs.Auxiliary.Change.{RemovedBack}
 use Rattle.nr_timers.specs.Index.{key, Absent}
 
--- the removed entry was the one of the key
+-- true if the removed entry was the entry of the key
 pub record Takes (k : ℕ) (gone : Gone) (old new : List Entry) : Type 0 where
   pub within : gone.place < length old
   pub key : key (at old gone.place) ≡ k
   pub entry : gone.entry ≡ at old gone.place
   pub removed : Removed old gone.place gone.last new
 
--- the entry of the key was removed, or there was none
+-- true if the entry of the key was removed, or the key had none
 abbrev pub Cleared : ℕ → Option Gone → List Entry → List Entry → Type 0
 Cleared k None old new = (new ≡ old) × Absent k old
 Cleared k (Some gone) old new = Takes k gone old new
 
--- the undo of that removal
+-- true if this undoes that removal
 abbrev pub ClearedBack : Option Gone → List Entry → List Entry → Type 0
 ClearedBack None new old = old ≡ new
 ClearedBack (Some gone) new old = RemovedBack gone.place gone.last gone.entry new old
 
--- the undo of an arming at a place, after that removal
+-- the undo of an arming that put its entry at a place after that removal
 abbrev pub armed_undo : ℕ → Option Gone → TimersUndo
 armed_undo to None = Armed to
 armed_undo to (Some gone) = Rearmed to gone.place gone.last gone.entry.timer
 
--- the undo of a stop
+-- the undo of a stop, which made that removal
 abbrev pub stopped_undo : Option Gone → TimersUndo
 stopped_undo None = Still
 stopped_undo (Some gone) = Stopped gone.place gone.last gone.entry

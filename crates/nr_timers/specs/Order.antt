@@ -14,7 +14,7 @@ is_less a b = is_before a.timer b.timer
 unfoldable pub number : Entry → ℕ
 number e = e.timer.number
 
--- the value of places without an entry
+-- the value that is read at places without an entry
 abbrev pub blank : Entry
 blank =
     record {
@@ -27,11 +27,11 @@ blank =
 abbrev pub at : List Entry → ℕ → Entry
 at places p = slice_index_or places p blank
 
--- this number of each entry is below a limit
+-- true if this number is below the limit for each entry
 abbrev pub AllBelow : (Entry → ℕ) → ℕ → List Entry → Type 0
 AllBelow f limit places = (p : ℕ) → p < length places → f (at places p) < limit
 
--- this number differs at any two places
+-- true if this number is different for the entries at any two places
 abbrev pub Apart : (Entry → ℕ) → List Entry → Type 0
 Apart f places =
     (p q : ℕ) → p < length places → q < length places → f (at places p) ≡ f (at places q) → p ≡ q

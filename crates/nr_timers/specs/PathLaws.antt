@@ -3,7 +3,7 @@ use Rattle.std.proofs.Common.{◌≡◌, ◌⊎◌, inl, inr, ⊎_elim, ℕ, zer
 use Rattle.std.proofs.lemmas.Bool.{cases_eq, cases_lt}
 use Rattle.nr_timers.specs.PathToRoot.{parent, Leads, OnPath}
 
--- a path leads to lower numbers
+-- the places on a path have decreasing numbers
 pub Leads-le : (n p q : ℕ) → Leads n p q → q ≤ p
 Leads-le zero p q h = omega arith
 Leads-le (suc n) p q h = let below = Leads-le n (parent p) q h.1 in omega arith
@@ -14,7 +14,7 @@ Leads-lt n p q h = let below = Leads-le n (parent p) q h.1 in omega arith
 pub OnPath-le : (p k : ℕ) → OnPath p k → k ≤ p
 OnPath-le p k h = Leads-le h.0 p k h.1
 
--- the ends determine the number of steps
+-- the two ends of a path determine the number of its steps
 pub Leads-unique : (n m p q : ℕ) → Leads n p q → Leads m p q → n ≡ m
 Leads-unique zero zero p q a b = refl
 Leads-unique zero (suc m) p q a b = let below = Leads-lt m p q b in absurd (omega arith)
@@ -47,7 +47,7 @@ OnPath-ends p k (zero, h) = inl h
 OnPath-ends p k (suc n, h) =
     let last = Leads-last n p k h in inr (last.0, (n, last.1), last.2, last.3)
 
--- a place is on a path or isn't
+-- each place is on a path or isn't on it
 pub on_path_or_not : (n p k : ℕ) → p ≤ n → OnPath p k ⊎ (OnPath p k → ⊥)
 on_path_or_not zero p k le =
     ⊎_elim (λ e. inl (0, e))

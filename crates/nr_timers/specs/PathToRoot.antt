@@ -7,26 +7,26 @@ use Rattle.nr_timers.specs.Order.{is_less, at}
 abbrev pub parent : ℕ → ℕ
 parent p = (p - 1) / 4
 
--- n steps from a place to its parent lead from p to q
+-- true if q is reached from p by n steps, each from a place to its parent
 abbrev pub Leads : ℕ → ℕ → ℕ → Type 0
 Leads zero p q = q ≡ p
 Leads (suc n) p q = (0 < p) × Leads n (parent p) q
 
--- q is on the path from p to the root
+-- true if q is on the path from p to the root
 abbrev pub OnPath : ℕ → ℕ → Type 0
 OnPath p q = (n : ℕ) × Leads n p q
 
--- the entry at p isn't less than the one at p's parent
+-- true if the entry at p isn't less than the entry at p's parent
 abbrev pub InOrder : List Entry → ℕ → Type 0
 InOrder places p = is_less (at places p) (at places (parent p)) ≡ false
 
--- no entry is less than the one at its place's parent
+-- true if no entry is less than the entry at its place's parent
 abbrev pub Ordered : List Entry → Type 0
 Ordered places = (p : ℕ) → 0 < p → p < length places → InOrder places p
 
--- The entry was inserted at q, if p counts as empty: q is the highest place of the path from p to
--- the root, p included, such that all entries between were greater. These moved one place down the
--- path, and all others stayed.
+-- True if the entry was inserted at q, with p as the empty place. On the path from p to the root, q
+-- is the highest place such that all entries from q to p's parent were greater than the inserted
+-- one. These entries moved one place down the path, and all others stayed.
 pub record Raised (old : List Entry) (p : ℕ) (entry : Entry) (q : ℕ) (new : List Entry) : Type 0
   where
     pub on_path : OnPath p q
@@ -36,9 +36,9 @@ pub record Raised (old : List Entry) (p : ℕ) (entry : Entry) (q : ℕ) (new : 
     pub highest : 0 < q → is_less entry (at old (parent q)) ≡ false
     pub others : (k : ℕ) → k < length new → (OnPath p k → q ≤ k → ⊥) → at new k ≡ at old k
 
--- The entry was inserted at q, if p counts as empty, and no child of q is less. Each entry of the
--- path from q to below p, which is the least child of its parent and less than the inserted entry,
--- moved one place up the path, and all others stayed.
+-- True if the entry was inserted at q, with p as the empty place, and no child of q is less. The
+-- entries on the path from q up to p, without p, moved one place up, and all others stayed. Each
+-- that moved was the least child of its parent and less than the inserted entry.
 pub record Sunk (old : List Entry) (p : ℕ) (entry : Entry) (q : ℕ) (new : List Entry) : Type 0 where
   pub on_path : OnPath q p
   pub within : q < length new

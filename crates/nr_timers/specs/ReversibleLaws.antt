@@ -40,7 +40,7 @@ Clears-unique t k a b h (inr x) (inr y) =
     (Removed-unique t.entries y.0 x.1 y.1 a b (IsTimers-distinct t h)
     (subst (λ i. Removed t.entries i x.1 a) place x.4) y.4).1
 
--- an operation leads to exactly one state
+-- an operation has only one resulting state
 one_state : (old : State) (op : TimersOp) (new other : State) → IsTimers old → Makes old op new
     → Makes old op other → new ≡ other
 one_state old (Arm d side due function sequence) new other h x y =
@@ -98,7 +98,7 @@ weight_is_within (Stop d side) = lit≤ tt
 weight_is_within (Pop now) = lit≤ tt
 weight_is_within (TakeFiring place) = lit≤ tt
 
--- an undo leads back to exactly one state
+-- an undo restores only one state
 pub UndoBack-unique : (delta : TimersUndo) (new a b : State) → UndoBack delta new a
     → UndoBack delta new b → a ≡ b
 UndoBack-unique (Armed to) new a b x y =
@@ -127,7 +127,7 @@ UndoBack-unique (Popped last) new a b x y =
     ∙ sym y.rest
 UndoBack-unique (Taken place entry) new a b x y = x.rest ∙ sym y.rest
 
--- a delta leads back to exactly one state
+-- undoing a delta restores only one state
 pub TimersBack-unique : (delta : TimersDelta) (new a b : State) → TimersBack delta new a
     → TimersBack delta new b → a ≡ b
 TimersBack-unique delta new a b x y = UndoBack-unique delta.undo new a b x y

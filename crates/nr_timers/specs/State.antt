@@ -12,7 +12,7 @@ pub record State : Type 0 where
   pub next : ℕ
   pub descriptors : ℕ
 
--- the arming numbers of entries and firings are distinct and below the next one
+-- true if the arming numbers of entries and firings are distinct and below the next one
 pub record Numbered (next : ℕ) (entries firings : List Entry) : Type 0 where
   pub entries_below : AllBelow number next entries
   pub firings_below : AllBelow number next firings
@@ -21,9 +21,9 @@ pub record Numbered (next : ℕ) (entries firings : List Entry) : Type 0 where
   pub apart : (p q : ℕ) → p < length entries → q < length firings
       → number (at entries p) ≢ number (at firings q)
 
--- Well-formed timers: the heap is ordered. Each descriptor's side has at most one entry, and its
--- descriptor is below the limit. There are at most two firings per descriptor. The next arming
--- number fits into 64 bits and isn't 0.
+-- True if the timers are well formed. The heap is ordered. Each descriptor's side has at most one
+-- entry, and its descriptor is below the limit. There are at most two firings per descriptor. The
+-- next arming number fits in 64 bits and isn't 0.
 pub record IsTimers (t : State) : Type 0 where
   pub ordered : Ordered t.entries
   pub keyed : Keyed t.entries (2 * t.descriptors)

@@ -11,13 +11,13 @@ use Rattle.nr_timers.specs.Index.{key, key_of, Absent}
 use Rattle.nr_timers.specs.TimersOf.{SetsTimer}
 use Rattle.nr_timers.specs.State.{State, IsTimers}
 
--- the entry of the key, if there is one, is removed
+-- true if the entry of the key was removed, or the key had none
 abbrev pub Clears : ℕ → List Entry → List Entry → Type 0
 Clears k old new =
     ((new ≡ old) × Absent k old)
     ⊎ ((p : ℕ) × (q : ℕ) × (p < length old) × (key (at old p) ≡ k) × Removed old p q new)
 
--- an entry is armed and replaces the one of its descriptor's side
+-- true if an entry was armed and replaced any earlier one of its descriptor's side
 pub record Arms (old : State) (entry : Entry) (new : State) : Type 0 where
   pub descriptor : entry.descriptor < old.descriptors
   pub number : old.next < 2 ^ 64 - 1
@@ -26,14 +26,14 @@ pub record Arms (old : State) (entry : Entry) (new : State) : Type 0 where
   pub timers : SetsTimer entry.descriptor entry.side (Some entry.timer) old.entries new.entries
   pub rest : new ≡ record old { entries = new.entries; next = old.next + 1 }
 
--- the timer of a descriptor's side is stopped, if there is one
+-- true if the timer of a descriptor's side was stopped, or the side had none
 pub record Stops (old : State) (d : ℕ) (side : Side) (new : State) : Type 0 where
   pub descriptor : d < old.descriptors
   pub places : Clears (key_of d side) old.entries new.entries
   pub timers : SetsTimer d side None old.entries new.entries
   pub rest : new ≡ record old { entries = new.entries }
 
--- the least entry, which is due, moves to the end of the firings
+-- true if the least entry, which is due, moved to the end of the firings
 pub record Pops (old : State) (now : ℤ) (new : State) : Type 0 where
   pub some : 0 < length old.entries
   pub due : int_le (at old.entries 0).timer.due now ≡ true
@@ -46,7 +46,7 @@ pub record Pops (old : State) (now : ℤ) (new : State) : Type 0 where
     firings = old.firings ++ at old.entries 0 ∷ [];
   }
 
--- a firing is removed
+-- true if a firing was removed
 pub record TakesFiring (old : State) (place : ℕ) (new : State) : Type 0 where
   pub within : place < length old.firings
   pub rest : new ≡ record old { firings = remove old.firings place }
@@ -60,7 +60,7 @@ armed_entry old d side due function sequence =
       timer = record { due = due; number = old.next; function = function; sequence = sequence };
     }
 
--- the operation leads from the old timers to the new ones
+-- true if the operation turns the old timers into the new ones
 abbrev pub Makes : State → TimersOp → State → Type 0
 Makes old (Arm d side due function sequence) new =
     Arms old (armed_entry old d side due function sequence) new
@@ -68,6 +68,6 @@ Makes old (Stop d side) new = Stops old d side new
 Makes old (Pop now) new = Pops old now new
 Makes old (TakeFiring place) new = TakesFiring old place new
 
--- an operation leads from well-formed timers to the new ones; no operation returns a value
+-- true if the operation turns well-formed timers into the new ones; no operation returns a value
 abbrev pub TimersStep : State → TimersOp → Unit {0} → State → Type 0
 TimersStep old op answer new = IsTimers old × Makes old op new

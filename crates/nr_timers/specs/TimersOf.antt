@@ -7,7 +7,7 @@ use Rattle.nr_rev.specs.declared.timer.Entry.{Entry}
 use Rattle.nr_rev.specs.declared.timer.Timer.{Timer}
 use Rattle.nr_rev.specs.Sides.{with_side, same_side}
 
--- true if the entry is the one of descriptor d's side
+-- true if the entry is for this side of descriptor d
 abbrev pub is_for : ℕ → Side → Entry → Bool
 is_for d side e = (e.descriptor == d) && same_side e.side side
 
@@ -19,7 +19,7 @@ timer_of entries d side = option_map (λ (e : Entry). e.timer) (find (is_for d s
 abbrev pub timers_of : List Entry → ℕ → Sides (Option Timer)
 timers_of entries d = record { read = timer_of entries d Read; write = timer_of entries d Write }
 
--- the timer of descriptor d's side is now this one, or none, and all others are unchanged
+-- true if the timer of descriptor d's side is now this one, or none, and all others are unchanged
 pub record SetsTimer (d : ℕ) (side : Side) (timer : Option Timer) (old new : List Entry) : Type 0
   where
     pub here : timers_of new d ≡ with_side side timer (timers_of old d)

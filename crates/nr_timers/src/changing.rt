@@ -44,7 +44,7 @@ impl Heap {
         self.pop()
     }
 
-    /// Removes the entry at a place and puts the last one there. Returns the removed entry.
+    /// Removes the entry at a place and puts the last entry there. Returns the removed entry.
     #[inline(always)]
     fn take_out(&mut self, place: usize) -> Entry
         requires { place < length self.old.entries }
@@ -76,7 +76,8 @@ impl Heap {
         self.sink(place)
     }
 
-    /// Removes the entry at a place, and returns it with the new place of the entry that was last.
+    /// Removes the entry at a place, and returns it together with the new place of the entry that
+    /// was last.
     #[inline(always)]
     pub(crate) fn remove(&mut self, place: usize) -> (Entry, usize)
         requires { place < length self.old.entries }

@@ -13,22 +13,22 @@ pub struct TimersDelta {
     pub undo: TimersUndo,
 }
 
-/// What an operation changed: at most one entry, and places of the heap, counted from 0, but never a list.
+/// What an operation changed: at most one entry and some places, counted from 0, but never a list.
 #[derive(Clone, Copy, Debug, PartialEq, Eq)]
 pub enum TimersUndo {
-    /// A timer was armed whose side had none, and its entry went to the place `to`.
+    /// A timer was armed on a side that had none, and its entry was put at the place `to`.
     Armed {
         to: u32,
     },
-    /// A timer was armed and replaced another one, `timer`, whose entry was removed from `place`, so that the last
-    /// entry moved to `last`. Then the new entry went to `to`.
+    /// A timer was armed and replaced another timer, `timer`. The replaced entry was removed from
+    /// `place`, and the last entry moved to `last`. Then the new entry was put at `to`.
     Rearmed {
         to: u32,
         place: u32,
         last: u32,
         timer: Timer,
     },
-    /// The entry was removed from `place`, so that the last entry moved to `last`.
+    /// The entry was removed from `place`, and the last entry moved to `last`.
     Stopped {
         place: u32,
         last: u32,
@@ -36,7 +36,8 @@ pub enum TimersUndo {
     },
     /// Nothing changed.
     Still,
-    /// The entry that is the last firing now was removed from place 0, so that the last entry moved to `last`.
+    /// The entry that is now the last firing was removed from place 0, and the last entry moved to
+    /// `last`.
     Popped {
         last: u32,
     },
@@ -62,8 +63,8 @@ impl Default for TimersDelta {
 }
 
 impl TimersUndo {
-    /// Returns the undo of an arming whose entry went to the place `to`, after the entry of the same descriptor's side
-    /// was removed, if there was one.
+    /// Returns the undo of an arming that put its entry at the place `to`, after an earlier entry
+    /// of the same descriptor's side, if any, was removed.
     #[inline(always)]
     pub(crate) fn of_arming(to: u32, gone: Option<Gone>) -> TimersUndo
         ensures { result ≡ armed_undo to gone }

@@ -14,8 +14,8 @@ ghost use Rattle.nr_timers.specs.Order.{at, is_less};
 ghost use Rattle.nr_timers.specs.State.{IsTimers, State};
 ghost use Rattle.nr_timers.specs.Auxiliary.TimersOf.{AreTimers};
 
-/// If a heap contains the timers of descriptors, it has as many entries as they have timers, with the least of these at
-/// place 0.
+/// A heap that contains the timers of descriptors has as many entries as they have timers, and the
+/// least one is at place 0.
 pub fn entries_are_the_descriptors()
     ensures count { (t : State) (timers : List (Sides (Option Timer))) → IsTimers t
         → AreTimers t.entries timers → length t.entries ≡ length (entries_from 0 timers) }
@@ -41,7 +41,7 @@ pub fn delta_is_its_undo()
     ensures { (delta : TimersDelta) → delta ≡ record { undo = delta.undo } }
 {}
 
-/// A delta has at most nine words; each operation's limit is given here.
+/// A delta has at most nine words; the clauses give the limit for each operation.
 pub fn the_numbers()
     ensures words { (delta : TimersDelta) → delta_weight delta ≤ 9 }
     ensures arm { (d : ℕ) (side : Side) (due : ℤ) (function : TimerFunction) (sequence : ℕ)

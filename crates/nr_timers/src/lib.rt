@@ -1,5 +1,5 @@
-//! Timers in the order in which they are due, and the firings that wait to run. The timers are a heap with four
-//! children per place, which finds the place of the timer of each descriptor's side.
+//! Timers in the order in which they are due, and the firings that wait to be run. The timers are a
+//! heap with four children per place, which finds the place of the timer of each descriptor's side.
 #![tactic(auto)]
 
 mod apply;

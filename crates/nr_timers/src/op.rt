@@ -5,9 +5,10 @@ use nr_rev::{Side, TimerFunction};
 /// An operation on timers. Each operation refers to its descriptor by number.
 #[derive(Clone, Copy, Debug, PartialEq, Eq)]
 pub enum TimersOp {
-    /// Arms the timer of a descriptor's side, and replaces one that is armed. The timer gets the next arming number.
-    /// Fails with `Refusal::NoSuchDescriptor` if the descriptor isn't below the limit, or else with
-    /// `Refusal::LastNumber` if the next number is the last one, 18,446,744,073,709,551,615.
+    /// Arms the timer of a descriptor's side, and replaces any armed one. The timer gets the next
+    /// arming number. Fails with `Refusal::NoSuchDescriptor` if the descriptor isn't below the
+    /// limit, or else with `Refusal::LastNumber` if the next number is the last one,
+    /// 18,446,744,073,709,551,615.
     Arm {
         descriptor: u32,
         side: Side,

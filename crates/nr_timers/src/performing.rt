@@ -31,7 +31,7 @@ impl Timers {
         }
     }
 
-    /// Arms the timer of a descriptor's side, and replaces one that is armed.
+    /// Arms the timer of a descriptor's side, and replaces any armed one.
     #[inline(always)]
     fn arm(
         &mut self,

@@ -1,4 +1,4 @@
-//! Armed timers, and the firings that wait to run.
+//! Armed timers, and the firings that wait to be run.
 
 ghost use Rattle.std.specs.Prelude.{◌≡◌, ◌≢◌, ℕ, ◌^◌, ◌<◌, [], List, length, slice_get, IfOk, MatchOption};
 ghost use Rattle.nr_rev.specs.declared.sides.Sides.{Sides};
@@ -13,8 +13,8 @@ use nr_rev::{Entry, Memory, RoomedList, Side};
 use std::alloc::Global;
 use std::marker::Model;
 
-/// Armed timers for the sides of descriptors below a limit, and the firings that wait to run. All memory is allocated
-/// at once, so operations allocate none.
+/// Armed timers for the sides of descriptors below a limit, and the firings that wait to be run.
+/// All memory is allocated at once, so operations allocate none.
 ///
 /// The entries are a heap with four children per place, like the timers of `runtime/time.go`. They are ordered by due
 /// time, and entries that are due at the same time by arming number.
@@ -45,8 +45,9 @@ impl Model for Timers {
 }
 
 impl Timers {
-    /// Returns timers without an entry or a firing, for this many descriptors, with room for two entries and two
-    /// firings per descriptor. The first arming gets number 1. Fails with `Memory` if memory runs out.
+    /// Returns an empty set of timers for this many descriptors, with room for two entries and two
+    /// firings per descriptor. The first arming gets number 1. Fails with `Memory` if memory runs
+    /// out.
     pub fn with_limits(alloc: Global, descriptors: u32) -> Result<Timers, Memory>
         requires { descriptors < 2 ^ 31 }
         ensures well_formed { IfOk result IsTimers }
@@ -130,7 +131,7 @@ impl Timers {
         self.heap.get(0)
     }
 
-    /// Returns the number of firings that wait to run.
+    /// Returns the number of firings that wait to be run.
     #[inline(always)]
     pub fn firings(&self) -> usize
         ensures { result ≡ length self.now.firings }
@@ -146,7 +147,7 @@ impl Timers {
         self.firings.get(place)
     }
 
-    /// Returns the number of the next arming.
+    /// Returns the next arming number.
     #[inline(always)]
     pub fn next_number(&self) -> u64
         ensures { result ≡ self.now.next }

@@ -9,7 +9,8 @@ use crate::timers::Timers;
 use nr_rev::Entry;
 
 impl Timers {
-    /// Restores what an operation changed: afterwards the timers are in the one state to which the undo leads.
+    /// Restores what an operation changed: afterwards the timers are in the state before that
+    /// operation.
     #[inline(always)]
     pub(crate) fn lead_back(&mut self, undo: TimersUndo)
         requires { (old : State) × UndoBack undo self.old old }

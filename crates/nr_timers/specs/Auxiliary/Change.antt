@@ -5,23 +5,23 @@ use Rattle.nr_rev.specs.declared.timer.Entry.{Entry}
 use Rattle.nr_timers.specs.PathToRoot.{Leads}
 use Rattle.nr_timers.specs.Auxiliary.PathToRoot.{moved_up, moved_down}
 
--- the entries with the last one moved to p, whose entry is removed
+-- the entries after the one at p was removed and the last one moved to p
 abbrev pub refilled : List Entry → ℕ → List Entry
 refilled old p = take (length old - 1) (swap old p (length old - 1))
 
--- the entry at q was moved back to p along the path to the root
+-- true if the entry at q was moved back to p along the path to the root
 abbrev pub TakenBack : ℕ → ℕ → List Entry → List Entry → Type 0
 TakenBack p q new rest =
     ((n : ℕ) × Leads n p q × (rest ≡ moved_down n new p))
     ⊎ ((n : ℕ) × Leads n q p × (rest ≡ moved_up n new q))
 
--- the undo of an insertion that ended at q
+-- true if this undoes an insertion that ended at q
 abbrev pub InsertedBack : ℕ → List Entry → List Entry → Type 0
 InsertedBack q new old =
     (0 < length new) × (n : ℕ) × Leads n (length new - 1) q
     × (old ≡ take (length new - 1) (moved_down n new (length new - 1)))
 
--- the undo of a removal from p, which moved the last entry to q
+-- true if this undoes a removal from p that moved the last entry to q
 abbrev pub RemovedBack : ℕ → ℕ → Entry → List Entry → List Entry → Type 0
 RemovedBack p q entry new old =
     ((p ≡ length new) × (q ≡ p) ⊎ (p < length new) × (q < length new))

@@ -5,12 +5,12 @@ use Rattle.nr_rev.specs.declared.timer.Entry.{Entry}
 use Rattle.nr_timers.specs.Order.{is_less, at}
 use Rattle.nr_timers.specs.PathToRoot.{InOrder, Raised, Sunk, parent}
 
--- the entries after the one at p moved n places up the path
+-- the entries after the entry at p moved n places up the path
 abbrev pub moved_up : ℕ → List Entry → ℕ → List Entry
 moved_up zero places p = places
 moved_up (suc n) places p = moved_up n (swap places p (parent p)) (parent p)
 
--- the entries after the one n places above p moved down the path to p
+-- the entries after the entry n places above p moved down the path to p
 abbrev pub moved_down : ℕ → List Entry → ℕ → List Entry
 moved_down zero places p = places
 moved_down (suc n) places p = swap (moved_down n places (parent p)) p (parent p)
@@ -40,7 +40,7 @@ pub record OrderedAround (places : List Entry) (p : ℕ) : Type 0 where
       → InOrder places i
   pub across : InOrderAcross places p
 
--- the entry at p moved up to q; or it isn't less than its parent and moved down to q
+-- true if the entry at p moved up to q, or moved down to q because it isn't less than its parent
 abbrev pub Sifted : List Entry → ℕ → ℕ → List Entry → Type 0
 Sifted old p q new =
     ((q < p) × Raised old p (at old p) q new)

@@ -7,7 +7,7 @@ use Rattle.nr_timers.specs.declared.op.TimersOp.TheVariants.{Arm, Stop, Pop, Tak
 use Rattle.nr_timers.specs.Order.{at}
 use Rattle.nr_timers.specs.State.{State}
 
--- why an operation is refused: the first reason that applies
+-- the first reason why an operation is refused, if it is
 abbrev pub timers_reason : State → TimersOp → Option Refusal
 timers_reason old (Arm d side due function sequence) =
     if nat_lt d old.descriptors

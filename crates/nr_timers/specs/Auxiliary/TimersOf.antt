@@ -6,6 +6,7 @@ use Rattle.nr_rev.specs.declared.timer.Timer.{Timer}
 use Rattle.nr_rev.specs.Sides.{twice}
 use Rattle.nr_timers.specs.TimersOf.{timers_of}
 
--- these are the timers of the descriptors from number 0 on, and other descriptors have none
+-- true if these are the timers of the descriptors, from number 0 on, and no other descriptor has
+-- one
 abbrev pub AreTimers : List Entry → List (Sides (Option Timer)) → Type 0
 AreTimers entries timers = (d : ℕ) → timers_of entries d ≡ slice_index_or timers d (twice None)
