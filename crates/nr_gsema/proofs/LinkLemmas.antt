@@ -1,4 +1,4 @@
--- A queue that is linked through nodes, when a goroutine joins or leaves it at either end.
+-- Lemmas about a queue linked through nodes that a goroutine joins or leaves at either end.
 use Rattle.std.proofs.Common.{◌≡◌, ◌≢◌, inl, inr, ℕ, zero, suc, ◌+◌, ◌-◌, ◌<◌, ◌≤◌, Bool, true, false, List, [], ◌∷◌, ◌++◌, length, Option, Some, None, refl, sym, ap, subst, ◌∙◌, arith}
 use Rattle.std.proofs.lemmas.Option.{same_Some, none-some}
 use Rattle.std.specs.Prelude.{slice_get, ◌==◌, if◌then◌else◌}
@@ -18,7 +18,7 @@ itself g queue = let a = count_front g g queue in let b : bit (g == g) ≡ 1 = a
 further : (g h : ℕ) (queue : List ℕ) → times h queue ≤ times h (g ∷ queue)
 further g h queue = let a = count_front g h queue in omega arith
 
--- the nodes of these goroutines are unchanged
+-- true if the nodes of these goroutines are unchanged
 abbrev Agree : List GoroutineNode → List GoroutineNode → List ℕ → Type 0
 Agree nodes new [] = Unit {0}
 Agree nodes new (g ∷ queue) = (slice_get new g ≡ slice_get nodes g) × Agree nodes new queue
@@ -36,7 +36,7 @@ IsLinked-kept nodes new status previous [] first last same h = h
 IsLinked-kept nodes new status previous (g ∷ queue) first last same h =
     (h.0, (h.1.0, same.0 ∙ h.1.1, IsLinked-kept nodes new status (Some g) queue h.1.0 last same.1 h.1.2))
 
--- following the next ones from the first gives the queue
+-- following the links from the first goroutine yields the queue
 pub chain-is : (n : ℕ) (nodes : List GoroutineNode) (status : Status) (previous : Option ℕ) (queue : List ℕ) (first last : Option ℕ) → IsLinked nodes status previous queue first last
     → length queue ≤ n → chain n nodes first ≡ queue
 unfolding chain
@@ -130,7 +130,7 @@ linked_back nodes new status g last r previous (x ∷ (y ∷ queue)) first once 
       ),
     )
 
--- the node of the last goroutine; its previous one is the one before it or, if it is alone,
+-- the node of the last goroutine links back to the goroutine before it, or, if it is alone, to
 -- `previous`
 last_node : (nodes : List GoroutineNode) (status : Status) (previous : Option ℕ) (g : ℕ) (first last : Option ℕ) (at : GoroutineNode) → slice_get nodes g ≡ Some at
     → IsLinked nodes status previous (g ∷ []) first last → at.previous ≡ previous
@@ -224,7 +224,7 @@ linked_front nodes new status g (x ∷ queue) first last r once none h =
         at_last [] before first is l = let e : last ≡ Some is.0 = l.1 ∙ is.1 in ap (λ o. or_else o g) e ∙ sym e
         at_last (y ∷ ys) before first is l = at_last ys (Some y) l.1.0 (y, refl) l.1.2
 
--- the back of the rest of a queue
+-- the back of a queue after its front has left
 abbrev pub back_left : List ℕ → Option ℕ → Option ℕ
 back_left [] last = None
 back_left (x ∷ queue) last = last
@@ -264,7 +264,7 @@ unlinked_front nodes new status g at left queue first last is r once h = go queu
           ),
         )
 
--- the goroutine after another one is the queue's
+-- the next goroutine in a node is the next one in the queue
 pub next-is : (nodes : List GoroutineNode) (status : Status) (previous : Option ℕ) (queue : List ℕ) (first last : Option ℕ) → IsLinked nodes status previous queue first last
     → (h : ℕ) (node : GoroutineNode) → slice_get nodes h ≡ Some node → 0 < times h queue → node.next ≡ behind h queue
 next-is nodes status previous [] first last linked h node is some = absurd (omega arith)
@@ -277,7 +277,7 @@ next-is nodes status previous (g ∷ queue) first last linked h node is some = g
         ∙ first-is nodes status (Some g) queue linked.1.0 last linked.1.2
     go false other behind_it = behind_it (let a = count_front g h queue in let b : bit (g == h) ≡ 0 = ap bit other in omega arith)
 
--- the goroutine before another one is the queue's
+-- the previous goroutine in a node is the previous one in the queue
 pub previous-is : (nodes : List GoroutineNode) (status : Status) (previous : Option ℕ) (queue : List ℕ) (first last : Option ℕ) → IsLinked nodes status previous queue first last
     → (h : ℕ) (node : GoroutineNode) → slice_get nodes h ≡ Some node → 0 < times h queue → node.previous ≡ before h previous queue
 previous-is nodes status previous [] first last linked h node is some = absurd (omega arith)
@@ -289,7 +289,7 @@ previous-is nodes status previous (g ∷ queue) first last linked h node is some
         ap (λ (x : GoroutineNode). x.previous) (same_Some node (node_with status linked.1.0 previous) (sym is ∙ found))
     go false other behind_it = behind_it (let a = count_front g h queue in let b : bit (g == h) ≡ 0 = ap bit other in omega arith)
 
--- the back is the list's last
+-- the back of a queue is the last goroutine of the list
 pub last-is : (nodes : List GoroutineNode) (status : Status) (queue : List ℕ) (first last : Option ℕ) → IsLinked nodes status None queue first last → last ≡ back_of queue
 last-is nodes status [] first last h = h.1
 last-is nodes status (g ∷ queue) first last h = go g queue h.1.0 h.1.2

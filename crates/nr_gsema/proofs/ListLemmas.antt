@@ -1,17 +1,18 @@
--- Lists: their ends, elements that are written back, and equal views.
+-- Lemmas about the ends of lists, elements that are written back, and equal views.
 use Rattle.std.proofs.Common.{replicate, ◌≡◌, ◌≢◌, ℕ, zero, suc, ◌+◌, ◌-◌, ◌<◌, List, [], ◌∷◌, ◌++◌, length, set, map, take, drop, Some, refl, sym, ap, ap₂, ◌∙◌, arith}
 use Rattle.std.proofs.lemmas.List.{length_push, take_all, take_more}
 use Rattle.std.proofs.lemmas.Option.{same_Some, slice_get_within, get_or_from_slice_get}
 use Rattle.std.specs.Prelude.{slice_get}
 use Rattle.nr_rev.proofs.ListUpdateLemmas.{set_read_back}
 
--- there is an element below the length
+-- each index below the length has an element
 pub there_is : {X : Type 0} (xs : List X) (i : ℕ) → i < length xs → (x : X) × (slice_get xs i ≡ Some x)
 there_is [] i within = absurd (omega arith)
 there_is (x ∷ xs) zero within = (x, refl)
 there_is (x ∷ xs) (suc i) within = there_is xs i (omega arith)
 
--- equal functions give equal views; functions that differ at one place give views that differ there
+-- equal functions map a list to equal lists; functions that differ at one place, to lists that
+-- differ there
 pub map_alike : {X Y : Type 0} (f g : X → Y) (xs : List X) → ((k : ℕ) (x : X) → slice_get xs k ≡ Some x → f x ≡ g x) → map f xs ≡ map g xs
 map_alike f g [] alike = refl
 map_alike {X} {Y} f g (x ∷ xs) alike = ap₂ (λ (a : Y) (b : List Y). a ∷ b) (alike zero x refl) (map_alike f g xs (λ k z is. alike (suc k) z is))
@@ -22,19 +23,19 @@ set_map_alike {X} {Y} f g (x ∷ xs) zero y alike = ap (λ (ys : List Y). y ∷ 
 set_map_alike {X} {Y} f g (x ∷ xs) (suc i) y alike =
     ap₂ (λ (a : Y) (b : List Y). a ∷ b) (alike zero x (λ e. omega arith) refl) (set_map_alike f g xs i y (λ k z ne is. alike (suc k) z (λ e. ne (omega arith)) is))
 
--- a list as its first element and the rest
+-- a list consists of its first element and the rest
 pub first_split : (xs : List ℕ) (g : ℕ) → slice_get xs 0 ≡ Some g → xs ≡ g ∷ drop 1 xs
 first_split [] g e = cc
 first_split (x ∷ xs) g e = ap (λ (k : ℕ). k ∷ xs) (same_Some x g e)
 
--- a list as the rest and its last element
+-- a list consists of the elements before the last one and the last one
 pub last_split : {X : Type 0} (xs : List X) (g : X) → slice_get xs (length xs - 1) ≡ Some g → xs ≡ take (length xs - 1) xs ++ g ∷ []
 last_split {X} xs g e =
     let within = slice_get_within xs (length xs - 1) g e in
     let all : take (length xs - 1 + 1) xs ≡ xs = take_all (length xs - 1 + 1) xs (omega arith) in
     sym all ∙ take_more xs (length xs - 1) g within ∙ ap (λ (k : X). take (length xs - 1) xs ++ k ∷ []) (get_or_from_slice_get xs (length xs - 1) g g e)
 
--- each element of a list of equal elements is that element
+-- each element of a list that repeats one element is that element
 pub each_alike : {X : Type 0} (n : ℕ) (x : X) (s : ℕ) (y : X) → slice_get (replicate n x) s ≡ Some y → y ≡ x
 each_alike zero x s y e = cc
 each_alike (suc n) x zero y e = sym (same_Some x y e)

@@ -1,4 +1,4 @@
--- The changes of two nodes when a goroutine leaves or joins a queue beside another.
+-- Lemmas about the changes of two nodes when a goroutine joins or leaves a queue next to another.
 use Rattle.std.proofs.Common.{◌≡◌, ◌≢◌, ◌⊎◌, inl, inr, ℕ, List, length, length-set, set, Option, Some, None, refl, sym, ap, ◌∙◌}
 use Rattle.std.proofs.lemmas.List.{map-set}
 use Rattle.std.proofs.Math.Seq.{map-set_same}
@@ -9,8 +9,8 @@ use Rattle.nr_gsema.specs.declared.node.GoroutineNode.{GoroutineNode}
 use Rattle.nr_gsema.specs.Links.{statuses}
 use Rattle.nr_gsema.specs.Relinking.{set_found, with_node}
 
--- the node of g is `at`, the node of a neighbour, if there is one, is changed, and all others are
--- unchanged
+-- true if the node of g is now `at`, the node of its neighbour, if any, is changed, and all others
+-- are unchanged
 pub record Relinks (nodes new : List GoroutineNode) (g : ℕ) (at : GoroutineNode) (neighbour : Option ℕ) (change : GoroutineNode → GoroutineNode) : Type 0 where
   pub here : slice_get new g ≡ Some at
   pub beside : (h : ℕ) (node : GoroutineNode) → h ≢ g → slice_get nodes h ≡ Some node
@@ -39,7 +39,7 @@ module _ (nodes : List GoroutineNode) (g : ℕ) (old at : GoroutineNode) (change
         moved = mid_status;
       }
 
-  -- the node of the neighbour, or none
+  -- the change of the neighbour's node, if it has one
   one_beside : (b : ℕ) → b ≢ g → (o : Option GoroutineNode) → slice_get (set nodes g at) b ≡ o → Relinks nodes (set_found b change o (set nodes g at)) g at (Some b) change
   one_beside b apart None none =
       record {

@@ -1,4 +1,4 @@
--- The outcome of each operation, and its undo.
+-- Lemmas about the outcome of each operation, and about its undo.
 use Rattle.std.proofs.Common.{◌≡◌, ◌≢◌, ℕ, ◌+◌, ◌-◌, ◌^◌, ◌<◌, ◌≤◌, Bool, true, false, ◌&&◌, List, [], ◌∷◌, ◌++◌, length, set, take, drop, inl, inr, Option, Some, None, Ok, refl, sym, ap, ap₂, subst, ◌∙◌, arith, lit≤}
 use Rattle.std.proofs.lemmas.List.{length_push, set_comm, take_at}
 use Rattle.std.proofs.lemmas.Option.{same_Some, none-some}
@@ -111,7 +111,7 @@ back_over t g status new s side both y back at there e =
     ap₂ table (set_back t.goroutines g status new at) (set_back t.semaphores s both changed there ∙ ap (set (set t.semaphores s changed) s) (sym (sides_back side both y back e)))
     ∙ ap (with_status g status) (sym (on_semaphore_is s side back next changed (slice_get-set_here t.semaphores s both changed there)))
 
--- the semaphore that has a count
+-- a count that was found is the count of a semaphore in the table
 pub count_found : (t : GoroutineTable) (s : ℕ) (side : Side) (count : ℕ) → count_at s side t ≡ Some count
     → (both : Sides Semaphore) × (slice_get t.semaphores s ≡ Some both) × ((of_side side both).count ≡ count)
 count_found t s side count is = go (slice_get t.semaphores s) refl
@@ -183,7 +183,7 @@ queues_up t t2 g s side status count found acquires counted none after =
       light = lit≤ tt;
     })
 
--- a semaphore of the table, found
+-- the queue of a semaphore that was found in the table
 module _ (t : GoroutineTable) (s : ℕ) (side : Side) (both : Sides Semaphore) (there : slice_get t.semaphores s ≡ Some both) where
   front_is : slice_get (queue_at s side t) 0 ≡ slice_get (of_side side both).queue 0
   front_is = ap (λ (o : Option (Sides Semaphore)). slice_get (queue_found side o) 0) there
@@ -220,7 +220,7 @@ module _ (t : GoroutineTable) (h : IsQueuedUp t) (g s : ℕ) (debt : Sides ℕ) 
   count_back : (of_side side both).count + 1 - 1 ≡ (of_side side both).count
   count_back = omega arith
 
-  -- the undo leads back, whether or not a goroutine left the queue
+  -- the undo restores the old table, whether or not a goroutine left the queue
   leads_back : (front : Option ℕ) → slice_get (of_side side both).queue 0 ≡ front
       → Reverses (undo.Released g s debt.read debt.write front)
       (with_status g new (tries_again s side front (with_semaphore s side both (record { count = (of_side side both).count + 1; queue = drop 1 (of_side side both).queue }) t))) t

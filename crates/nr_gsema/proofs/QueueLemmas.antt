@@ -1,4 +1,4 @@
--- The queues that nodes and heads are linked to.
+-- Lemmas about the queues that nodes and heads form.
 use Rattle.std.proofs.Common.{◌≡◌, ◌≢◌, ℕ, ◌<◌, ◌≤◌, List, length, Option, Some, None, refl, sym, ap, ap₂, subst, ◌∙◌, arith}
 use Rattle.std.proofs.lemmas.List.{length-map}
 use Rattle.std.proofs.lemmas.Option.{slice_get_within, slice_get-map}
@@ -37,7 +37,7 @@ module _ (nodes : List GoroutineNode) (semaphores : List (Sides SemaphoreHead)) 
   pub short : (s : ℕ) (side : Side) → s < length semaphores → length (queues s side) ≤ length nodes
   short s side within = few_below (queues s side) (length nodes) (once s side within) (member_there s side within)
 
-  -- following the links from the front gives the queue
+  -- following the links from the front yields the queue
   pub queue_is : (s : ℕ) (side : Side) (both : Sides SemaphoreHead) → slice_get semaphores s ≡ Some both → queue_from nodes (of_side side both) ≡ queues s side
   queue_is s side both at = chain-is (length nodes) nodes (Queued s side) None (queues s side) _ _ (h.linked s side both at) (short s side (slice_get_within semaphores s both at))
 
@@ -61,7 +61,7 @@ both_kept nodes new x same =
     let sides : List ℕ → List ℕ → Sides Semaphore = λ q r. record { read = record { count = x.read.count; queue = q }; write = record { count = x.write.count; queue = r } } in
     ap₂ sides (same Read) (same Write)
 
--- the semaphores of both sides, one of which is new
+-- the semaphores of both sides, if one of them is new
 pub both_from : (nodes new : List GoroutineNode) (side : Side) (head : SemaphoreHead) (both : Sides SemaphoreHead) (queue : List ℕ) → queue_from new head ≡ queue
     → ((other : Side) → other ≢ side → queue_from new (of_side other both) ≡ queue_from nodes (of_side other both))
     → semaphores_from new (with_side side head both) ≡ with_side side (record { count = head.count; queue = queue }) (semaphores_from nodes both)

@@ -1,4 +1,4 @@
--- Reading nodes and heads gives the table's values.
+-- The values read from nodes and heads are those of the table.
 use Rattle.std.proofs.Common.{◌≡◌, ℕ, ◌<◌, false, ◌||◌, List, [], ◌∷◌, map, Option, Some, None, refl, sym, ap, subst, ◌∙◌, arith}
 use Rattle.std.proofs.lemmas.List.{length-map}
 use Rattle.std.proofs.lemmas.Option.{same_Some, slice_get_within}
@@ -26,7 +26,7 @@ use Rattle.nr_gsema.proofs.ListLemmas.{there_is}
 use Rattle.nr_gsema.proofs.QueueLemmas.{status_at, queue_is}
 use Rattle.nr_gsema.proofs.TableLemmas.{AreTable, of_side-from, semaphores_at}
 
--- a node whose status is inside a wait is a goroutine that waits
+-- a node with a status inside a wait belongs to a goroutine inside that wait
 pub any_waits : (d : ℕ) (side : Side) (nodes : List GoroutineNode) → list_any (λ node. is_wait_at d side (wait_of node.status)) nodes ≡ is_waited d side (statuses nodes)
 any_waits d side [] = refl
 any_waits d side (node ∷ nodes) = ap (λ b. is_wait_at d side (wait_of node.status) || b) (any_waits d side nodes)
@@ -49,7 +49,7 @@ module _ {nodes : List GoroutineNode} {semaphores : List (Sides SemaphoreHead)} 
       last-is nodes (Queued s side) (queues_from nodes semaphores s side) (of_side side x).front (of_side side x).back (is.queues.linked s side x there)
       ∙ ap back_of (sym (queue_read s side x there))
 
-  -- the neighbour in a node: none outside every queue, and otherwise the queue's
+  -- the neighbour in a node is the neighbour in the queue, or none if the goroutine isn't queued
   neighbour_read : (g : ℕ) (node : GoroutineNode) (named : Option ℕ) (found : List ℕ → Option ℕ) → slice_get nodes g ≡ Some node
       → (is_waiting node.status ≡ false → named ≡ None)
       → ((s : ℕ) (side : Side) (queue : List ℕ) (first last : Option ℕ) → IsLinked nodes (Queued s side) None queue first last → 0 < times g queue → named ≡ found queue)

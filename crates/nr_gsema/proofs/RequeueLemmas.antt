@@ -1,4 +1,4 @@
--- The queues when a goroutine joins or leaves one of them at an end.
+-- Lemmas about the queues when a goroutine joins or leaves one of them at an end.
 use Rattle.std.proofs.Common.{◌≡◌, ◌≢◌, inl, inr, ℕ, ◌+◌, ◌<◌, ◌≤◌, true, false, ◌&&◌, List, [], ◌∷◌, ◌++◌, length, length-set, set, map, Option, Some, None, refl, sym, ap, subst, ◌∙◌, arith}
 use Rattle.std.proofs.lemmas.Bool.{cases_eq}
 use Rattle.std.proofs.lemmas.List.{map-set}
@@ -36,7 +36,8 @@ requeue_here s side queue queues = ap (λ t. if t then queue else queues s side)
 requeue_apart : (s : ℕ) (side : Side) (queue : List ℕ) (queues : ℕ → Side → List ℕ) (k : ℕ) (other : Side) → Apart s side k other → requeue s side queue queues k other ≡ queues k other
 requeue_apart s side queue queues k other apart = ap (λ t. if t then queue else queues k other) (place_apart s side k other apart)
 
--- the result of a change: linked queues, g's new status, and the semaphore as defined
+-- true if, after a change, the queues are linked, g has its new status, and the semaphore is as
+-- defined
 pub record Requeues (nodes new : List GoroutineNode) (semaphores : List (Sides SemaphoreHead)) (s : ℕ) (side : Side) (both : Sides SemaphoreHead) (head : SemaphoreHead) (g : ℕ) (status : Status)
     (queue : List ℕ) : Type 0 where
   pub queues : AreQueues new (set semaphores s (with_side side head both)) (queues_from new (set semaphores s (with_side side head both)))
@@ -237,7 +238,7 @@ module _ (nodes : List GoroutineNode) (semaphores : List (Sides SemaphoreHead)) 
   absent none =
       ap (times g) (sym is_queue) ∙ h.queued s side below g ∙ ap (λ o. bit (is_queued s side o)) (status_at nodes g old is) ∙ ap bit (unqueued old.status s side none)
 
-  -- a goroutine outside the queues is no neighbour
+  -- a goroutine outside the queues is nobody's neighbour
   not_waiting : is_waiting old.status ≡ false → (b : ℕ) (node : GoroutineNode) → slice_get nodes b ≡ Some node → node.status ≡ Queued s side → b ≢ g
   not_waiting none b node at queued e =
       let same : node ≡ old = same_Some node old (sym at ∙ ap (slice_get nodes) e ∙ is) in
@@ -281,7 +282,7 @@ module _ (nodes : List GoroutineNode) (semaphores : List (Sides SemaphoreHead)) 
       let d = bit_true (is_queued s side (Some (Queued s side))) (g == k) (queued_here s side) in
       omega arith)
 
-  -- a goroutine in the queue has its status
+  -- a goroutine in the queue has the queued status
   member_status : 0 < times g (queue_from nodes (of_side side both)) → old.status ≡ Queued s side
   member_status some =
       let found = member nodes (Queued s side) None (queue_from nodes (of_side side both)) (of_side side both).front (of_side side both).back linked_now g some in

@@ -1,4 +1,4 @@
--- The table of nodes and heads after each of their changes.
+-- Lemmas about the table of nodes and heads after each change of them.
 use Rattle.std.proofs.Common.{◌≡◌, ℕ, zero, suc, ◌+◌, ◌-◌, ◌<◌, false, List, [], ◌∷◌, ◌++◌, length, replicate, set, map, take, Option, Some, None, refl, sym, ap, ap₂, subst, ◌∙◌, arith}
 use Rattle.std.proofs.lemmas.List.{length-map, map-set, take-map}
 use Rattle.std.proofs.lemmas.Option.{none-some, same_Some, slice_get-map, slice_get_within}
@@ -38,12 +38,12 @@ use Rattle.nr_gsema.proofs.ListLemmas.{first_split}
 abbrev pub table_of : List GoroutineNode → List (Sides SemaphoreHead) → ℕ → GoroutineTable
 table_of nodes semaphores limit = record { goroutines = statuses nodes; semaphores = map (semaphores_from nodes) semaphores; limit = limit }
 
--- these nodes and heads are linked, and their table is this one
+-- true if these nodes and heads are linked and represent this table
 pub record AreTable (nodes : List GoroutineNode) (semaphores : List (Sides SemaphoreHead)) (limit : ℕ) (t : GoroutineTable) : Type 0 where
   pub queues : AreQueues nodes semaphores (queues_from nodes semaphores)
   pub view : table_of nodes semaphores limit ≡ t
 
--- so are lists that are equal to them
+-- lists equal to such nodes and heads also represent the table
 pub AreTable-same : {nodes : List GoroutineNode} {semaphores : List (Sides SemaphoreHead)} {limit : ℕ} {t : GoroutineTable} (ys : List GoroutineNode) (zs : List (Sides SemaphoreHead))
     → AreTable nodes semaphores limit t → ys ≡ nodes → zs ≡ semaphores → AreTable ys zs limit t
 AreTable-same {nodes} {semaphores} {limit} {t} ys zs is a b =
@@ -63,7 +63,7 @@ pub of_side-from : (nodes : List GoroutineNode) (side : Side) (both : Sides Sema
 of_side-from nodes Read both = refl
 of_side-from nodes Write both = refl
 
--- a status of the table is a node's
+-- each status in the table is the status of a node
 status_node : (nodes : List GoroutineNode) (g : ℕ) (status : Status) → slice_get (statuses nodes) g ≡ Some status → (node : GoroutineNode) × (slice_get nodes g ≡ Some node) × (node.status ≡ status)
 status_node nodes g status is = go (slice_get nodes g) refl
   where
@@ -102,7 +102,7 @@ abbrev pub idle_node : GoroutineNode
 idle_node = record { status = Idle; next = None; previous = None }
 
 module _ {nodes : List GoroutineNode} {semaphores : List (Sides SemaphoreHead)} {limit : ℕ} {t : GoroutineTable} (is : AreTable nodes semaphores limit t) where
-  -- a goroutine outside the queues has a node that says so
+  -- a goroutine outside the queues has a node whose status isn't queued
   pub outside_node : (g : ℕ) → IsOutside g t → (old : GoroutineNode) × (slice_get nodes g ≡ Some old) × (is_waiting old.status ≡ false)
   outside_node g outside = go (slice_get (statuses nodes) g) refl
     where
@@ -115,14 +115,14 @@ module _ {nodes : List GoroutineNode} {semaphores : List (Sides SemaphoreHead)} 
           let node = status_node nodes g status found in
           (node.0, node.1, ap is_waiting node.2 ∙ same_Some (is_waiting status) false (sym (ap (option_map is_waiting) found) ∙ same))
 
-  -- a socket below the limit has the heads that are read for it
+  -- the heads that were read for a socket below the limit are its heads
   pub head_read : (s : ℕ) (x : Sides SemaphoreHead) → s < length t.semaphores → x ≡ get_or semaphores s x → slice_get semaphores s ≡ Some x
   head_read s x within read =
       let sizes = length-map semaphores (semaphores_from nodes) in
       let same : length (map (semaphores_from nodes) semaphores) ≡ length t.semaphores = ap (λ (u : GoroutineTable). length u.semaphores) is.view in
       slice_get_read semaphores (length semaphores) s x refl (omega arith) read
 
-  -- a fact about a semaphore of the table holds for its head
+  -- a property of a semaphore in the table also holds for its head
   pub head_has : (s : ℕ) (side : Side) (P : Semaphore → Type 0) (x : Sides SemaphoreHead) → slice_get semaphores s ≡ Some x → HasSemaphore s side P t
       → P (record { count = (of_side side x).count; queue = queue_from nodes (of_side side x) })
   head_has s side P x there has =
@@ -160,7 +160,7 @@ module _ {nodes : List GoroutineNode} {semaphores : List (Sides SemaphoreHead)} 
       let found = last_within nodes (Queued s side) (queues_from nodes semaphores s side) (of_side side x).front (of_side side x).back (is.queues.linked s side x there) g e in
       slice_get_within nodes g found.0 found.1))
 
-  -- so have the neighbours of the ends
+  -- the neighbours of the ends of a queue have nodes
   pub next_within : (s : ℕ) (side : Side) (x : Sides SemaphoreHead) → slice_get semaphores s ≡ Some x → (g : ℕ) (old : GoroutineNode) → slice_get nodes g ≡ Some old
       → slice_get (queue_from nodes (of_side side x)) 0 ≡ Some g → (n : ℕ) → n ≡ length nodes → IfSome old.next (λ k. k < n)
   next_within s side x there g old at first n same =
@@ -237,7 +237,7 @@ module _ {nodes : List GoroutineNode} {semaphores : List (Sides SemaphoreHead)} 
       (sym q_is) (requeued_table is (leaves_front nodes semaphores is.queues s side x there g old at ((of_side side x).count + 1) (Acquiring s side) (drop 1 queue) refl (first_split queue g first))
       there released_once refl)
 
-  -- a goroutine outside the queues, with another status
+  -- the table after a goroutine outside the queues gets another status
   pub status_set : (g : ℕ) (node : GoroutineNode) (status : Status) → slice_get nodes g ≡ Some node → IsOutside g t → is_waiting status ≡ false
       → AreTable (set nodes g (record node { status = status })) semaphores limit (with_status g status t)
   status_set g node status at outside none =
@@ -253,7 +253,7 @@ module _ {nodes : List GoroutineNode} {semaphores : List (Sides SemaphoreHead)} 
             ∙ ap (with_status g status) is.view;
       }
 
-  -- a semaphore with another count
+  -- the table after a semaphore gets another count
   pub count_set : (s : ℕ) (side : Side) (x : Sides SemaphoreHead) (count : ℕ) → slice_get semaphores s ≡ Some x
       → AreTable nodes (set semaphores s (with_side side (record (of_side side x) { count = count }) x)) limit (on_semaphore s side (with_count count) t)
   count_set s side x count there =

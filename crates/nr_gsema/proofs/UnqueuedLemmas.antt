@@ -1,4 +1,4 @@
--- The queues when only a count or a status outside the queues changes.
+-- Lemmas about the queues when only a count or a status outside the queues changes.
 use Rattle.std.proofs.Common.{◌≡◌, inl, inr, ℕ, ◌<◌, true, false, List, [], ◌∷◌, ◌++◌, length, length-set, set, map, Some, None, refl, sym, ap, subst, ◌∙◌, arith}
 use Rattle.std.proofs.lemmas.List.{map-set, map_push}
 use Rattle.std.proofs.lemmas.Option.{same_Some}
@@ -19,7 +19,8 @@ use Rattle.nr_gsema.proofs.PlaceLemmas.{unqueued}
 use Rattle.nr_gsema.proofs.ListLemmas.{map_alike}
 use Rattle.nr_gsema.proofs.QueueLemmas.{status_at, queue_is, both_from, both_kept}
 
--- a change that leaves the nodes of all queued goroutines unchanged, and queues no other
+-- the queues stay the same if the nodes of queued goroutines are unchanged and no other goroutine
+-- is queued
 pub same_queues : (nodes new : List GoroutineNode) (semaphores : List (Sides SemaphoreHead)) (queues : ℕ → Side → List ℕ) → AreQueues nodes semaphores queues
     → ((s : ℕ) (side : Side) (m : ℕ) (node : GoroutineNode) → slice_get nodes m ≡ Some node → node.status ≡ Queued s side → slice_get new m ≡ Some node)
     → ((s : ℕ) (side : Side) (m : ℕ) → is_queued s side (slice_get (statuses new) m) ≡ is_queued s side (slice_get (statuses nodes) m))
@@ -40,7 +41,7 @@ same_queues nodes new semaphores queues h kept bits alone named =
       named = named;
     }
 
--- then the semaphores are unchanged
+-- the semaphores stay the same if the nodes of queued goroutines are unchanged
 pub same_semaphores : (nodes new : List GoroutineNode) (semaphores : List (Sides SemaphoreHead)) (queues : ℕ → Side → List ℕ) → AreQueues nodes semaphores queues → AreQueues new semaphores queues
     → map (semaphores_from new) semaphores ≡ map (semaphores_from nodes) semaphores
 same_semaphores nodes new semaphores queues h k =
@@ -50,7 +51,7 @@ same_semaphores nodes new semaphores queues h k =
 pub statuses_push : (nodes : List GoroutineNode) (node : GoroutineNode) → statuses (nodes ++ node ∷ []) ≡ statuses nodes ++ node.status ∷ []
 statuses_push nodes node = map_push (λ (x : GoroutineNode). x.status) nodes node
 
--- one more goroutine, which is in no queue
+-- a goroutine that is in no queue is added
 pub pushed : (nodes : List GoroutineNode) (semaphores : List (Sides SemaphoreHead)) (queues : ℕ → Side → List ℕ) (node : GoroutineNode) → AreQueues nodes semaphores queues
     → is_waiting node.status ≡ false → node.next ≡ None → node.previous ≡ None → AreQueues (nodes ++ node ∷ []) semaphores queues
 pushed nodes semaphores queues node h none no_next no_previous =

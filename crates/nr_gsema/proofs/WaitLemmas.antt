@@ -67,7 +67,7 @@ any_counted p (x ∷ xs) = go (p x) (any_counted p xs) ∙ ap (nat_lt 0) (sym (c
         above n = grind arith
     go false rest = rest ∙ ap (nat_lt 0) (let n : count_by p xs ≡ 0 + count_by p xs = omega arith in n)
 
--- the counts at a descriptor after a change: the count of that wait is changed, and no other
+-- the counts at a descriptor after a change of one wait's count: no other count is changed
 abbrev Changed : (ℕ → ℕ) → Option (ℕ × Side) → List (Sides ℕ) → ℕ → Side → Sides ℕ → Type 0
 Changed change place counts d side both =
     (was : Sides ℕ) × (slice_get counts d ≡ Some was) × (of_side side both ≡ (if is_wait_at d side place then change (of_side side was) else of_side side was))
@@ -151,7 +151,7 @@ room_for counts gs g before after counted at few = go (wait_of after) refl
         fewer_than (p before) (of_side side fewer.0) (of_side side both) (count_by p gs) (count_by p (set gs g after)) (length gs) fewer.2 (counted d side fewer.0 fewer.1)
         (count_there p gs g before at) moves size few
 
--- one more goroutine that isn't inside a wait
+-- the counts are still correct after a goroutine outside every wait is added
 waiting_pushed : (d : ℕ) (side : Side) (gs : List Status) (status : Status) → wait_of status ≡ None → waiting_at d side (gs ++ status ∷ []) ≡ waiting_at d side gs
 waiting_pushed d side gs status none =
     let a = sum_by-append (λ (x : Status). counting (is_wait_at d side (wait_of x))) gs (status ∷ []) in
@@ -164,7 +164,7 @@ counts_pushed counts gs status none counted d side both found = counted d side b
 pub counts_popped : (counts : List (Sides ℕ)) (gs : List Status) (status : Status) → wait_of status ≡ None → AreCounts counts (gs ++ status ∷ []) → AreCounts counts gs
 counts_popped counts gs status none counted d side both found = counted d side both found ∙ waiting_pushed d side gs status none
 
--- the counts without goroutines are 0
+-- without goroutines, all counts are 0
 pub none_counted : (n : ℕ) → AreCounts (replicate n (twice 0)) []
 none_counted n d side both found = ap (of_side side) (each_alike n (twice 0) d both found) ∙ zero_at side
   where

@@ -1,4 +1,4 @@
--- The well-formedness of a table: who is queued.
+-- The well-formedness of a table: which goroutines are queued.
 use Rattle.std.specs.Prelude.{◌≡◌, ℕ, ◌==◌, count_by, slice_get, Some}
 use Rattle.nr_rev.specs.declared.sides.Side.{Side}
 use Rattle.nr_rev.specs.declared.sides.Sides.{Sides}
@@ -8,7 +8,8 @@ use Rattle.nr_rev.specs.Sides.{of_side}
 use Rattle.nr_rev.specs.WellFormed.{is_queued}
 use Rattle.nr_gsema.specs.Table.{GoroutineTable}
 
--- the queue of a semaphore contains exactly the goroutines with that queued status, each once
+-- true if the queue of a semaphore contains exactly the goroutines with that queued status, each
+-- once
 pub record IsQueuedUp (t : GoroutineTable) : Type 0 where
   pub queued : (s : ℕ) (side : Side) (both : Sides Semaphore)
       → slice_get t.semaphores s ≡ Some both → (g : ℕ)

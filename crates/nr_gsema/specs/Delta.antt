@@ -1,4 +1,5 @@
--- The undo of an operation: its result, when it leads back, and its number of words.
+-- The undo of an operation: the table that it restores, when it can be made, and its number of
+-- words.
 use Rattle.std.specs.Prelude.{◌≡◌, ℕ, ◌+◌, ◌-◌, ◌^◌, ◌<◌, false, length, take, slice_get, Option, Some, None, option_map}
 use Rattle.nr_rev.specs.declared.sides.Side.{Side}
 use Rattle.nr_rev.specs.declared.sides.Sides.{Sides}
@@ -17,7 +18,7 @@ use Rattle.nr_gsema.specs.Step.{side_owed}
 use Rattle.nr_gsema.specs.Table.{GoroutineTable}
 use Rattle.nr_gsema.specs.Auxiliary.Table.{with_status, on_semaphore}
 
--- the table with the goroutine that left the queue queued again
+-- the table after the goroutine that left the queue, if any, is queued again
 abbrev pub queued_again : ℕ → Side → Option ℕ → GoroutineTable → GoroutineTable
 queued_again s side None t = t
 queued_again s side (Some g) t = with_status g (Queued s side) t
@@ -41,21 +42,21 @@ undone (undo.Queued g s side) t =
 undone (undo.Released g s reads writes front) t =
     with_status g (Owing s reads writes) (released_back s (side_owed (owed reads writes)) front t)
 
--- goroutine g exists and isn't queued
+-- true if goroutine g exists and isn't queued
 abbrev pub IsOutside : ℕ → GoroutineTable → Type 0
 IsOutside g t = option_map is_waiting (slice_get t.goroutines g) ≡ Some false
 
--- socket s is below the limit, and its semaphore of a side has this property
+-- true if socket s is below the limit, and its semaphore of a side has this property
 abbrev pub HasSemaphore : ℕ → Side → (Semaphore → Type 0) → GoroutineTable → Type 0
 HasSemaphore s side P t =
     (both : Sides Semaphore) × (slice_get t.semaphores s ≡ Some both) × P (of_side side both)
 
--- the goroutine that left the queue isn't queued
+-- true if the goroutine that left the queue, if any, exists and isn't queued
 abbrev pub CanRequeue : Option ℕ → GoroutineTable → Type 0
 CanRequeue None t = Unit {0}
 CanRequeue (Some g) t = IsOutside g t
 
--- what the undo removes exists, and there is room for what it restores
+-- true if what the undo removes exists, and there is room for what it restores
 abbrev pub CanUndo : GUndo → GoroutineTable → Type 0
 CanUndo undo.Spawned t = slice_get t.goroutines (length t.goroutines - 1) ≡ Some Idle
 CanUndo (undo.Moved g status) t = (is_waiting status ≡ false) × IsOutside g t
@@ -68,11 +69,11 @@ CanUndo (undo.Released g s reads writes front) t =
     IsOutside g (released_back s (side_owed (owed reads writes)) front t) × CanRequeue front t
     × HasSemaphore s (side_owed (owed reads writes)) (λ semaphore. 0 < semaphore.count) t
 
--- the undo leads from the new table back to the old one
+-- true if the undo turns the new table back into the old one
 abbrev pub Reverses : GUndo → GoroutineTable → GoroutineTable → Type 0
 Reverses undo new old = CanUndo undo new × (old ≡ undone undo new)
 
--- the delta leads from the new table back to the old one
+-- true if undoing the delta turns the new table back into the old one
 abbrev pub LeadsBack : GDelta → GoroutineTable → GoroutineTable → Type 0
 LeadsBack delta new old = Reverses delta.undo new old
 

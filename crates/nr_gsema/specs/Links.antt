@@ -19,12 +19,12 @@ use Rattle.nr_gsema.specs.Waits.{AreCounts}
 abbrev pub statuses : List GoroutineNode → List Status
 statuses nodes = map (λ (node : GoroutineNode). node.status) nodes
 
--- the goroutine after another in its queue, if that one has a node
+-- the goroutine that a node has as its next one, if the node exists
 abbrev pub next_in : Option GoroutineNode → Option ℕ
 next_in None = None
 next_in (Some node) = node.next
 
--- at most n goroutines, starting with the first, each followed by its next
+-- the first n goroutines that are reached by following the links from `first`
 unfoldable pub chain : ℕ → List GoroutineNode → Option ℕ → List ℕ
 chain zero nodes first = []
 chain (suc n) nodes None = []
@@ -34,11 +34,11 @@ chain (suc n) nodes (Some g) = g ∷ chain n nodes (next_in (slice_get nodes g))
 abbrev pub queue_from : List GoroutineNode → SemaphoreHead → List ℕ
 queue_from nodes head = chain (length nodes) nodes head.front
 
--- the semaphore of a head
+-- the semaphore that a head represents
 abbrev pub semaphore_from : List GoroutineNode → SemaphoreHead → Semaphore
 semaphore_from nodes head = record { count = head.count; queue = queue_from nodes head }
 
--- the semaphores of both sides
+-- the semaphores that the heads of both sides represent
 abbrev pub semaphores_from : List GoroutineNode → Sides SemaphoreHead → Sides Semaphore
 semaphores_from nodes both =
     record { read = semaphore_from nodes both.read; write = semaphore_from nodes both.write }
@@ -56,8 +56,8 @@ table_from t =
 abbrev pub node_with : Status → Option ℕ → Option ℕ → GoroutineNode
 node_with status next previous = record { status = status; next = next; previous = previous }
 
--- the part of a queue from an index on is linked: each node has the status, and its neighbours
--- before and after, with none at the end
+-- true if the rest of a queue is linked: each node has the status and the neighbours before and
+-- after it, with none at the end
 abbrev pub IsLinked : List GoroutineNode → Status → Option ℕ → List ℕ → Option ℕ → Option ℕ → Type 0
 IsLinked nodes status previous [] first last = (first ≡ None) × (last ≡ previous)
 IsLinked nodes status previous (g ∷ queue) first last =
@@ -70,7 +70,7 @@ abbrev pub is_waiting : Status → Bool
 is_waiting (Queued s side) = true
 is_waiting _ = false
 
--- the nodes are linked so that these are the queues
+-- true if the nodes are linked so that these are the queues
 pub record AreQueues (nodes : List GoroutineNode) (semaphores : List (Sides SemaphoreHead))
     (queues : ℕ → Side → List ℕ) : Type 0 where
   -- each queue is linked from its front to its back
@@ -100,7 +100,7 @@ abbrev pub queues_from : List GoroutineNode → List (Sides SemaphoreHead) → �
 queues_from nodes semaphores s side =
     chain (length nodes) nodes (front_in side (slice_get semaphores s))
 
--- the queues are linked, the goroutines inside waits are counted, and there is room for all
+-- true if the queues are linked, the goroutines inside waits are counted, and there is room for all
 -- goroutines up to the limit
 pub record IsTable (t : Inside) : Type 0 where
   pub queues : AreQueues t.nodes.items t.semaphores.items

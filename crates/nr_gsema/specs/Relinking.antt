@@ -1,4 +1,4 @@
--- Nodes after a change of their neighbours.
+-- The nodes after their neighbours change.
 use Rattle.std.specs.Prelude.{ℕ, List, slice_get, slice_set, Option, Some, None}
 use Rattle.nr_gsema.specs.declared.node.GoroutineNode.{GoroutineNode}
 
@@ -10,13 +10,13 @@ followed_by next node = record node { next = next }
 abbrev pub preceded_by : Option ℕ → GoroutineNode → GoroutineNode
 preceded_by previous node = record node { previous = previous }
 
--- the nodes with the one of g changed, if it has one
+-- the nodes after a change of g's node, if it has one
 abbrev pub set_found : ℕ → (GoroutineNode → GoroutineNode) → Option GoroutineNode
     → List GoroutineNode → List GoroutineNode
 set_found g change None nodes = nodes
 set_found g change (Some node) nodes = slice_set nodes g (change node)
 
--- the nodes with the one of a goroutine changed, if a goroutine is given
+-- the nodes after a change of a goroutine's node, if a goroutine is given
 abbrev pub with_node : Option ℕ → (GoroutineNode → GoroutineNode) → List GoroutineNode
     → List GoroutineNode
 with_node None change nodes = nodes
@@ -35,8 +35,8 @@ abbrev pub or_else : Option ℕ → ℕ → Option ℕ
 or_else None g = Some g
 or_else (Some end) g = Some end
 
--- one end of a queue after the goroutine at the other end, with this neighbour, left it: none if
--- that goroutine was alone
+-- one end of a queue after the goroutine at the other end, which had this neighbour, left: none if
+-- it was alone
 abbrev pub end_left : Option ℕ → Option ℕ → Option ℕ
 end_left None end = None
 end_left (Some neighbour) end = end

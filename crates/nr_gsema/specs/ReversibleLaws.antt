@@ -36,7 +36,7 @@ pub steps_unique : (old : GoroutineTable) (op : GOperation) (a b : Answer)
     → StepTo old op a new → StepTo old op b other → (a ≡ b) × (new ≡ other)
 steps_unique old op a b new other p q = same_parts a b new other (sym p ∙ q)
 
--- a delta leads back to exactly one table
+-- undoing a delta restores only one table
 pub LeadsBack-unique : (delta : GDelta) (new a b : GoroutineTable) → LeadsBack delta new a
     → LeadsBack delta new b → a ≡ b
 LeadsBack-unique delta new a b p q = p.1 ∙ sym q.1
@@ -56,7 +56,7 @@ status_is_short (Swapping d side) = lit≤ tt
 status_is_short (Checking d side) = lit≤ tt
 status_is_short Gone = lit≤ tt
 
--- no operation may use more words than the maximum of all
+-- no operation is allowed more words than the maximum of all operations
 pub weight_is_within : (op : GOperation) → weight_allowed op ≤ MOST_WORDS
 weight_is_within operation.Spawn = lit≤ tt
 weight_is_within (operation.Exit g) = lit≤ tt
@@ -64,7 +64,7 @@ weight_is_within (operation.Move g from to) = status_is_short from
 weight_is_within (operation.Acquire g) = lit≤ tt
 weight_is_within (operation.Release g) = lit≤ tt
 
--- if a release or an operation is refused, lack of memory isn't the reason
+-- no release and no operation is refused for lack of memory
 ends_released : (semaphore : Semaphore) → Ends (λ _. Unit {0}) (released semaphore)
 ends_released semaphore =
     Ends-then (Ends-refused_unless (nat_lt semaphore.count (2 ^ 32 - 1)) Refusal.FieldOverflow refl)

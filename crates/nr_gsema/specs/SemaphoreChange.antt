@@ -1,4 +1,4 @@
--- Changes of a semaphore, and their undos.
+-- Changes of a semaphore, and how to undo them.
 use Rattle.std.specs.Prelude.{ℕ, ◌+◌, ◌-◌, [], ◌∷◌, ◌++◌, length, take, drop, Option, Some, None}
 use Rattle.nr_rev.specs.Semaphore.{Semaphore}
 

@@ -1,5 +1,5 @@
--- The operations: each tests its reasons for refusal in order, and then gives the answer and the
--- next table.
+-- The operations: each tests its reasons for refusal in order, and then has an answer and a next
+-- table.
 use Rattle.std.specs.Prelude.{◌≡◌, ℕ, ◌-◌, Bool, true, false, ◌&&◌, ◌==◌, nat_lt, if◌then◌else◌, [], ◌∷◌, ◌++◌, length, slice_get, Option, Some, None, Result, Ok, Err}
 use Rattle.nr_rev.specs.declared.sides.Side.{Side}
 use Rattle.nr_rev.specs.declared.sides.Side.TheVariants.{Read, Write}
@@ -24,11 +24,11 @@ use Rattle.nr_gsema.specs.Auxiliary.Table.{with_status, with_semaphore}
 abbrev pub Outcome : Type 0
 Outcome = Result (Answer × GoroutineTable) Refusal
 
--- reason 1: the goroutine doesn't exist or has ended
+-- the status of goroutine g; refused for reason 1 if g doesn't exist or has ended
 abbrev pub status_of : ℕ → GoroutineTable → Result Status Refusal
 status_of g t = alive (slice_get t.goroutines g)
 
--- reason 4: the socket isn't below the limit
+-- the semaphores of socket s; refused for reason 4 if s isn't below the limit
 abbrev pub semaphores_of : ℕ → GoroutineTable → Result (Sides Semaphore) Refusal
 semaphores_of s t = found_or (slice_get t.semaphores s) NoSuchSocket
 
@@ -71,12 +71,12 @@ is_movable (Queued s side) = false
 is_movable Gone = false
 is_movable _ = true
 
--- the socket that a status names, if any, is below the limit
+-- true if the socket that a status names, if any, is below the limit
 abbrev pub names_within : ℕ → Option ℕ → Bool
 names_within sockets None = true
 names_within sockets (Some s) = nat_lt s sockets
 
--- move: from one status to another
+-- move: changes a goroutine's status from one to another
 abbrev pub move : ℕ → Status → Status → GoroutineTable → Outcome
 move g from to t = do
   status ← status_of g t
@@ -95,12 +95,12 @@ acquire g t = do
   Ok (if is_free semaphore then (Yes, with_status g (Relock s side) next)
       else (Wait, with_status g (Queued s side) next))
 
--- the goroutine at the front of a queue leaves it and must acquire again
+-- the table after the goroutine at the front of a queue left it: that goroutine must acquire again
 abbrev pub tries_again : ℕ → Side → Option ℕ → GoroutineTable → GoroutineTable
 tries_again s side None t = t
 tries_again s side (Some g) t = with_status g (Acquiring s side) t
 
--- the side of the next release of a goroutine that owes these: reading first
+-- the side of the next release of a goroutine that owes these releases: reading comes first
 abbrev pub side_owed : Sides ℕ → Side
 side_owed owed = if nat_lt 0 owed.read then Read else Write
 
@@ -117,7 +117,7 @@ release g t = do
       tries_again s side (front_of semaphore) (with_semaphore s side semaphores left t)
   Ok (Done, with_status g (owing s (with_side side (of_side side owed - 1) owed)) next)
 
--- the answer of an operation and the next table, or the first reason that applies
+-- the answer of an operation and the next table, or the first reason for a refusal
 abbrev pub outcome : GoroutineTable → GOperation → Outcome
 outcome t operation.Spawn = spawn t
 outcome t (operation.Exit g) = exit g t
@@ -125,7 +125,7 @@ outcome t (operation.Move g from to) = move g from to t
 outcome t (operation.Acquire g) = acquire g t
 outcome t (operation.Release g) = release g t
 
--- the operation applies, with this answer and this next table
+-- true if the operation applies, with this answer and this next table
 abbrev pub StepTo : GoroutineTable → GOperation → Answer → GoroutineTable → Type 0
 StepTo t op answer next = outcome t op ≡ Ok (answer, next)
 
@@ -134,6 +134,6 @@ abbrev pub refusal_of : Outcome → Option Refusal
 refusal_of (Ok left) = None
 refusal_of (Err reason) = Some reason
 
--- why an operation is refused
+-- the reason why an operation is refused, if it is
 abbrev pub table_reason : GoroutineTable → GOperation → Option Refusal
 table_reason t op = refusal_of (outcome t op)

@@ -14,13 +14,13 @@ waiting_at d side goroutines = count_by (λ status. is_wait_at d side (wait_of s
 abbrev pub waiting_of : ℕ → Side → List (Sides ℕ) → Option ℕ
 waiting_of d side counts = option_map (of_side side) (slice_get counts d)
 
--- the counts with the one at a side of descriptor d changed, if it was found
+-- the counts after a change of the count at a side of descriptor d, if it was found
 abbrev pub on_count : ℕ → Side → (ℕ → ℕ) → Option (Sides ℕ) → List (Sides ℕ) → List (Sides ℕ)
 on_count d side change None counts = counts
 on_count d side change (Some both) counts =
     slice_set counts d (with_side side (change (of_side side both)) both)
 
--- the counts with the one of a wait changed, if there is a wait
+-- the counts after a change of the count of a wait, if there is a wait
 abbrev pub on_wait : (ℕ → ℕ) → Option (ℕ × Side) → List (Sides ℕ) → List (Sides ℕ)
 on_wait change None counts = counts
 on_wait change (Some place) counts =
@@ -38,13 +38,13 @@ joined place counts = on_wait (λ n. n + 1) place counts
 abbrev pub moved_between : Status → Status → List (Sides ℕ) → List (Sides ℕ)
 moved_between before after counts = joined (wait_of after) (left (wait_of before) counts)
 
--- the count of the wait, if any, can grow by one
+-- true if the count of the wait, if any, can grow by one
 abbrev pub CanJoin : Option (ℕ × Side) → List (Sides ℕ) → Type 0
 CanJoin None counts = Unit {0}
 CanJoin (Some place) counts =
     (both : Sides ℕ) → slice_get counts place.0 ≡ Some both → of_side place.1 both + 1 < 2 ^ 32
 
--- the counts are those of these goroutines
+-- true if the counts are correct for these goroutines
 abbrev pub AreCounts : List (Sides ℕ) → List Status → Type 0
 AreCounts counts goroutines =
     (d : ℕ) (side : Side) (both : Sides ℕ) → slice_get counts d ≡ Some both

@@ -1,4 +1,4 @@
--- Small tables, for worked facts.
+-- Small tables for worked examples.
 use Rattle.std.specs.Prelude.{ℕ, [], ◌∷◌}
 use Rattle.nr_rev.specs.declared.status.Status.{Status}
 use Rattle.nr_rev.specs.Semaphore.{new_semaphore}

@@ -13,7 +13,8 @@ ghost use Rattle.nr_gsema.specs.Delta.{undo_weight};
 ghost use Rattle.nr_gsema.specs.Step.{outcome, same_status};
 ghost use Rattle.nr_gsema.specs.Worked.{one_at};
 
-/// `same_status`, by which a goroutine is moved from a status, holds if and only if two statuses are equal.
+/// `same_status`, which decides whether a goroutine has the status from which it is moved, holds if
+/// and only if the two statuses are equal.
 pub fn just_equals_are_the_same()
     ensures { (a b : Status) → (same_status a b ≡ true) ↔ (a ≡ b) }
 {}
@@ -31,8 +32,8 @@ pub fn the_numbers()
         → undo_weight (Released g s reads writes (Some front)) ≡ 7 }
 {}
 
-/// The count of a semaphore is at most 4,294,967,295: a release at this count is refused, and one at a count below it
-/// applies.
+/// The count of a semaphore is at most 4,294,967,295: a release at this count is refused, and a
+/// release at a lower count applies.
 pub fn the_greatest_count()
     ensures refused { outcome (one_at 4294967295 (Owing 0 1 0)) (Release 0) ≡ Err FieldOverflow }
     ensures made { outcome (one_at 4294967294 (Owing 0 1 0)) (Release 0)

@@ -58,7 +58,7 @@ fn owing_of(status: Status) -> Result<(u32, Sides<u32>), Refusal>
     }
 }
 
-/// Returns the status of a goroutine that owes these releases; it is idle if there are none.
+/// Returns the status of a goroutine that owes these releases: idle if it owes none.
 #[inline(always)]
 fn owing(socket: u32, owed: Sides<u32>) -> Status
     ensures { result ≡ step.owing socket owed }

@@ -63,7 +63,7 @@ impl GTable {
         self.semaphores[socket as usize] = semaphores.with(side, head);
     }
 
-    /// Puts a goroutine that is in no queue at the back of one.
+    /// Puts a goroutine that is in no queue at the back of a queue.
     #[inline(always)]
     pub(crate) fn join_back(&mut self, goroutine: u32, socket: u32, side: Side)
         requires outside { IsOutside goroutine self.old }
@@ -88,7 +88,7 @@ impl GTable {
         self.semaphores[socket as usize] = semaphores.with(side, head);
     }
 
-    /// Removes the last goroutine of a queue, which must acquire.
+    /// Removes the last goroutine of a queue; that goroutine must acquire again.
     #[inline(always)]
     pub(crate) fn leave_back(&mut self, goroutine: u32, socket: u32, side: Side)
         requires { HasSemaphore socket side (λ semaphore. slice_get semaphore.queue (length semaphore.queue - 1) ≡ Some goroutine) self.old }
@@ -109,7 +109,8 @@ impl GTable {
         self.semaphores[socket as usize] = semaphores.with(side, head);
     }
 
-    /// Removes the front of a queue, which must acquire, and sets the increased count.
+    /// Removes the goroutine at the front of a queue, which must acquire again, and sets the
+    /// increased count.
     #[inline(always)]
     pub(crate) fn leave_front(&mut self, goroutine: u32, socket: u32, side: Side)
         requires { HasSemaphore socket side (λ semaphore. (slice_get semaphore.queue 0 ≡ Some goroutine) × (semaphore.count + 1 < 2 ^ 32)) self.old }
@@ -129,7 +130,7 @@ impl GTable {
         self.semaphores[socket as usize] = semaphores.with(side, head);
     }
 
-    /// Puts a goroutine that is in no queue at the front of one, and sets the decreased count.
+    /// Puts a goroutine that is in no queue at the front of a queue, and sets the decreased count.
     #[inline(always)]
     pub(crate) fn join_front(&mut self, goroutine: u32, socket: u32, side: Side)
         requires outside { IsOutside goroutine self.old }

@@ -1,4 +1,4 @@
-//! The calls that read a table.
+//! The methods that read a table.
 
 ghost use Rattle.std.specs.Prelude.{◌≡◌, ◌≤◌, length, slice_get};
 ghost use Rattle.nr_rev.specs.World.{is_waited};
@@ -13,7 +13,7 @@ impl GTable {
     pub fn made(&self) -> u32
         ensures { result ≡ length self.now.goroutines }
     {
-        // this read gives the proof the invariant, which bounds the number
+        // reading the field brings the invariant into the proof; the invariant bounds the number
         let _limit = self.limit;
         self.nodes.len() as u32
     }
@@ -113,7 +113,8 @@ impl GTable {
         ensures limit { result ≡ self.now.limit }
         ensures within { length self.now.goroutines ≤ result }
     {
-        // this read gives the proof the invariant, which bounds the number of nodes
+        // reading the field brings the invariant into the proof; the invariant bounds the number of
+        // nodes
         let _ = &self.nodes;
         self.limit
     }

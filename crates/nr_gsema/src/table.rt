@@ -11,10 +11,11 @@ use nr_rev::{Memory, Sides};
 use std::alloc::Global;
 use std::marker::Model;
 
-/// The goroutines made so far and the semaphores of all sockets below the limit, in memory that is allocated once.
-/// Contracts see the statuses, and for each semaphore its count and the list of queued goroutines. Neighbours in a
-/// queue are stored in the goroutines' nodes, so joining or leaving a queue at either end changes two nodes, whatever
-/// its length. Goroutines inside a wait are counted, so asking whether there is one reads no node.
+/// The goroutines made so far and the semaphores of all sockets below the limit, in memory that is
+/// allocated once. Contracts see the statuses, and for each semaphore its count and the list of
+/// queued goroutines. Neighbours in a queue are stored in the goroutines' nodes, so joining or
+/// leaving a queue at either end changes two nodes, whatever its length. Goroutines inside a wait
+/// are counted, so `is_waited` reads no node for a descriptor with counts.
 #[derive(Drop)]
 pub struct GTable {
     pub(crate) alloc: Global,

@@ -44,7 +44,8 @@ impl WaitCounts {
         })
     }
 
-    /// Takes over the counts of another table, for the descriptors that both count. Allocates no memory.
+    /// Copies the counts of another table, for the descriptors that both tables count. Allocates no
+    /// memory.
     pub(crate) fn copy_from(&mut self, other: &WaitCounts)
         ensures { self.new ≡ take (length self.old) other.now }
     {
@@ -65,7 +66,7 @@ impl WaitCounts {
         Some(self.counts[descriptor as usize].of(side))
     }
 
-    /// Updates the counts when a goroutine with this status gets one outside every wait.
+    /// Updates the counts when a goroutine with this status gets a status outside every wait.
     #[inline(always)]
     pub(crate) fn leave(&mut self, status: Status)
         ensures { self.new ≡ left (wait_of status) self.old }

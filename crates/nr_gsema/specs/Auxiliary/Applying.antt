@@ -8,15 +8,15 @@ use Rattle.nr_gsema.specs.Delta.{Reverses, undo_weight, weight_allowed}
 use Rattle.nr_gsema.specs.Step.{outcome}
 use Rattle.nr_gsema.specs.Table.{GoroutineTable}
 
--- the operation applies with this answer, its undo leads back, and the undo has no more words than
--- allowed
+-- true if the operation applies with this answer, and its undo restores the old table and has no
+-- more words than allowed
 pub record AppliesBy (op : GOperation) (old : GoroutineTable) (answer : Answer) (undo : GUndo)
     (new : GoroutineTable) : Type 0 where
   pub step : outcome old op ≡ Ok (answer, new)
   pub back : Reverses undo new old
   pub light : undo_weight undo ≤ weight_allowed op
 
--- the operation applies, or it is refused and changes nothing
+-- true if the operation applies, or is refused and changes nothing
 abbrev pub Applies : GOperation → GoroutineTable → Result (Answer × GUndo) Refusal
     → GoroutineTable → Type 0
 Applies op old (Ok (answer, undo)) new = AppliesBy op old answer undo new

@@ -8,11 +8,11 @@ use Rattle.nr_rev.specs.Semaphore.{Semaphore}
 use Rattle.nr_rev.specs.Sides.{of_side, with_side}
 use Rattle.nr_gsema.specs.Table.{GoroutineTable}
 
--- the table with another status of goroutine g
+-- the table with a new status of goroutine g
 abbrev pub with_status : ℕ → Status → GoroutineTable → GoroutineTable
 with_status g status t = record t { goroutines = slice_set t.goroutines g status }
 
--- the table with another semaphore at a side of socket s, whose semaphores are these
+-- the table with a new semaphore at a side of socket s, which had these semaphores
 abbrev pub with_semaphore : ℕ → Side → Sides Semaphore → Semaphore → GoroutineTable → GoroutineTable
 with_semaphore s side semaphores semaphore t =
     record t { semaphores = slice_set t.semaphores s (with_side side semaphore semaphores) }
@@ -47,12 +47,12 @@ abbrev pub behind : ℕ → List ℕ → Option ℕ
 behind g [] = None
 behind g (h ∷ queue) = if h == g then slice_get queue 0 else behind g queue
 
--- the goroutine before g in a queue; `first` is before the queue's first goroutine
+-- the goroutine before g in a queue, or `first` if g is the queue's first goroutine
 abbrev pub before : ℕ → Option ℕ → List ℕ → Option ℕ
 before g first [] = None
 before g first (h ∷ queue) = if h == g then first else before g (Some h) queue
 
--- what is found in the queue of a goroutine with this status; none if it isn't queued
+-- what a search finds in the queue of a goroutine with this status, or none if it isn't queued
 abbrev pub in_queue : (List ℕ → Option ℕ) → Option Status → GoroutineTable → Option ℕ
 in_queue found (Some (Queued s side)) t = found (queue_at s side t)
 in_queue found _ t = None
