@@ -1,4 +1,4 @@
--- definitions that the laws in THEOREM.md use
+-- what the laws of THEOREM.md rest on, whole files
 pub mod Checkpoints
 pub mod Command
 pub mod Count

@@ -80,7 +80,7 @@ fn what_is_no_recording_has_its_fault_alone(rt: HostRuntime) -> Result<(), Alloc
     Ok(())
 }
 
-// The output has more lines than one write has.
+// Prints more lines than fit in one write.
 #[test]
 fn each_of_many_lines_is_there_once(rt: HostRuntime) -> Result<(), AllocError> {
     let alloc = rt.alloc();

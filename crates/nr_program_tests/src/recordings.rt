@@ -20,8 +20,8 @@ struct Report {
     line: &'static str,
 }
 
-/// The first recordings have one for each reason for which a step can be refused, in the order of
-/// the reasons' numbers.
+/// The table begins with a recording for each reason for which a step can be refused, in the order
+/// of the reasons' numbers.
 static RECORDINGS: [Report; 34] = [
     Report {
         header: SMALL,

@@ -84,8 +84,8 @@ impl Observed {
         (self.applies, self.undos)
     }
 
-    /// Returns whether this was called on this world before. A copy or a restored world starts with
-    /// no calls.
+    /// Returns whether `was_seen` was called on this world before. A copy or a restored world
+    /// starts with no calls.
     pub fn was_seen(&self) -> bool {
         self.seen.fetch_add(1, Ordering::SeqCst) > 0
     }

@@ -8,8 +8,8 @@ use nr_snaps::{Film, LoadFault, Snaps};
 use std::alloc::Global;
 use std::test::Fail;
 
-/// Returns why a recording can't be loaded whose first 70 steps set the clock to 1, 2 and so on,
-/// and whose last step sets it back to 69.
+/// Returns why a recording can't be loaded if its first 70 steps set the clock to 1, 2 and so on,
+/// and its last step sets it back to 69.
 fn fault_of_the_last(alloc: Global) -> Option<LoadFault> {
     let mut steps = Vec::new(alloc);
     add_ticks(&mut steps, 70).ok()?;

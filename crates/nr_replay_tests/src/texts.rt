@@ -1,6 +1,6 @@
 //! Recordings as texts.
 
-/// A header whose limits suffice for the steps below.
+/// A header whose limits are high enough for the steps below.
 pub const HEADER: &str = "{\"netrev\":1,\"gor\":4,\"sock\":2,\"desc\":2,\"buf\":16}\n";
 
 /// A goroutine waits for bytes at a socket, is woken by an event and reads them: twelve steps.
