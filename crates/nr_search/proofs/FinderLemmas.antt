@@ -1,4 +1,4 @@
--- What is found is the nearest hit.
+-- A search finds the nearest hit.
 use Rattle.std.proofs.Common.{◌≡◌, ℕ, ◌+◌, ◌-◌, ◌≤◌, List, [], ◌∷◌, length, slice_get, Result, Ok, Err, refl, sym, ap, ◌∙◌, subst, arith}
 use Rattle.std.specs.Prelude.{IfOk}
 use Rattle.nr_rev.specs.Run.{Recording, world_at}
@@ -14,12 +14,12 @@ use Rattle.nr_search.specs.declared.found.Found.{Found}
 use Rattle.nr_search.specs.declared.found.Found.TheVariants.{Hit, Nothing}
 use Rattle.nr_search.proofs.NearestLemmas.{first_hit_of-found, first_hit_of-is, last_hit_below-found, last_hit_below-is}
 
--- the number of positions after n
+-- the range from position n + 1 on ends at last + 1
 behind : (n last : ℕ) → n ≤ last → n + 1 + (last - n) ≡ last + 1
 behind n last within = omega arith
 
 module _ (r : Recording) (marks : List NumberedMark) (n : ℕ) where
-  -- the result forwards, and backwards
+  -- the computed result is the nearest hit, forwards and backwards
   pub forward-is : n ≤ length r.steps → IsFound Forward (hits_at r marks) (n + 1) (length r.steps + 1) (nearest_hit Forward r marks n)
   forward-is within =
       subst (λ high. IsFound Forward (hits_at r marks) (n + 1) high (nearest_hit Forward r marks n)) (behind n (length r.steps) within)
@@ -52,7 +52,7 @@ pub nothing-found : (r : Recording) (marks : List NumberedMark) (n : ℕ) (direc
 nothing-found r marks n Forward none within = forward-found r marks n within Nothing (record { none = λ q a b. none-hit r marks none q })
 nothing-found r marks n Backward none within = last_hit_below-found (hits_at r marks) n Nothing (record { none = λ q a b. none-hit r marks none q })
 
--- the numbers of present marks rise at each position
+-- the numbers of the marks that hit at a position rise if those of all marks do
 hits-rise : (r : Recording) (marks : List NumberedMark) (made p : ℕ) → RisesWithin 0 (numbers_of marks) made → RisesWithin 0 (hits_at r marks p) made
 hits-rise r marks made p rising =
     RisesWithin-filter (λ m. mark_hits (world_at r (p - 1)) (world_at r p) (numbered p (slice_get r.steps p)) m.item) 0 marks made rising

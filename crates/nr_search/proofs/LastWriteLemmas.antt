@@ -1,4 +1,4 @@
--- Going back over a watch leads to the last write.
+-- Searching backwards for a watch's hit finds the last write of its cell.
 use Rattle.std.proofs.Common.{◌≡◌, ◌≢◌, ℕ, zero, suc, ◌+◌, ◌-◌, ◌<◌, ◌≤◌, Bool, true, false, not, cond, List, [], ◌∷◌, length, map, refl, sym, ap, ◌∙◌, subst, arith}
 use Rattle.nr_rev.specs.Cell.{cell, same_value}
 use Rattle.nr_rev.specs.Run.{Recording, world_at}
@@ -13,13 +13,13 @@ use Rattle.nr_search.specs.declared.direction.Direction.TheVariants.{Backward}
 abbrev one : ℕ → Cell → List NumberedMark
 one number c = record { number = number; item = Watch c } ∷ []
 
--- the result at a position, by whether its value is the one before
+-- the hits of a watch at a position depend on whether the value differs from the one before
 by_value : (r : Recording) (number q : ℕ) (c : Cell) (b : Bool)
     → same_value (cell (world_at r (q - 1)) c) (cell (world_at r q) c) ≡ b
     → hits_at r (one number c) q ≡ map (λ m. m.number) (cond (not b) (one number c) [])
 by_value r number q c b is = ap (λ v. map (λ (m : NumberedMark). m.number) (cond (not v) (one number c) [])) is
 
--- if the watch doesn't hit, the value is the one before
+-- if a watch doesn't hit at a position, the cell's value is the same as one step before
 quiet : (r : Recording) (number q : ℕ) (c : Cell) → hits_at r (one number c) q ≡ []
     → cell (world_at r (q - 1)) c ≡ cell (world_at r q) c
 quiet r number q c none = go (same_value (cell (world_at r (q - 1)) c) (cell (world_at r q) c)) refl

@@ -1,4 +1,4 @@
--- The nearest hit of a growing range of positions.
+-- The nearest hit in a growing range of positions.
 use Rattle.std.proofs.Common.{◌≡◌, ◌⊎◌, inl, inr, ℕ, zero, suc, ◌+◌, ◌<◌, ◌≤◌, true, false, List, [], ◌∷◌, length, refl, sym, ap, ◌∙◌, subst, arith}
 use Rattle.nr_search.specs.Nearest.{first_hit_of, found_after, last_hit_below}
 use Rattle.nr_search.specs.Auxiliary.Nearest.{NoneHits, IsFound}
@@ -18,11 +18,11 @@ last-or-before q b h = grind arith
 first-or-behind : (p q : ℕ) → p ≤ q → (p + 1 ≤ q) ⊎ (q ≡ p)
 first-or-behind p q h = grind arith
 
--- a list of some marks isn't empty
+-- a list with at least one mark isn't empty
 not-none : (marks ms : List ℕ) → marks ≡ ms → ms ≡ [] → 0 < length marks → ⊥
 not-none marks ms reported none some = let e : 0 < length {A = ℕ} [] = subst (λ ns. 0 < length ns) (reported ∙ none) some in omega (arith, e)
 
--- a hit consists of its position and its marks
+-- hits with equal positions and equal marks are equal
 hit-is : (h : at.Hit) (p : ℕ) (ms : List ℕ) → h.position ≡ p → h.marks.items ≡ ms → Hit h ≡ Hit (record { position = p; marks = record { items = ms } })
 hit-is h p ms place marks =
     ap (λ q. Hit (record { position = q; marks = h.marks })) place ∙ ap (λ ns. Hit (record { position = p; marks = record { items = ns } })) marks
@@ -31,18 +31,18 @@ module _ (hits : ℕ → List ℕ) where
   at-once : (a b : ℕ) (ms : List ℕ) → a ≡ b → hits b ≡ ms → hits a ≡ ms
   at-once a b ms same is = ap hits same ∙ is
 
-  -- in an empty range, nothing is found
+  -- the result for an empty range is Nothing
   pub found-first : (direction : Direction) (low : ℕ) → IsFound direction hits low low Nothing
   found-first direction low = record { none = λ q a b. absurd (omega arith) }
 
-  -- one position more, at which marks hit
+  -- extending the range by a position at which marks hit
   found-hit : (direction : Direction) (low b m : ℕ) (ms : List ℕ) (found : Found) → is_decided direction found ≡ false → low ≤ b → m ∷ ms ≡ hits b → IsFound direction hits low b found
       → IsFound direction hits low (b + 1) (found_after found b (m ∷ ms))
   found-hit Forward low b m ms Nothing undecided a is rest = record { above = a; below = omega arith; reported = is; some = omega arith; nearest = λ q c d e. rest.none q c e }
   found-hit Forward low b m ms (Hit h) undecided a is rest = cc
   found-hit Backward low b m ms found undecided a is rest = record { above = a; below = omega arith; reported = is; some = omega arith; nearest = λ q c d e. absurd (omega arith) }
 
-  -- one position more, at which no mark hits
+  -- extending the range by a position at which no mark hits
   found-miss : (direction : Direction) (low b : ℕ) (found : Found) → hits b ≡ [] → IsFound direction hits low b found → IsFound direction hits low (b + 1) found
   found-miss direction low b Nothing h rest =
       record { none = λ q c d. elim (last-or-before q b d) [ inl less ↦ rest.none q c less | inr same ↦ at-once q b [] same h ] }
@@ -61,13 +61,13 @@ module _ (hits : ℕ → List ℕ) where
   found-next direction low b found (m ∷ ms) undecided a is rest = found-hit direction low b m ms found undecided a is rest
   found-next direction low b found [] undecided a is rest = found-miss direction low b found (sym is) rest
 
-  -- the result after that position
+  -- the result after the range is extended by a position
   pub found-then : (direction : Direction) (low b : ℕ) (found found' : Found) (here : List ℕ) → is_decided direction found ≡ false → low ≤ b → here ≡ hits b → IsFound direction hits low b found
       → found' ≡ found_after found b here → IsFound direction hits low (b + 1) found'
   found-then direction low b found found' here undecided a is rest then' =
       subst (IsFound direction hits low (b + 1)) (sym then') (found-next direction low b found here undecided a is rest)
 
-  -- a decided result stays
+  -- extending the range doesn't change a decided result
   pub found-decided : (direction : Direction) (low b high : ℕ) (found : Found) → is_decided direction found ≡ true → b ≤ high → IsFound direction hits low b found
       → IsFound direction hits low high found
   found-decided Forward low b high (Hit p) decided more rest =
@@ -75,11 +75,11 @@ module _ (hits : ℕ → List ℕ) where
   found-decided Forward low b high Nothing decided more rest = cc
   found-decided Backward low b high found decided more rest = cc
 
-  -- the range is complete
+  -- the result when the range is complete
   pub found-whole : (direction : Direction) (low b high : ℕ) (found : Found) → b ≡ high → IsFound direction hits low b found → IsFound direction hits low high found
   found-whole direction low b high found same rest = subst (λ k. IsFound direction hits low k found) same rest
 
-  -- position 0, the last on the way back, if no later position has a hit
+  -- extending the range by position 0, the last on the way back, if no later position has a hit
   found-start : (n : ℕ) (here : List ℕ) → 0 < n → here ≡ hits 0 → NoneHits hits 1 n → IsFound Backward hits 0 n (found_after Nothing 0 here)
   found-start n (m ∷ ms) some is none =
       record { above = omega arith; below = some; reported = is; some = omega arith; nearest = λ q a b c. none.none q c b }
@@ -90,15 +90,15 @@ module _ (hits : ℕ → List ℕ) where
   found-to-start n Nothing here miss some is none = found-start n here some is none
   found-to-start n (Hit h) here miss some is found = cc
 
-  -- position 0, if a later position has a hit
+  -- extending the range by position 0 if a later position has a hit
   pub found-before-start : (n : ℕ) (found : Found) → is_hit found ≡ true → IsFound Backward hits 1 n found → IsFound Backward hits 0 n found
   found-before-start n Nothing hit none = cc
   found-before-start n (Hit h) hit found =
       record { above = omega arith; below = found.below; reported = found.reported; some = found.some; nearest = λ q a b c. found.nearest q (omega (arith, found.above, c)) b c }
 
-  -- ---- the result is the one that the definition computes
+  -- ---- the nearest hit is the result that the definition computes
 
-  -- forwards, by the marks that hit at the first position
+  -- forwards, with the marks that hit at the first position given
   found-at-first : (count p : ℕ) (here : List ℕ) (found : Found) → hits p ≡ here → IsFound Forward hits p (p + suc count) found
       → (IsFound Forward hits (p + 1) (p + 1 + count) found → found ≡ first_hit_of hits count (p + 1)) → found ≡ found_after (first_hit_of hits count (p + 1)) p here
   found-at-first count p (m ∷ ms) Nothing is found rest = let none = found.none p (omega arith) (omega arith) in cc
@@ -121,7 +121,7 @@ module _ (hits : ℕ → List ℕ) where
   first_hit_of-found zero p (Hit h) found = absurd (omega (arith, found.above, found.below))
   first_hit_of-found (suc count) p found is = found-at-first count p (hits p) found refl is (first_hit_of-found count (p + 1) found)
 
-  -- backwards, by the marks that hit at the last position
+  -- backwards, with the marks that hit at the last position given
   found-at-last : (n : ℕ) (here : List ℕ) (found : Found) → hits n ≡ here → IsFound Backward hits 0 (suc n) found → (IsFound Backward hits 0 n found → found ≡ last_hit_below hits n)
       → found ≡ found_after (last_hit_below hits n) n here
   found-at-last n (m ∷ ms) Nothing is found rest = let none = found.none n (omega arith) (omega arith) in cc
@@ -145,7 +145,7 @@ module _ (hits : ℕ → List ℕ) where
   last_hit_below-found zero (Hit h) found = absurd (omega (arith, found.below))
   last_hit_below-found (suc n) found is = found-at-last n (hits n) found refl is (last_hit_below-found n found)
 
-  -- ---- the computed result is found
+  -- ---- the computed result is the nearest hit
 
   first-is : (count p : ℕ) (here : List ℕ) (found : Found) → hits p ≡ here → IsFound Forward hits (p + 1) (p + 1 + count) found → IsFound Forward hits p (p + suc count) (found_after found p here)
   first-is count p (m ∷ ms) found is rest = record { above = omega arith; below = omega arith; reported = sym is; some = omega arith; nearest = λ q a b c. absurd (omega arith) }

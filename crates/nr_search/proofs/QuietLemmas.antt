@@ -1,4 +1,4 @@
--- If no mark can hit at a position, none does, and the watched values stay.
+-- At a position at which no mark can hit, no mark hits and the watched values don't change.
 use Rattle.std.proofs.Common.{◌≡◌, ℕ, ◌+◌, Bool, true, false, not, ◌||◌, cond, inl, inr, ◌<◌, ◌≤◌, length, set, get_or, arith, List, [], ◌∷◌, filter, map, slice_get, Option, Some, None, Ok, Err, refl, sym, ap, ◌∙◌, zero, suc}
 use Rattle.std.specs.Option.{option_and_then}
 use Rattle.nr_rev.specs.Cell.{cell, same_value}
@@ -28,7 +28,7 @@ use Rattle.nr_search.specs.Quiet.{AreChanging, any_break, any_changed, any_stopp
 use Rattle.nr_search.specs.Search.{Remembers}
 use Rattle.nr_search.proofs.WatchedLemmas.{below-more}
 
--- a step that applies keeps each cell that its kind cannot change
+-- a step that applies doesn't change a cell that its kind can't change
 step-keeps : (r : Recording) (n : ℕ) (step : Step) (answer : Answer) → slice_get r.steps n ≡ Some step → answer_at r n ≡ Some answer → (c : Cell) → can_change (kind_of step) c ≡ false
     → cell (world_at r (n + 1)) c ≡ cell (world_at r n) c
 step-keeps r n step answer read gives c cannot = go (outcome (world_at r n) step) refl
@@ -39,7 +39,7 @@ step-keeps r n step answer read gives c cannot = go (outcome (world_at r n) step
         ∙ step_keeps_cell (world_at r n) step left.0 left.1 c is cannot
     go (Err reason) is = let none : None ≡ Some answer = sym (ap answer_of is) ∙ sym (ap (option_and_then (λ s. answer_of (outcome (world_at r n) s))) read) ∙ gives in cc
 
--- what a step before the position keeps, by its kind
+-- true if the step `made` changes no cell that its kind can't change
 abbrev pub Keeps : NextStep → World → World → Type 0
 Keeps made before after = (c : Cell) → can_change made.kind c ≡ false → cell after c ≡ cell before c
 
@@ -56,7 +56,7 @@ made-keeps r n made answer before after b a is gives = λ c cannot. ap (λ w. ce
         same_step : (x y : NextStep) → ◌≡◌ {A = Option NextStep} (Some x) (Some y) → x ≡ y
         same_step x y e = cc
 
--- the watched value of a mark stays
+-- the step doesn't change the watched value of a mark
 watched-kept : (made : NextStep) (before after : World) (m : Mark) → Keeps made before after → is_changed_by made.kind m ≡ false → watched after m ≡ watched before m
 watched-kept made before after (mark.Break wanted) keeps none = refl
 watched-kept made before after (mark.TemporaryBreak wanted) keeps none = refl
@@ -84,7 +84,7 @@ all-missed made next before after (m ∷ marks) keeps none stops =
     ∙ ap (λ here. map (λ (x : NumberedMark). x.number) (cond here (m ∷ filter (λ (x : NumberedMark). mark_hits before after next x.item) marks) (filter (λ (x : NumberedMark). mark_hits before after next x.item) marks)))
     (sym (missed made next before after m.item keeps a.0 b.0))
 
--- the remembered values stay right
+-- the remembered values are still right after the step
 pub remembers-on : (made : NextStep) (before after : World) (marks : List NumberedMark) (values : List CellValue) → Keeps made before after → any_changed made.kind marks ≡ false → Remembers before marks values
     → Remembers after marks values
 remembers-on made before after marks values keeps none remembered =
@@ -95,11 +95,11 @@ remembers-on made before after marks values keeps none remembered =
     at (x ∷ ms) zero m none read = let same : x ≡ m = cc in ap (λ (y : NumberedMark). is_changed_by made.kind y.item) (sym same) ∙ (neither _ _ none).0
     at (x ∷ ms) (suc i) m none read = at ms i m (neither (is_changed_by made.kind x.item) _ none).1 read
 
--- the kind of a number is the only one with that number
+-- no two kinds have the same number
 pub numbered-same : (n : ℕ) (kind found : Kind) → n ≡ kind_number kind → kind_numbered n ≡ Some found → found ≡ kind
 numbered-same n kind found is at = let both : Some found ≡ Some kind = sym at ∙ ap kind_numbered is ∙ kind_counted kind in cc
 
--- the number of each kind is in the table
+-- a kind exists for the number of each kind
 pub numbered-some : (n : ℕ) (kind : Kind) → n ≡ kind_number kind → kind_numbered n ≡ None → ⊥
 numbered-some n kind is none = let both : None ≡ Some kind = sym none ∙ ap kind_numbered is ∙ kind_counted kind in cc
 
@@ -107,7 +107,7 @@ pub number-below : (kind : Kind) → kind_number kind < 32
 number-below Kind.Spawn = omega arith
 number-below _ = omega arith
 
--- true if the table is right about the kinds with numbers below this one
+-- true if the table is right about the kinds with numbers below `number`
 pub record AreChangingBelow (marks : List NumberedMark) (number : ℕ) (changing : List Bool) : Type 0 where
   pub each : (kind : Kind) → kind_number kind < number → slice_get changing (kind_number kind) ≡ Some (any_changed kind marks)
 
@@ -124,7 +124,7 @@ changing-more marks number changing here within is before =
 pub changing-all : (marks : List NumberedMark) (number : ℕ) (changing : List Bool) → 32 ≤ number → AreChangingBelow marks number changing → AreChanging marks changing
 changing-all marks number changing all known = record { each = λ kind. known.each kind (let below = number-below kind in omega (arith, all, below)) }
 
--- if no mark is a break, none names the next step
+-- if no mark is a break, no break names the next step
 pub none_stopped : (next : Option NextStep) (marks : List NumberedMark) → any_break marks ≡ false → any_stopped next marks ≡ false
 none_stopped next [] none = refl
 none_stopped next (m ∷ marks) none =
@@ -136,7 +136,7 @@ none_stopped next (m ∷ marks) none =
     watch (mark.TemporaryBreak wanted) is = cc
     watch (mark.Watch c) is = refl
 
--- if the table says that a kind can change no watched cell, it can't
+-- if the table says that a kind can't change a watched cell, it can't
 pub unchanged_at : (marks : List NumberedMark) (changing : List Bool) (kind : Kind) (number : ℕ) → AreChanging marks changing → number ≡ kind_number kind → get_or changing number false ≡ false
     → any_changed kind marks ≡ false
 unchanged_at marks changing kind number known is read =

@@ -1,4 +1,4 @@
--- What is known about segments as reports are noted.
+-- What is known about segments after reports are noted.
 use Rattle.std.proofs.Common.{◌≡◌, ◌≢◌, ◌⊎◌, inl, inr, ℕ, ◌+◌, ◌<◌, ◌≤◌, false, All, List, [], ◌∷◌, ◌++◌, length, map, take, get_or, replicate, Some, Result, Ok, Err, refl, sym, ap, ◌∙◌, subst, arith}
 use Rattle.std.specs.Prelude.{OnErr}
 use Rattle.std.proofs.lemmas.List.{get_or-replicate, length-replicate, map_more, take_more}
@@ -15,7 +15,7 @@ use Rattle.nr_search.proofs.SegmentLemmas.{nth-within}
 
 -- ---- what the first report says
 
--- no report says anything
+-- a report that says nothing changes nothing
 first_known-none : (slot : Slot) → first_known slot Unknown ≡ slot
 first_known-none Unknown = refl
 first_known-none (Refused _) = refl
@@ -35,7 +35,7 @@ said-other report s other = grind arith
 said-here : (report : Report) (s : ℕ) → s ≡ report.segment → said_by report s ≡ report.slot
 said-here report s here = grind arith
 
--- the reports so far, and one more
+-- what the reports so far and one more say
 said-more : (before : List Report) (report : Report) (s : ℕ) → said_in (before ++ report ∷ []) s ≡ first_known (said_in before s) (said_by report s)
 said-more [] report s = first_known-none (said_by report s)
 said-more (first ∷ before) report s =
@@ -46,16 +46,16 @@ noted-more [] one_worker s = first_known-none (said_in one_worker s)
 noted-more (first ∷ by_worker) one_worker s =
     ap (first_known (said_in first s)) (noted-more by_worker one_worker s) ∙ sym (first_known-thrice (said_in first s) (noted by_worker s) (said_in one_worker s))
 
--- ---- what is known then
+-- ---- what is known after noting reports
 
 same-or-other : (a b : ℕ) → (a ≡ b) ⊎ (a ≢ b)
 same-or-other a b = grind arith
 
--- before the first report
+-- noting no reports changes no slot
 pub adds-none : (slots : List Slot) → AddsTo slots (λ s. Unknown) slots
 adds-none slots = record { each = λ s within. sym (first_known-none (slot_of slots s)); count = refl }
 
--- reports noted after other reports
+-- noting reports after other reports
 adds-next : (slots slots' slots'' : List Slot) (said more all : ℕ → Slot) → ((s : ℕ) → all s ≡ first_known (said s) (more s)) → AddsTo slots said slots' → AddsTo slots' more slots''
     → AddsTo slots all slots''
 adds-next slots slots' slots'' said more all both first second =
@@ -82,7 +82,7 @@ module _ {X : Type 0} (items : X → List Report) where
       adds-next slots slots' slots'' (noted (map items (take i by_worker))) (said_in (items one_worker)) (noted (map items (take (i + 1) by_worker)))
       (λ s. ap (λ rs. noted rs s) more ∙ noted-more (map items (take i by_worker)) (items one_worker) s)
 
--- an empty table holds, after noting, what the reports say
+-- an unknown slot, after noting reports, contains what they say
 blank : (n s : ℕ) → s < n → slot_of (replicate n Unknown) s ≡ Unknown
 blank n s within =
     ap or_unknown (slice_get-get_or (replicate n Unknown) s Unknown (omega (arith, length-replicate n Unknown, within)) ∙ ap Some (get_or-replicate n s Unknown Unknown within))
@@ -135,7 +135,7 @@ module _ (span : Span) (hits : ℕ → List ℕ) where
           ];
         }
 
--- ---- what stays open
+-- ---- which segments remain open
 
 pub open-like : (span : Span) (known known' : ℕ → Slot) → ((s : ℕ) → s < span.first + span.count → known s ≡ known' s) → IsLeftOpen span known → IsLeftOpen span known'
 open-like span known known' same open_ =

@@ -1,4 +1,4 @@
--- From one segment to the next.
+-- Going from one segment to the next.
 use Rattle.std.proofs.Common.{◌≡◌, ◌⊎◌, inl, inr, ℕ, ◌+◌, ◌-◌, ◌*◌, ◌<◌, ◌≤◌, true, false, List, [], subst, arith}
 use Rattle.std.proofs.Math.Nat.{mul-le-mul_right}
 use Rattle.nr_search.specs.Auxiliary.Nearest.{IsNearest, NoneHits, IsFound}
@@ -11,7 +11,7 @@ use Rattle.nr_search.specs.declared.found.Found.{Found}
 use Rattle.nr_search.specs.declared.found.Found.TheVariants.{Hit, Nothing}
 use Rattle.nr_search.specs.declared.segments.Span.{Span}
 
--- each segment has a position of the search
+-- each segment contains a position of the search
 pub some-between : (after last every first count s : ℕ) → after < last → first * every ≤ after → after < (first + 1) * every → (first + count) * every < last + every → first ≤ s → s < first + count
     → from_of after every s < to_of last every s
 some-between after last every first count s some begins enters needed low high =
@@ -22,7 +22,8 @@ some-between after last every first count s some begins enters needed low high =
 split : (a b : ℕ) → (a < b) ⊎ (b ≤ a)
 split a b = grind arith
 
--- the segment up to which no mark hits after k decided segments: forwards all before it, backwards it and all after it
+-- the boundary after k decided segments: forwards, all segments before it have no hit; backwards,
+-- it and all segments after it
 abbrev pub border : Direction → ℕ → ℕ → ℕ → ℕ
 border Forward first count k = first + k
 border Backward first count k = first + (count - k)
@@ -41,7 +42,7 @@ nth-within Forward first count k below = (omega arith, omega arith)
 nth-within Backward first count k below = (omega arith, omega arith)
 
 module _ (hits : ℕ → List ℕ) (after last every : ℕ) where
-  -- a segment without a hit is passed, forwards and backwards
+  -- passing a segment without a hit, forwards and backwards
   past-forward : (s : ℕ) → Passed Forward hits after last (s * every) → NoneHits hits (from_of after every s + 1) (to_of last every s + 1) → Passed Forward hits after last ((s + 1) * every)
   past-forward s passed none q a b c =
       elim (split (s * every) q) [ inl behind ↦ none.none q (omega arith) (omega arith) | inr before ↦ passed q a b before ]
@@ -50,7 +51,7 @@ module _ (hits : ℕ → List ℕ) (after last every : ℕ) where
   past-backward s passed none q a b c =
       elim (split ((s + 1) * every) q) [ inl behind ↦ passed q a b behind | inr before ↦ none.none q (omega arith) (omega arith) ]
 
-  -- the nearest hit of the first segment with one is the nearest
+  -- the nearest hit of the first segment that has a hit is the nearest of all
   hit-forward : (s p : ℕ) (ms : List ℕ) → Passed Forward hits after last (s * every) → IsNearest Forward hits (from_of after every s + 1) (to_of last every s + 1) p ms
       → IsNearest Forward hits (after + 1) (last + 1) p ms
   hit-forward s p ms passed found =
@@ -119,23 +120,23 @@ module _ (hits : ℕ → List ℕ) where
       let same : first ≡ first + (count - count) = omega arith in
       record { none = λ q a b. passed q (omega arith) (omega arith) (subst (λ s. s * every < q) same (omega arith)) }
 
-  -- in no segments, no mark hits
+  -- before the first segment, no position has been passed
   pub passed-first : (span : Span) → ArePassed span hits 0
   passed-first span = none-first span.direction span.after span.last span.every span.first span.count span.begins span.ends
 
-  -- one segment more, without a hit
+  -- passing one more segment, which has no hit
   pub passed-next : (span : Span) (k : ℕ) (found : Found) → k < span.count → is_hit found ≡ false → ArePassed span hits k
       → IsFoundIn span hits (nth_on_way span.direction span.first span.count k) found → ArePassed span hits (k + 1)
   passed-next span k Nothing below miss passed found = next-passed span.direction span.after span.last span.every span.first span.count k below passed found
   passed-next span k (Hit p) below miss passed found = cc
 
-  -- one segment more, with a hit
+  -- reaching a segment that has a hit
   pub passed-hit : (span : Span) (k : ℕ) (found : Found) → k < span.count → is_hit found ≡ true → ArePassed span hits k → IsFoundIn span hits (nth_on_way span.direction span.first span.count k) found
       → IsFound span.direction hits (span.after + 1) (span.last + 1) found
   passed-hit span k Nothing below hit passed found = cc
   passed-hit span k (Hit h) below hit passed found = next-hit span.direction span.after span.last span.every span.first span.count k h.position h.marks.items below passed found
 
-  -- all segments are passed
+  -- if all segments are passed, the search finds nothing
   pub passed-all : (span : Span) (k : ℕ) → k ≡ span.count → ArePassed span hits k → IsFound span.direction hits (span.after + 1) (span.last + 1) Nothing
   passed-all span k all passed =
       none-last span.direction span.after span.last span.every span.first span.count span.begins span.ends (subst (ArePassed span hits) all passed)

@@ -1,4 +1,4 @@
--- The nearest hit of breaks, by the steps alone.
+-- Finding the nearest hit of breaks from the steps alone.
 use Rattle.std.proofs.Common.{◌≡◌, ◌⊎◌, inl, inr, ℕ, ◌+◌, ◌-◌, ◌<◌, ◌≤◌, Bool, true, false, ◌||◌, cond, List, [], ◌∷◌, length, map, filter, Option, refl, sym, ap, ◌∙◌, subst, arith}
 use Rattle.nr_rev.specs.World.{World}
 use Rattle.nr_rev.specs.declared.cell_value.CellValue.TheVariants.{Absent}
@@ -13,7 +13,7 @@ use Rattle.nr_search.specs.declared.direction.Direction.{Direction}
 use Rattle.nr_search.specs.declared.direction.Direction.TheVariants.{Forward, Backward}
 use Rattle.nr_search.proofs.SegmentLemmas.{nth-within}
 
--- whether a break hits depends on the next step alone
+-- whether a break hits depends only on the next step
 by-step : (before after : World) (next : Option NextStep) (m : Mark) → is_watch m ≡ false → hits_by Absent Absent next m ≡ mark_hits before after next m
 by-step before after next (mark.Break wanted) lasts = refl
 by-step before after next (mark.TemporaryBreak wanted) lasts = refl
@@ -23,7 +23,7 @@ neither : (a b : Bool) → (a || b) ≡ false → (a ≡ false) × (b ≡ false)
 neither true b none = cc
 neither false b none = (refl, none)
 
--- the number of the first mark, then those of the others
+-- the number of the first mark, if it hits, followed by those of the others
 first-number : (here here' : Bool) (m : NumberedMark) (ms ms' : List NumberedMark) → here ≡ here' → map (λ x. x.number) ms ≡ map (λ x. x.number) ms'
     → map (λ x. x.number) (cond here (m ∷ ms) ms) ≡ map (λ x. x.number) (cond here' (m ∷ ms') ms')
 first-number true true m ms ms' same rest = ap (λ ns. m.number ∷ ns) rest
@@ -46,7 +46,7 @@ none-more : (ms : List ℕ) → length ms ≡ 0 → ms ≡ []
 none-more [] none = refl
 none-more (m ∷ ms) none = absurd (omega arith)
 
--- the number of positions before this one on the way
+-- the number of positions that come before this one on the way
 abbrev pub place-of : (direction : Direction) (low high q : ℕ) → ℕ
 place-of Forward low high q = q - low
 place-of Backward low high q = high - 1 - q
@@ -55,7 +55,7 @@ place-is : (direction : Direction) (low high q : ℕ) → low ≤ q → q < high
 place-is Forward low high q a b = (omega arith, omega arith)
 place-is Backward low high q a b = (omega arith, omega arith)
 
--- a nearer position comes sooner
+-- a nearer position comes earlier on the way
 nearer-sooner : (direction : Direction) (low high k q : ℕ) → k < high - low → low ≤ q → q < high → Nearer direction q (nth_on_way direction low (high - low) k) → place-of direction low high q < k
 nearer-sooner Forward low high k q within a b nearer = omega (arith, nearer)
 nearer-sooner Backward low high k q within a b nearer = omega (arith, nearer)
@@ -65,11 +65,11 @@ module _ (hits : ℕ → List ℕ) (direction : Direction) (low high : ℕ) wher
   abbrev pub AreMissed : ℕ → Type 0
   AreMissed k = (j : ℕ) → j < k → hits (nth_on_way direction low (high - low) j) ≡ []
 
-  -- a position with fewer than k others before it on the way is missed
+  -- no mark hits at a position that is among the first k on the way
   missed-at : (k q : ℕ) → low ≤ q → q < high → place-of direction low high q < k → AreMissed k → hits q ≡ []
   missed-at k q a b sooner missed = ap hits (sym (place-is direction low high q a b).1) ∙ missed (place-of direction low high q) sooner
 
-  -- one position more is missed
+  -- no mark hits at the first k + 1 positions if none hits at position k on the way
   pub missed-more : (k p : ℕ) (here : List ℕ) → p ≡ nth_on_way direction low (high - low) k → here ≡ hits p → length here ≡ 0 → AreMissed k → AreMissed (k + 1)
   missed-more k p here place is none missed j below =
       elim (split j k) [
@@ -79,11 +79,11 @@ module _ (hits : ℕ → List ℕ) (direction : Direction) (low high : ℕ) wher
             ap (λ i. hits (nth_on_way direction low (high - low) i)) same ∙ ap hits (sym place) ∙ sym is ∙ none-more here none
       ]
 
-  -- all positions are missed
+  -- no mark hits at any position if none hits at the first k, and k covers them all
   pub missed-all : (k : ℕ) → high - low ≤ k → AreMissed k → NoneHits hits low high
   missed-all k all missed = record { none = λ q a b. missed-at k q a b (omega (arith, (place-is direction low high q a b).0, all)) missed }
 
-  -- the first position that isn't missed is the nearest hit
+  -- the first position on the way at which a mark hits is the nearest hit
   pub nearest-is : (k p : ℕ) (here : List ℕ) → k < high - low → p ≡ nth_on_way direction low (high - low) k → here ≡ hits p → 0 < length here → AreMissed k
       → IsNearest direction hits low high p here
   nearest-is k p here within place is some missed =

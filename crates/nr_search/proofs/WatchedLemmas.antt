@@ -1,4 +1,4 @@
--- One mark after the other.
+-- Comparing the watched values of marks, one mark after the other.
 use Rattle.std.proofs.Common.{◌≡◌, ◌≢◌, ℕ, ◌+◌, ◌-◌, ◌<◌, ◌≤◌, Bool, true, false, cond, List, [], ◌∷◌, ◌++◌, length, map, filter, take, get_or, slice_get, Option, refl, sym, ap, ◌∙◌, subst, arith}
 use Rattle.std.proofs.lemmas.List.{append-nil, length_push}
 use Rattle.std.proofs.lemmas.List.Elements.{filter_more}
@@ -8,7 +8,7 @@ use Rattle.nr_marks.specs.Hit.{hits_at, hits_between, numbered}
 use Rattle.nr_marks.specs.Marks.{NumberedMark}
 use Rattle.nr_marks.specs.declared.mark.NextStep.{NextStep}
 
--- the numbers of the marks that pass, and of one more
+-- the numbers of a list of marks and of one more mark, if it is added
 numbers-more : {X : Type 0} (number : X → ℕ) (ys : List X) (here : Bool) (x : X) → map number (ys ++ cond here (x ∷ []) []) ≡ map number ys ++ cond here (number x ∷ []) []
 numbers-more number [] true x = refl
 numbers-more number [] false x = refl
@@ -24,7 +24,7 @@ numbers-next number p xs i x so_far here within read before now =
     ∙ ap (λ y. map number (filter p (take i xs) ++ cond (p y) (y ∷ []) [])) read
     ∙ ap (map number) (sym (filter_more p xs i x within))
 
--- the reported numbers, whether the mark hits or not
+-- the reported numbers after a mark, whether it hits or not
 pub reported-hit : (ns' ns : List ℕ) (n : ℕ) (here : Bool) → here ≡ true → ns' ≡ ns ++ n ∷ [] → ns' ≡ ns ++ cond here (n ∷ []) []
 reported-hit ns' ns n here is reported = reported ∙ ap (λ b. ns ++ cond b (n ∷ []) []) (sym is)
 
@@ -35,7 +35,7 @@ pub few-more : (ns : List ℕ) (n i : ℕ) (here : Bool) → length ns ≤ i →
 few-more ns n i true few = omega (arith, length_push ns n, few)
 few-more ns n i false few = subst (λ ms. length ms ≤ i + 1) (sym (append-nil ns)) (omega (arith, few))
 
--- the numbers of the marks that hit at position n + 1, from the worlds there and one step before
+-- the worlds at positions n and n + 1 determine the numbers of the marks that hit at position n + 1
 pub hits_at-next : (r : Recording) (marks : List NumberedMark) (n : ℕ) (before after : World) (next : Option NextStep) → before ≡ world_at r n → after ≡ world_at r (n + 1)
     → next ≡ numbered (n + 1) (slice_get r.steps (n + 1)) → hits_between before after next marks ≡ hits_at r marks (n + 1)
 hits_at-next r marks n before after next b a s =
@@ -44,6 +44,6 @@ hits_at-next r marks n before after next b a s =
     ∙ ap (λ w. hits_between (world_at r (n + 1 - 1)) w next marks) a
     ∙ ap (λ x. hits_between (world_at r (n + 1 - 1)) (world_at r (n + 1)) x marks) s
 
--- below the next place and not at this one
+-- a number below i + 1 that isn't i is below i
 pub below-more : (k i : ℕ) → k < i + 1 → k ≢ i → k < i
 below-more k i less other = grind arith

@@ -1,3 +1,2 @@
--- Auxiliary definitions. Each file continues the file of its name, which holds what the laws rest
--- on.
+-- Auxiliary definitions. Each file here adds helpers to the file of the same name.
 pub mod Nearest

@@ -14,8 +14,8 @@ IsFoundIn span hits s found =
     IsFound span.direction hits (from_of span.after span.every s + 1)
     (to_of span.last span.every s + 1) found
 
--- true if the slot is right about the segment: if it says that the segment was searched, its result
--- is the segment's
+-- true if the slot is right about the segment: if it contains a search result, that is the
+-- segment's
 pub record IsTrue (span : Span) (hits : ℕ → List ℕ) (s : ℕ) (slot : Slot) : Type 0 where
   pub found : (found : Found) → slot ≡ Searched found → IsFoundIn span hits s found
 
@@ -23,12 +23,12 @@ pub record IsTrue (span : Span) (hits : ℕ → List ℕ) (s : ℕ) (slot : Slot
 pub record AreTrue (span : Span) (hits : ℕ → List ℕ) (known : ℕ → Slot) : Type 0 where
   pub each : (s : ℕ) → IsTrue span hits s (known s)
 
--- what is known about a segment: `Unknown` if it has no slot
+-- what is known about a segment, which is `Unknown` if it has no slot
 abbrev pub or_unknown : Option Slot → Slot
 or_unknown (Some slot) = slot
 or_unknown None = Unknown
 
--- the slot of a segment by its number, `Unknown` if the list has none
+-- the slot of the segment with this number, or `Unknown` if the list has none
 abbrev pub slot_of : List Slot → ℕ → Slot
 slot_of slots s = or_unknown (slice_get slots s)
 
@@ -38,30 +38,30 @@ is_known (Searched found) = true
 is_known (Refused _) = true
 is_known Unknown = false
 
--- true if the segment is searched
+-- true if the segment was searched
 abbrev pub is_searched : Slot → Bool
 is_searched (Searched found) = true
 is_searched (Refused _) = false
 is_searched Unknown = false
 
--- true if the segment is searched and has a hit
+-- true if the segment was searched and has a hit
 abbrev pub has_hit : Slot → Bool
 has_hit (Searched found) = is_hit found
 has_hit (Refused _) = false
 has_hit Unknown = false
 
--- true if the result is the known one, or the segment isn't searched
+-- true if the result is the known one, or if the segment wasn't searched
 abbrev pub Agrees : Slot → Found → Type 0
 Agrees (Searched known) found = found ≡ known
 Agrees (Refused _) found = Unit {0}
 Agrees Unknown found = Unit {0}
 
--- the segment that comes after k others on the way
+-- segment k on the way, counted from 0
 abbrev pub nth_of : Span → ℕ → ℕ
 nth_of span k = nth_on_way span.direction span.first span.count k
 
--- True if what is known leaves the search open: a segment on the way isn't searched, and no nearer
--- one is known to have a hit.
+-- True if the answer isn't known yet: a segment on the way wasn't searched, and no nearer segment
+-- is known to have a hit.
 pub record IsLeftOpen (span : Span) (known : ℕ → Slot) : Type 0 where
   pub place : ℕ
   pub within : place < span.count

@@ -1,4 +1,4 @@
--- Positions at which no mark can hit, judged by the kinds of the steps before and after them.
+-- Positions at which no mark can hit, according to the kinds of the steps before and after them.
 use Rattle.std.specs.Prelude.{◌≡◌, Bool, false, not, List, slice_get, Option, Some}
 use Rattle.std.specs.List.{list_any}
 use Rattle.nr_rev.specs.Kind.{kind_number}
@@ -23,16 +23,16 @@ is_stopped_by next (mark.Break wanted) = break_hits wanted next
 is_stopped_by next (mark.TemporaryBreak wanted) = break_hits wanted next
 is_stopped_by next (mark.Watch c) = false
 
--- True if one of the marks watches such a cell.
+-- True if one of the marks watches a cell that a step of this kind can change.
 abbrev pub any_changed : Kind → List NumberedMark → Bool
 any_changed kind marks = list_any (λ m. is_changed_by kind m.item) marks
 
--- True if one of the marks is such a break.
+-- True if one of the marks is a break that names the next step.
 abbrev pub any_stopped : Option NextStep → List NumberedMark → Bool
 any_stopped next marks = list_any (λ m. is_stopped_by next m.item) marks
 
--- True if the table says, for each kind at its number, whether one of the marks watches a cell that
--- a step of that kind can change.
+-- True if the entry at each kind's number says whether a mark watches a cell that a step of that
+-- kind can change.
 pub record AreChanging (marks : List NumberedMark) (changing : List Bool) : Type 0 where
   pub each : (kind : Kind) → slice_get changing (kind_number kind) ≡ Some (any_changed kind marks)
 

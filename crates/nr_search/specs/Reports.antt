@@ -1,4 +1,4 @@
--- What workers report about segments, and what is noted of it.
+-- The workers' reports about segments, and how they are noted.
 use Rattle.std.specs.Prelude.{◌≡◌, ℕ, ◌<◌, ◌==◌, true, List, [], ◌∷◌, length, Result, Ok, Err, if◌then◌else◌}
 use Rattle.nr_search.specs.Known.{IsTrue, is_known, slot_of}
 use Rattle.nr_search.specs.declared.found.Found.{Found}
@@ -13,12 +13,12 @@ abbrev pub slot_from : Result Found Memory → Slot
 slot_from (Ok found) = Searched found
 slot_from (Err refused) = Refused refused
 
--- true if a report says something about its segment, and is right
+-- true if a report says something about its segment and is right
 pub record IsReport (span : Span) (hits : ℕ → List ℕ) (report : Report) : Type 0 where
   pub known : is_known report.slot ≡ true
   pub holds : IsTrue span hits report.segment report.slot
 
--- the first slot if it knows something, or else the second
+-- the first slot, or the second if the first is `Unknown`
 abbrev pub first_known : Slot → Slot → Slot
 first_known (Searched found) said = Searched found
 first_known (Refused refused) said = Refused refused
@@ -28,18 +28,19 @@ first_known Unknown said = said
 abbrev pub said_by : Report → ℕ → Slot
 said_by report s = if report.segment == s then report.slot else Unknown
 
--- What one worker's reports say about segment s: what the first report on it says.
+-- What one worker's reports say about segment s, which is what the first report on it says.
 abbrev pub said_in : List Report → ℕ → Slot
 said_in [] s = Unknown
 said_in (report ∷ reports) s = first_known (said_by report s) (said_in reports s)
 
--- What the reports of all workers, a row for each, say about segment s: what the first report on it
--- says, in the order of the rows.
+-- What the reports of all workers, in a row for each worker, say about segment s, which is what the
+-- first report on it says, in the order of the rows.
 abbrev pub noted : List (List Report) → ℕ → Slot
 noted [] s = Unknown
 noted (one_worker ∷ by_worker) s = first_known (said_in one_worker s) (noted by_worker s)
 
--- True if each new slot holds what the old one knew, or else what is said about its segment.
+-- True if each new slot is the old one, or what is said about its segment if the old one is
+-- `Unknown`.
 pub record AddsTo (slots : List Slot) (said : ℕ → Slot) (slots' : List Slot) : Type 0 where
   pub each : (s : ℕ) → s < length slots → slot_of slots' s ≡ first_known (slot_of slots s) (said s)
   pub count : length slots' ≡ length slots

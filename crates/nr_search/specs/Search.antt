@@ -1,4 +1,4 @@
--- How a search goes from one position to the next on its way.
+-- How a search goes from one position to the next.
 use Rattle.std.specs.Prelude.{◌≡◌, ℕ, ◌+◌, ◌-◌, Bool, true, false, List, slice_get, Some}
 use Rattle.nr_rev.specs.World.{World}
 use Rattle.nr_rev.specs.declared.cell_value.CellValue.{CellValue}
@@ -14,18 +14,18 @@ abbrev pub is_hit : Found → Bool
 is_hit (Hit h) = true
 is_hit Nothing = false
 
--- true if no position farther forward is nearer
+-- true if no position farther forward can be a nearer hit
 abbrev pub is_decided : Direction → Found → Bool
 is_decided Forward (Hit h) = true
 is_decided Forward Nothing = false
 is_decided Backward found = false
 
--- The neighbour that comes after k others on the way, of `count` neighbours from the first on.
+-- Number k on the way, counted from 0, of the `count` consecutive numbers from the first on.
 abbrev pub nth_on_way : Direction → ℕ → ℕ → ℕ → ℕ
 nth_on_way Forward first count k = first + k
 nth_on_way Backward first count k = first + (count - 1 - k)
 
--- True if the values are, one by one, those that the marks watch in the world.
+-- True if the values are those that the marks watch in the world, in the order of the marks.
 pub record Remembers (w : World) (marks : List NumberedMark) (values : List CellValue) : Type 0
   where
     pub each : (i : ℕ) (m : NumberedMark) → slice_get marks i ≡ Some m

@@ -13,7 +13,8 @@ pub enum Direction {
 }
 
 impl Direction {
-    /// Returns the neighbour that comes after k others in this direction, of `count` neighbours from `first` on.
+    /// Returns number k, counted from 0, of the `count` consecutive numbers from `first` on, in
+    /// this direction.
     pub(crate) fn nth(self, first: usize, count: usize, k: usize) -> usize
         requires within { k < count }
         requires fits { first + count < 2 ^ 64 }

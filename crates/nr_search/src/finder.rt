@@ -20,12 +20,13 @@ use nr_snaps::Film;
 use std::marker::PhantomData;
 use std::thread::Threads;
 
-/// A way to search. `nearest_hit` returns the same for each, so its callers can stay generic over the ways to search.
+/// A way to search. `nearest_hit` returns the same result for each way, so its callers can be
+/// generic over it.
 pub trait Finder {
     /// The runtime that starts the threads.
     type Runtime: Threads + Sync;
 
-    /// The gate that learns which worker searches.
+    /// The gate that is notified when a worker searches.
     type Gate: Gate + Sync;
 
     /// The number of workers: 1 if the caller's thread searches alone.
@@ -36,18 +37,20 @@ pub trait Finder {
         ensures many { IfSome result (λ many. many.now ≡ count self.now) }
         ensures alone { IfNone result (count self.now ≡ 1) };
 
-    /// Returns the claims that a search begins with. The result of the search doesn't depend on them.
+    /// Returns the claims with which a search begins. The result of the search doesn't depend on
+    /// them.
     fn claims(&self) -> Claims;
 }
 
-/// A search in the caller's thread alone. The runtime, which could start threads, is a type parameter only.
+/// A search in the caller's thread alone. The runtime, which could start threads, is only a type
+/// parameter.
 #[derive(Clone, Copy, Debug)]
 pub struct OneWorker<R> {
     _runtime: PhantomData<R>,
 }
 
 impl<R: Threads + Sync> OneWorker<R> {
-    /// Makes a search by one worker.
+    /// Makes a way to search with one worker.
     pub fn new() -> OneWorker<R> {
         OneWorker {
             _runtime: PhantomData,
@@ -103,11 +106,12 @@ impl<F: Finder> Finder for &F {
     }
 }
 
-/// Returns the nearest position to n at which a mark hits, with the numbers of the marks that hit there: forwards the
-/// least above n, up to the end; backwards the greatest below n. If a mark is a watch, the search takes memory for
-/// copies of the film's worlds and for the reports of several workers. A search by breaks alone runs in the caller's
-/// thread, goes by the steps and takes no memory. A search that has no position other than the start on its way takes
-/// none either.
+/// Returns the nearest position to n at which a mark hits, with the numbers of the marks that hit
+/// there. Forwards, it is the least such position above n, up to the end; backwards, it is the
+/// greatest below n. If a mark is a watch, the search allocates memory for copies of the film's
+/// worlds and for the reports of several workers, and fails if memory runs out. If all marks are
+/// breaks, the search runs in the caller's thread, only reads the recorded steps, and allocates no
+/// memory. It also allocates none if its way has no position other than the start.
 pub fn nearest_hit<W: Worlds + Drop + Sync, F: Finder>(
     finder: &F,
     film: &Film<W>,
@@ -139,8 +143,8 @@ where
     }
 }
 
-/// Returns the least position above n, up to the end, at which a mark hits, with the numbers of the marks that hit
-/// there: what `nearest_hit` finds forwards.
+/// Returns the least position above n, up to the end, at which a mark hits, with the numbers of the
+/// marks that hit there. This is `nearest_hit` forwards.
 pub fn first_after<W: Worlds + Drop + Sync, F: Finder>(
     finder: &F,
     film: &Film<W>,
@@ -160,8 +164,8 @@ where
     nearest_hit(finder, film, marks, Direction::Forward, n)
 }
 
-/// Returns the greatest position below n at which a mark hits, with the numbers of the marks that hit there: what
-/// `nearest_hit` finds backwards.
+/// Returns the greatest position below n at which a mark hits, with the numbers of the marks that
+/// hit there. This is `nearest_hit` backwards.
 pub fn last_before<W: Worlds + Drop + Sync, F: Finder>(
     finder: &F,
     film: &Film<W>,
@@ -181,7 +185,8 @@ where
     nearest_hit(finder, film, marks, Direction::Backward, n)
 }
 
-// Returns the greatest hit below position n. Position 0 is the last on the way, and needs no copy.
+// Returns the greatest hit below position n. Position 0 is the last on the way, and searching it
+// needs no copy.
 fn last_hit_below<W: Worlds + Drop + Sync, F: Finder>(
     finder: &F,
     film: &Film<W>,
@@ -205,7 +210,8 @@ where
     Ok(found)
 }
 
-// Returns the nearest hit after position `after` and up to position `last`, searched by one worker or by several.
+// Returns the nearest hit after position `after` and up to position `last`, using one worker or
+// several.
 fn search_between<W: Worlds + Drop + Sync, F: Finder>(
     finder: &F,
     film: &Film<W>,

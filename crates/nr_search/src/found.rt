@@ -29,8 +29,8 @@ pub enum Found {
 }
 
 impl Found {
-    // Takes position p, the next one forwards, into the result. If no mark hits there, the result stays and nothing is
-    // copied.
+    // Updates the result with position p, the next one forwards. If no mark hits there, leaves the
+    // result unchanged and copies nothing.
     pub(crate) fn look_at(&mut self, p: usize, hits: &Numbers)
         ensures { self.new ≡ found_after self.old p hits.now.items }
     {
@@ -76,7 +76,7 @@ impl Found {
     }
 }
 
-// Returns a copy of the numbers of marks. It takes no memory.
+// Returns a copy of the numbers of marks. Allocates no memory.
 fn copied(numbers: &Numbers) -> Numbers
     ensures { result ≡ numbers.now }
 {

@@ -1,11 +1,11 @@
-//! A gate that tells which worker searches when.
+//! A gate that is notified which worker searches when.
 
-/// Learns when a worker begins to search a segment, and when it has searched it. Workers are counted from 1.
+/// Is notified when a worker begins and finishes searching a segment. Workers are counted from 1.
 pub trait Gate {
-    /// Called when the worker is about to search a segment.
+    /// Called before the worker searches a segment.
     fn enter(&self, worker: usize);
 
-    /// Called when the worker has searched it.
+    /// Called after the worker has searched a segment.
     fn leave(&self, worker: usize);
 }
 

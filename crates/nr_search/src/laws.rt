@@ -12,8 +12,9 @@ ghost use Rattle.nr_search.specs.Auxiliary.Nearest.{IsFound, IsNearest};
 ghost use Rattle.nr_search.specs.declared.direction.Direction.TheVariants.{Forward, Backward};
 ghost use Rattle.nr_search.specs.declared.workers.TheConstants.{LEAST_WORKERS, MOST_WORKERS};
 
-/// The nearest hit from position n is, forwards, the least hit above n, up to the end; backwards, the greatest below n.
-/// A search finds nothing exactly if no mark hits at any of those positions.
+/// Forwards, the nearest hit from position n is the least hit above n, up to the end; backwards, it
+/// is the greatest hit below n. A search finds nothing exactly if no mark hits at any of those
+/// positions.
 pub fn the_nearest_hit_is_nearest()
     ensures forward { (r : Recording) (marks : List NumberedMark) (n : ℕ) → n ≤ length r.steps
         → IsFound Forward (hits_at r marks) (n + 1) (length r.steps + 1)
@@ -22,8 +23,9 @@ pub fn the_nearest_hit_is_nearest()
         → IsFound Backward (hits_at r marks) 0 n (nearest_hit Backward r marks n) }
 {}
 
-/// The position at which going back over a watch stops is the last write of its cell: just before, the cell had another
-/// value, and from there up to the start of the search it has this one.
+/// A backward search for a watch's hit stops at the last write of its cell: one position earlier
+/// the cell has another value, and from the hit up to the start of the search its value is the
+/// same.
 pub fn going_back_leads_to_the_last_write()
     ensures steady { (r : Recording) (number n p : ℕ) (c : Cell) (ms : List ℕ)
         → IsNearest Backward (hits_at r (record { number = number; item = Watch c } ∷ [])) 0 n p ms

@@ -1,5 +1,5 @@
-//! A search through a film for the nearest position at which a mark hits, forwards or backwards, and for the marks that
-//! hit there.
+//! Searches a film, forwards or backwards, for the nearest position at which a mark hits, and for
+//! the marks that hit there.
 #![tactic(auto)]
 
 mod direction;

@@ -1,4 +1,4 @@
-//! Positions at which no mark can hit, judged by the kinds of the steps before and after them.
+//! Positions at which no mark can hit, according to the kinds of the steps before and after them.
 
 ghost use Rattle.std.specs.Prelude.{◌≡◌, true};
 ghost use Rattle.nr_rev.specs.Kind.{kind_number};
@@ -8,14 +8,15 @@ ghost use Rattle.nr_search.specs.Quiet.{AreChanging, IsOutlook, IsQuiet, any_bre
 use nr_marks::{Mark, NextStep, NumberedMark};
 use nr_rev::Kind;
 
-/// The number of entries of a table of kinds: one for each number of a kind, and one for 0, which no kind has.
+/// The number of entries in a table of kinds: one for each kind's number, and one for 0, which is
+/// no kind's number.
 pub(crate) const NUMBERS: usize = 32;
 
-/// A table with an entry for each kind, at the kind's number: whether a mark watches a cell that a step of that kind
-/// can change.
+/// A table whose entry at a kind's number says whether a mark watches a cell that a step of that
+/// kind can change.
 pub(crate) type Changing = [bool; NUMBERS];
 
-/// The facts about the marks that are computed once, at the beginning of a stretch.
+/// Facts about the marks, computed once at the beginning of a stretch.
 #[derive(Drop)]
 pub(crate) struct Outlook {
     pub(crate) changing: Changing,
@@ -85,7 +86,7 @@ fn any_break(marks: &[NumberedMark]) -> bool
     marks.iter().any(|mark| !mark.item.is_watch())
 }
 
-/// Returns the facts about the marks that a search of a stretch needs.
+/// Computes the facts about the marks that the search of a stretch needs.
 pub(crate) fn outlook_of(marks: &[NumberedMark]) -> Outlook
     ensures { IsOutlook marks.now result }
 {

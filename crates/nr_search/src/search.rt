@@ -60,9 +60,9 @@ where
         }
     }
 
-    /// Returns the nearest hit of a segment. The search leads the world at hand through the segment if that world is at
-    /// its beginning, and a copy otherwise. If the search reaches the end of the segment, the world at hand is there
-    /// afterwards.
+    /// Returns the nearest hit of a segment. The search moves the world in `held` through the
+    /// segment if that world is at the segment's beginning, and otherwise a copy. If the search
+    /// reaches the end of the segment, the world in `held` is at the end afterwards.
     pub fn search_segment(&self, s: usize, held: &mut Option<WorldAt<W>>) -> Result<Found, Memory>
         requires first { self.now.span.first ≤ s }
         requires last { s < self.now.span.first + self.now.span.count }
@@ -86,7 +86,7 @@ where
         Ok(found)
     }
 
-    // Returns the nearest hit of a segment: the known one, or else that of a search.
+    // Returns the nearest hit of a segment, which is known or else searched for.
     fn decide_segment(
         &self,
         known: &[Slot],
@@ -113,8 +113,9 @@ where
         }
     }
 
-    /// Returns the nearest hit. It visits the segments on the way, and takes what is known of each or else searches it.
-    /// The first segment with a hit decides; it then doesn't matter whether later segments ran out of memory.
+    /// Returns the nearest hit. Visits the segments on the way, and uses what is known about a
+    /// segment or else searches it. The first segment with a hit determines the result, even if the
+    /// search of a later segment ran out of memory.
     pub fn decide(&self, known: &[Slot]) -> Result<Found, Memory>
         requires { AreTrue self.now.span
             (hits_at self.now.film.now.recording self.now.marks.now.present) (slot_of known.now) }
@@ -134,10 +135,11 @@ where
         Ok(Found::Nothing)
     }
 
-    /// Returns the nearest hit by the reports of the workers, a row for each worker. The first report of a segment
-    /// counts; a segment without a report is searched here. Fails for lack of memory only if the report that counts for
-    /// a segment on the way doesn't say that it was searched, and no segment before it is reported to have a hit.
-    /// `table` has an `Unknown` slot for each segment.
+    /// Returns the nearest hit according to the reports of the workers, with a row for each worker.
+    /// The first report on a segment counts; a segment without a report is searched here. Fails
+    /// with `Memory` only if the report that counts for some segment on the way is missing or
+    /// doesn't say that the segment was searched, and no segment before it is reported to have a
+    /// hit. `table` has an `Unknown` slot for each segment.
     pub fn decide_by(&self, by_worker: &[Vec<Report>], table: &mut [Slot]) -> Result<Found, Memory>
         requires table { table.old
             ≡ replicate (self.now.span.first + self.now.span.count) Unknown }

@@ -1,4 +1,4 @@
-//! The positions of a search, and the segments that they lie in.
+//! The positions of a search, and the segments in which they lie.
 
 ghost use Rattle.std.specs.Prelude.{◌≡◌, ◌<◌, ◌≤◌, ◌+◌, ◌*◌, ◌^◌};
 ghost use Rattle.nr_search.specs.Search.{nth_on_way};
@@ -6,9 +6,10 @@ ghost use Rattle.nr_search.specs.Segments.{from_of, to_of};
 
 use crate::direction::Direction;
 
-/// The positions of a search: those after `after` and up to `last`. A film has a segment between each two neighbouring
-/// copies, and one more from the last copy to the end: segment s has the positions after `s * every` and up to `(s + 1)
-/// * every`. The positions of the search lie in `count` segments, from segment `first` on.
+/// The positions of a search: those after `after` and up to `last`. A film has a segment between
+/// each two neighbouring copies, and one more from the last copy to the end. Segment s contains the
+/// positions after `s * every` and up to `(s + 1) * every`. The positions of the search lie in
+/// `count` segments, from segment `first` on.
 #[derive(Debug, Drop)]
 pub(crate) struct Span {
     pub direction: Direction,
@@ -47,7 +48,7 @@ impl Span {
         }
     }
 
-    /// Returns the segment that comes after k others on the way.
+    /// Returns segment k on the way, counted from 0.
     pub fn nth(&self, k: usize) -> usize
         requires { k < self.now.count }
         ensures { result ≡ nth_on_way self.now.direction self.now.first self.now.count k }
@@ -55,7 +56,8 @@ impl Span {
         self.direction.nth(self.first, self.count, k)
     }
 
-    /// Returns the bounds of a segment's positions: they lie after the first number, and up to the second.
+    /// Returns the bounds of a segment's positions, which lie after the first number and up to the
+    /// second.
     pub fn stretch(&self, s: usize) -> (usize, usize)
         requires first { self.now.first ≤ s }
         requires last { s < self.now.first + self.now.count }

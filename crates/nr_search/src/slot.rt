@@ -14,7 +14,7 @@ use std::alloc::Global;
 pub(crate) enum Slot {
     /// Nothing: the segment was skipped, or its report was lost.
     Unknown,
-    /// A worker ran out of memory when it searched the segment.
+    /// A worker ran out of memory while it searched the segment.
     Refused(Memory),
     /// The segment was searched, with this result.
     Searched(Found),
@@ -50,7 +50,7 @@ pub(crate) struct Report {
     pub slot: Slot,
 }
 
-/// Returns `count` slots that know nothing.
+/// Returns `count` slots, each of which is `Unknown`. Fails if memory runs out.
 pub(crate) fn unknown(alloc: Global, count: usize) -> Result<Vec<Slot>, Memory>
     ensures { IfOk result (λ known. known.items ≡ replicate count Unknown) }
 {
@@ -61,7 +61,8 @@ pub(crate) fn unknown(alloc: Global, count: usize) -> Result<Vec<Slot>, Memory>
     Ok(known)
 }
 
-/// Returns what is known about a segment, by its number: `Unknown` if the table has no such slot.
+/// Returns what is known about the segment with this number, or `Unknown` if the table has no such
+/// slot.
 pub(crate) fn slot_at(known: &[Slot], s: usize) -> Slot
     ensures { result ≡ slot_of known.now s }
 {
@@ -71,7 +72,8 @@ pub(crate) fn slot_at(known: &[Slot], s: usize) -> Slot
     }
 }
 
-// Notes a report in the slot of its segment. It changes nothing if the segment has a report already, or no slot.
+// Notes a report in the slot of its segment. Changes nothing if the segment already has a report,
+// or has no slot.
 fn note(known: &mut [Slot], report: &Report)
     ensures noted { AddsTo known.old (said_by report.now) known.new }
     ensures second { is_known (slot_of known.old report.now.segment) ≡ true

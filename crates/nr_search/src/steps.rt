@@ -1,4 +1,4 @@
-//! A search by breaks alone: it goes by the recorded steps, and needs no world.
+//! A search for breaks only, which uses the recorded steps and needs no world.
 
 ghost use Rattle.std.specs.Prelude.{◌≡◌, ◌≤◌, ◌+◌, length, false};
 ghost use Rattle.nr_marks.specs.Hit.{hits_at};
@@ -15,7 +15,8 @@ use nr_marks::{MOST_MARKS, Marks, NumberedMark};
 use nr_rev::{CellValue, Worlds};
 use nr_snaps::Film;
 
-// Returns the numbers of the marks that hit at position p. All marks are breaks, so the next step there decides.
+// Returns the numbers of the marks that hit at position p. All marks are breaks, so only the next
+// step matters.
 #[inline(always)]
 fn look_at_step<W: Worlds + Drop>(
     film: &Film<W>,
@@ -40,7 +41,8 @@ where
     }
 }
 
-// Returns the nearest hit from position `low` on and below `high`, if no mark is a watch.
+// Returns the nearest hit from position `low` up to but not including `high`, if no mark is a
+// watch.
 fn search_steps<W: Worlds + Drop>(
     film: &Film<W>,
     marks: &Marks,
@@ -55,7 +57,7 @@ where
     requires breaks { any_watch marks.now.present ≡ false }
     ensures { IsFound direction (hits_at film.now.recording marks.now.present) low high result }
 {
-    // The length of a film is bounded, so a position fits its type.
+    // The length of a film is bounded, so a position fits into its type.
     let _ = film.len();
     let marks = marks.as_slice();
     let count = high - low;
@@ -73,7 +75,8 @@ where
     Found::Nothing
 }
 
-/// Returns the nearest hit from position n, if no mark is a watch. It goes by the steps alone, and takes no memory.
+/// Returns the nearest hit from position n, if no mark is a watch. Only reads the recorded steps,
+/// and allocates no memory.
 pub(crate) fn nearest_step<W: Worlds + Drop>(
     film: &Film<W>,
     marks: &Marks,

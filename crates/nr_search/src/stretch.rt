@@ -17,7 +17,7 @@ use nr_marks::{MOST_MARKS, Marks, NextStep, NumberedMark};
 use nr_rev::{CellValue, Memory, Worlds};
 use nr_snaps::Film;
 
-/// Returns the step that comes next at position n.
+/// Returns the step that follows position n, if any.
 #[inline(always)]
 pub(crate) fn next_step<W: Worlds + Drop>(film: &Film<W>, n: usize) -> Option<NextStep>
 where
@@ -30,9 +30,9 @@ where
     NextStep::at(n, film.step(n))
 }
 
-// Leads the world from position n to the next position, and returns the numbers of the marks that hit there. `values`
-// are the watched values at position n, and afterwards those at the next position. If the kinds of the steps around
-// that position rule out a hit, no cell is read.
+// Moves the world from position n to the next position, and returns the numbers of the marks that
+// hit there. `values` contains the watched values at position n, which are replaced by those at the
+// next position. If the kinds of the steps around that position rule out a hit, reads no cell.
 #[inline(always)]
 fn advance_finding_hits<W: Worlds + Drop>(
     film: &Film<W>,
@@ -66,8 +66,8 @@ where
     find_hits(marks, values, hits, world, next);
 }
 
-/// Returns the nearest hit after position `at` and up to position `to`. The world starts at `at`, and is led on to `to`
-/// unless a hit ends the search.
+/// Returns the nearest hit after position `at` and up to position `to`. The world starts at `at`,
+/// and is moved to `to` unless a hit ends the search.
 pub(crate) fn search_stretch<W: Worlds + Drop>(
     film: &Film<W>,
     marks: &Marks,
@@ -113,7 +113,7 @@ impl<W: Worlds + Drop> WorldAt<W>
 where
     W::Snapshot: Drop,
 {
-    // Leads the world on to position n.
+    // Moves the world forward to position n.
     fn lead_to(self, film: &Film<W>, n: usize) -> W
         requires frame { IsFrame W.is_well_formed W.world W.steps film.now self.position self.world }
         requires below { self.position ≤ n }
@@ -128,8 +128,9 @@ where
     }
 }
 
-/// Returns the world at position n: the world at hand if it is there, or else the film's copy at or below n, led on.
-/// That copy is restored into the world at hand; if there is no world at hand, a new one is made.
+/// Returns a world at position n: the world in `held` if it is at n, or else the film's copy at or
+/// below n, moved forward. The copy is restored into the world in `held`, or into a new world if
+/// `held` is empty.
 pub(crate) fn world_at<W: Worlds + Drop>(
     film: &Film<W>,
     held: Option<WorldAt<W>>,
@@ -155,7 +156,7 @@ where
     }
 }
 
-// Leads a world, restored from the film's copy at or below position n, on to n.
+// Moves a world that was restored from the film's copy at or below position n forward to n.
 fn led_on<W: Worlds + Drop>(film: &Film<W>, world: W, n: usize) -> W
 where
     W::Snapshot: Drop,

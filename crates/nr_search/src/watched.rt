@@ -1,4 +1,4 @@
-//! The watched values, kept from one position to the next.
+//! The watched values, which are kept from one position to the next.
 
 ghost use Rattle.std.specs.Prelude.{◌≡◌, ◌≤◌, length};
 ghost use Rattle.nr_marks.specs.Hit.{hits_between};
@@ -10,8 +10,8 @@ use crate::found::Numbers;
 use nr_marks::{MOST_MARKS, NextStep, NumberedMark};
 use nr_rev::{CellValue, Worlds};
 
-/// Returns the numbers of the marks that hit, by their values one step before, and replaces those by the current
-/// values.
+/// Returns the numbers of the marks that hit, given the watched values one step before, and
+/// replaces those by the current values.
 #[inline(always)]
 pub(crate) fn find_hits<W: Worlds>(
     marks: &[NumberedMark],

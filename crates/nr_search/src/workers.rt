@@ -20,17 +20,18 @@ use std::marker::Model;
 use std::sync::atomic::{AtomicUsize, Ordering};
 use std::thread::{Threads, map_indices};
 
-/// The least number of workers of a search.
+/// The minimum number of workers in a search.
 pub const LEAST_WORKERS: usize = 1;
 
-/// The greatest number of workers of a search.
+/// The maximum number of workers in a search.
 pub const MOST_WORKERS: usize = 16;
 
-/// The most segments that a worker claims at once.
+/// The maximum number of segments that a worker claims at once.
 const MOST_AT_ONCE: usize = 8;
 
-/// A search by several workers, each in a thread of its own if one can be started. They claim the segments between the
-/// film's copies in the order of the way. Contracts see the number of workers.
+/// A search by several workers, each in a thread of its own if one can be started. The workers
+/// claim the segments between the film's copies in the order of the search. Contracts see the
+/// number of workers.
 #[derive(Debug, Drop)]
 pub struct ManyWorkers<R: Threads + Sync, G: Gate + Sync> {
     rt: R,
@@ -51,7 +52,8 @@ impl<R: Threads + Sync, G: Gate + Sync> Model for ManyWorkers<R, G> {
 }
 
 impl<R: Threads + Sync, G: Gate + Sync> ManyWorkers<R, G> {
-    /// Makes a search by `workers` workers. Each passes the gate for each segment that it searches.
+    /// Makes a way to search with `workers` workers. Each worker passes the gate for each segment
+    /// that it searches.
     pub fn new(rt: R, alloc: Global, gate: G, workers: usize) -> ManyWorkers<R, G>
         requires least { LEAST_WORKERS ≤ workers }
         requires most { workers ≤ MOST_WORKERS }
@@ -75,13 +77,14 @@ impl<R: Threads + Sync, G: Gate + Sync> ManyWorkers<R, G> {
     }
 }
 
-/// The state that the workers of a search share. No proof rests on it: if it has claims that no worker made, or a hit
-/// that doesn't exist, the search takes longer and finds the same.
+/// The state that the workers of a search share. No proof uses it: if it contains claims that no
+/// worker made, or a hit that doesn't exist, the search takes longer but has the same result.
 #[derive(Drop)]
 pub struct Claims {
-    // The number of claimed segments on the way.
+    // The number of segments on the way that are claimed.
     next: AtomicUsize,
-    // The number on the way of the nearest segment with a known hit: segments after it need no search.
+    // The nearest segment with a known hit, by its number on the way; later segments need no
+    // search.
     hint: AtomicUsize,
 }
 
@@ -91,8 +94,8 @@ impl Claims {
         Claims::preset(0, usize::MAX)
     }
 
-    /// Makes a state in which `claimed` segments are claimed, and segment `hint` on the way, counted from 0, has a
-    /// known hit.
+    /// Makes a state with `claimed` claimed segments and a known hit in segment `hint` on the way,
+    /// counted from 0.
     pub fn preset(claimed: usize, hint: usize) -> Claims {
         Claims {
             next: AtomicUsize::new(claimed),
@@ -114,7 +117,7 @@ impl Claims {
         k > self.hint.load(Ordering::SeqCst)
     }
 
-    // Tells the other workers the number on the way of a segment with a hit.
+    // If segment k on the way has a hit, shares k with the other workers.
     fn tell(&self, k: usize, slot: &Slot) {
         if let Slot::Searched(Found::Hit(_)) = slot {
             self.hint.fetch_min(k, Ordering::SeqCst);
@@ -122,7 +125,7 @@ impl Claims {
     }
 }
 
-/// Segments that a worker has claimed and not begun, by their numbers on the way.
+/// Segments that a worker has claimed but not begun, by their numbers on the way.
 #[derive(Clone, Copy)]
 struct Turn {
     next: usize,
@@ -135,9 +138,9 @@ impl Turn {
         Turn { next: 0, end: 0 }
     }
 
-    // Returns the number on the way of the next segment, unless a segment before it has a known hit. If there are many
-    // segments, a worker claims a few at once: forwards, it leads its world on from one to the next, and takes a copy
-    // only for the first.
+    // Returns the number on the way of the next segment, unless a segment before it has a known
+    // hit. If there are many segments, a worker claims a few at once. Forwards, it moves its world
+    // from each segment to the next, and needs a copy only for the first.
     fn next(&mut self, claims: &Claims, count: usize) -> Option<usize>
         ensures { IfSome result (λ k. k < count) }
     {
@@ -153,7 +156,7 @@ impl Turn {
     }
 }
 
-// Returns what a worker's search of a segment says: its result, or that it ran out of memory.
+// Returns the outcome of a worker's search of a segment: its result, or that memory ran out.
 fn searched<W: Worlds + Drop>(
     search: &Search<'_, W>,
     s: usize,
@@ -174,7 +177,7 @@ where
     Slot::from_search(search.search_segment(s, held))
 }
 
-// Searches segments as long as there are some to claim, and returns a report on each.
+// Searches segments until none is left to claim, and returns a report on each.
 fn work<W: Worlds + Drop, G: Gate>(
     search: &Search<'_, W>,
     alloc: Global,
@@ -199,13 +202,13 @@ where
         let slot = searched(search, segment, &mut held);
         gate.leave(worker);
         claims.tell(k, &slot);
-        // If there is no room for a report, the report is lost and its segment stays unknown.
+        // If there is no room for a report, the report is lost and its segment remains unknown.
         let _ = reports.push(Report { segment, slot });
     }
     reports
 }
 
-// Runs the workers, and returns the reports of each.
+// Runs the workers, and returns each worker's reports.
 fn gather<W: Worlds + Drop + Sync, R: Threads + Sync, G: Gate + Sync>(
     many: &ManyWorkers<R, G>,
     search: &Search<'_, W>,
@@ -228,7 +231,8 @@ where
     map_indices(&many.rt, alloc, many.workers, &worker)
 }
 
-/// Returns the nearest hit of a search by the reports of the workers. Segments without a report are searched here.
+/// Returns the nearest hit of a search, using the reports of the workers. Segments without a report
+/// are searched here.
 pub(crate) fn search_by<W: Worlds + Drop + Sync, R: Threads + Sync, G: Gate + Sync>(
     many: &ManyWorkers<R, G>,
     search: &Search<'_, W>,

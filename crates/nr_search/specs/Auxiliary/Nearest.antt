@@ -1,4 +1,4 @@
--- Definitions that contracts and proofs cite beside `Nearest`. No law of THEOREM.md rests on them.
+-- Helper definitions for `Nearest`. The laws in THEOREM.md don't use them.
 use Rattle.std.specs.Prelude.{◌≡◌, ℕ, ◌<◌, ◌≤◌, List, [], length}
 use Rattle.nr_marks.specs.Auxiliary.Numbered.{RisesWithin}
 use Rattle.nr_search.specs.declared.direction.Direction.{Direction}
@@ -11,8 +11,8 @@ abbrev pub Nearer : Direction → ℕ → ℕ → Type 0
 Nearer Forward q p = q < p
 Nearer Backward q p = p < q
 
--- True if the marks `ms`, at least one, hit at p, and no mark hits at a nearer position from low to
--- below high.
+-- True if exactly the marks `ms` hit at p, there is at least one of them, and no mark hits at a
+-- nearer position q with low ≤ q < high.
 pub record IsNearest (way : Direction) (hits : ℕ → List ℕ) (low high p : ℕ) (ms : List ℕ) : Type 0
   where
     pub above : low ≤ p
@@ -21,18 +21,18 @@ pub record IsNearest (way : Direction) (hits : ℕ → List ℕ) (low high p : �
     pub some : 0 < length ms
     pub nearest : (q : ℕ) → low ≤ q → q < high → Nearer way q p → hits q ≡ []
 
--- true if no mark hits from low to below high
+-- true if no mark hits at a position q with low ≤ q < high
 pub record NoneHits (hits : ℕ → List ℕ) (low high : ℕ) : Type 0 where
   pub none : (q : ℕ) → low ≤ q → q < high → hits q ≡ []
 
--- true if the result is the nearest hit from low to below high, and is `Nothing` only if no mark
--- hits there
+-- true if the result is the nearest hit at a position q with low ≤ q < high, or is `Nothing` and no
+-- mark hits there
 abbrev pub IsFound : Direction → (ℕ → List ℕ) → ℕ → ℕ → Found → Type 0
 IsFound direction hits low high (Hit h) = IsNearest direction hits low high h.position h.marks.items
 IsFound direction hits low high Nothing = NoneHits hits low high
 
--- true if the returned numbers rise, and each is the number of a mark that was made, so that there
--- are at most that many
+-- true if the numbers in the result rise, and each belongs to one of the `made` marks, so there are
+-- at most that many
 abbrev pub Rises : ℕ → Found → Type 0
 Rises made (Hit h) = RisesWithin 0 h.marks.items made
 Rises made Nothing = Unit {0}

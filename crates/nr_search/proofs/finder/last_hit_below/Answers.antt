@@ -7,7 +7,7 @@ use Rattle.nr_search.proofs.NearestLemmas.{found-before-start, found-to-start}
 use Rattle.nr_search.proofs.finder.last_hit_below.Goals as goal
 use Rattle.nr_search.proofs.finder.last_hit_below.Goals.{then-not-is_hit, else-not-is_hit}
 
--- a hit after the start, or else what hits at the start
+-- the result is a hit after the start, or else the result at the start
 pub returns-clause-found : goal.returns-clause-found
 returns-clause-found g c =
     let hits = hits_at c.args.film.now.recording c.args.marks.now.present in

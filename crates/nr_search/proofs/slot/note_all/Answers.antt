@@ -7,7 +7,7 @@ use Rattle.nr_search.proofs.slot.note_all.Goals as goal
 pub loop-report-init : goal.loop-report-init
 loop-report-init c = adds-none c.args.known.now
 
--- one report more
+-- one more report
 pub loop-report-preserved : goal.loop-report-preserved
 loop-report-preserved c =
     adds-report c.args.known.now c.loop-report.known c.note.new.known c.args.reports.now c.loop-report.report-index c.report-item.result c.loop-report-test.true c.report-item.is

@@ -6,7 +6,7 @@ use Rattle.nr_marks.specs.Hit.{hits_between, hits_by}
 use Rattle.nr_search.proofs.StepLemmas.{numbers-by-step}
 use Rattle.nr_search.proofs.steps.look_at_step.Goals as goal
 
--- all breaks are looked at
+-- every break has been checked
 pub returns : goal.returns
 returns g c =
     let r = c.args.film.now.recording in

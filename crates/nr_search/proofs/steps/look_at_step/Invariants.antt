@@ -3,7 +3,7 @@ use Rattle.nr_rev.specs.declared.cell_value.CellValue.TheVariants.{Absent}
 use Rattle.nr_marks.specs.Hit.{hits_by}
 use Rattle.nr_search.proofs.steps.look_at_step.Given as goal
 
--- the breaks that hit, of those so far
+-- the result contains the numbers of the breaks that hit among those checked so far
 abbrev pub invariant-loop-numbered : goal.invariant-loop-numbered
 invariant-loop-numbered g l =
     record {

@@ -4,7 +4,7 @@ use Rattle.nr_search.specs.Auxiliary.Nearest.{IsFound}
 use Rattle.nr_search.proofs.NearestLemmas.{found-decided, found-then, found-whole}
 use Rattle.nr_search.proofs.stretch.search_stretch.Goals as goal
 
--- the result after one position more is the result of the stretch
+-- if the result is decided after the next position, it is the result for the whole stretch
 pub returns-then-is_decided-clause-found : goal.returns-then-is_decided-clause-found
 returns-then-is_decided-clause-found g c =
     let r = c.args.film.now.recording in

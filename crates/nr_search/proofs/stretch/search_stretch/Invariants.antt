@@ -5,7 +5,8 @@ use Rattle.nr_search.specs.Search.{Remembers, is_decided}
 use Rattle.nr_snaps.specs.Film.{IsFrame}
 use Rattle.nr_search.proofs.stretch.search_stretch.Given as goal
 
--- the world is at n, its watched values are kept, and the search has visited all positions up to n
+-- the world is at n, its watched values are remembered, and the search has visited all positions up
+-- to n
 abbrev pub invariant-loop-n : goal.invariant-loop-n
 invariant-loop-n g l =
     record {

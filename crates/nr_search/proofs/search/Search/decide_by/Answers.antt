@@ -9,14 +9,14 @@ use Rattle.nr_search.proofs.search.Search.decide_by.Goals as goal
 pub loop-reports-init : goal.loop-reports-init
 loop-reports-init g c = adds-none c.args.table.now
 
--- one row more
+-- one more row
 pub loop-reports-preserved : goal.loop-reports-preserved
 loop-reports-preserved g c =
     adds-one_worker (λ one_worker. one_worker.items) c.args.table.now c.loop-reports.table c.note_all.new.known c.args.by_worker.now c.loop-reports.reports-index c.reports-item.result
     c.loop-reports-test.true c.reports-item.is
     c.loop-reports.invariant (subst (λ rs. AddsTo c.loop-reports.table (said_in rs) c.note_all.new.known) c.as_slice.ensures.value c.note_all.ensures)
 
--- the complete table holds what the reports say, and that is right
+-- the complete table contains what the reports say, which is right
 pub decide-requires : goal.decide-requires
 decide-requires g c =
     let search = c.args.self.now in
