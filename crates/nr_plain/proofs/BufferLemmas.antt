@@ -13,7 +13,7 @@ capacity_within w s socket h at =
     let fits = h.sockets s socket at in
     ((fits.capacities Read).1, (fits.capacities Write).1)
 
--- as many bytes as there is room for fit into the output
+-- a write of at most as many bytes as the output has room for fits into the output
 pub written_fits : (w : World) (s : ℕ) (socket : Socket) (n : ℕ) → WellFormed w → slice_get w.sockets s ≡ Some socket → n ≤ room_of socket.buffers.write
     → length socket.buffers.write.bytes + n ≤ w.limits.buffer
 written_fits w s socket n h at room =

@@ -19,7 +19,7 @@ use Rattle.nr_plain.specs.declared.plan.Plan.{Plan}
 use Rattle.nr_plain.specs.Continuing.{Continues}
 use Rattle.nr_plain.specs.Plan.{CanEditAll, after_edits, total_weight}
 
--- the orders to the two sides, one after the other
+-- carrying out both sides' orders is carrying out one side's and then the other's
 pub both_obeyed : (a b : Option TimerOrder) (before : Sides (Option Timer) × ℕ)
     → after_orders (option_to_list a ++ option_to_list b) before ≡ (after_orders (option_to_list a) before >>= after_orders (option_to_list b))
 both_obeyed None b before = refl
@@ -27,7 +27,7 @@ both_obeyed (Some order) b before =
     elim (after_order order before) as (λ (r : Result (Sides (Option Timer) × ℕ) Refusal). (r >>= after_orders (option_to_list b)) ≡ ((r >>= λ after. Ok after) >>= after_orders (option_to_list b)))
     [ Ok after ↦ refl | Err e ↦ refl ]
 
--- changes made after others
+-- making two lists of changes in turn is making their concatenation
 pub after_edits-append : (xs ys : List Edit) (w : World) → after_edits (xs ++ ys) w ≡ after_edits ys (after_edits xs w)
 after_edits-append [] ys w = refl
 after_edits-append (x ∷ xs) ys w = after_edits-append xs ys (after_edit x w)
@@ -36,7 +36,7 @@ pub CanEditAll-append : (xs ys : List Edit) (w : World) → CanEditAll xs w → 
 CanEditAll-append [] ys w first rest = rest
 CanEditAll-append (x ∷ xs) ys w first rest = (first.0, CanEditAll-append xs ys (after_edit x w) first.1 rest)
 
--- the goroutines that a word held continue
+-- a Wake change for each woken goroutine lets all of them continue
 wakes_lead : (gs : List ℕ) (w : World) → after_edits (map Wake gs) w ≡ after_wakes gs w
 wakes_lead [] w = refl
 wakes_lead (g ∷ gs) w = wakes_lead gs (after_edit (Wake g) w)
@@ -49,7 +49,7 @@ woken_words : (gs : List ℕ) → total_weight (map Wake gs) ≡ 7 * length gs
 woken_words [] = refl
 woken_words (g ∷ gs) = let one = sum_by-cons edit_weight (Wake g) (map Wake gs) in let rest = woken_words gs in omega (arith, one, rest)
 
--- the world after some changes and this change of the descriptor
+-- the changes of the plan make the world that the descriptor's change makes
 where_it_leads : (d : ℕ) (row : DescriptorRow) (change : Change) (w v : World) (after : Sides (Option Timer) × ℕ) → v.next_arming ≡ w.next_arming
     → after_orders change.orders (row.timers, w.next_arming) ≡ Ok after
     → after_change d row change v ≡ Ok (after_edits (Row d (record { descriptor = change.descriptor; timers = after.0 }) ∷ Arming after.1 ∷ map Wake change.woken) v)
@@ -59,7 +59,7 @@ where_it_leads d row change w v after same are =
     ∙ ap (λ (r : Result (Sides (Option Timer) × ℕ) Refusal). r >>= λ p. Ok (next p)) are
     ∙ ap Ok (sym (wakes_lead change.woken (after_edit (Arming after.1) (after_edit (Row d (record { descriptor = change.descriptor; timers = after.0 })) v))))
 
--- the plan extended by these changes
+-- adding these changes to the plan extends it by the descriptor's change
 pub continued : (d : ℕ) (row : DescriptorRow) (change : Change) (w : World) (before plan : Plan) (after : Sides (Option Timer) × ℕ)
     → CanEditAll before.edits.items w → (after_edits before.edits.items w).next_arming ≡ w.next_arming → length change.woken ≤ 2
     → after_orders change.orders (row.timers, w.next_arming) ≡ Ok after

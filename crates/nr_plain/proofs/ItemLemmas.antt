@@ -1,4 +1,4 @@
--- A list with an element changed, and the change undone.
+-- Changing an element of a list, and undoing the change.
 use Rattle.std.proofs.Common.{◌≡◌, ℕ, List, set, Option, Some, None, refl, sym, ap, subst, ◌∙◌}
 use Rattle.std.proofs.lemmas.Option.{unwrap_or-slice_get}
 use Rattle.std.specs.Prelude.{IfSome, option_map, slice_get, unwrap_or}
@@ -27,12 +27,12 @@ module _ {X : Type 0} (change back : X → X) (xs : List X) (place : ℕ) where
       ap (λ (found : Option X). with_item place (option_map back found) (with_changed place change xs)) (changed-here change xs place)
       ∙ returned_as (slice_get xs place) refl returns
 
--- a fact about the changed element, from one about the element
+-- if a property holds after the change of an element, it holds of the changed element
 pub mapped_known : {X Y : Type 0} (change : X → Y) (P : Y → Type 0) (found : Option X) → IfSome found (λ x. P (change x)) → IfSome (option_map change found) P
 mapped_known change P None known = tt
 mapped_known change P (Some x) known = known
 
--- two facts about an element, and their consequence
+-- two facts about an element, if it exists, imply a third
 pub both_known : {X : Type 0} {P Q R : X → Type 0} (found : Option X) → IfSome found P → IfSome found Q → ((x : X) → P x → Q x → R x) → IfSome found R
 both_known None one other follows = tt
 both_known (Some x) one other follows = follows x one other

@@ -1,4 +1,4 @@
--- A lock's number is that of a 64-bit word.
+-- The number that represents a lock fits into a 64-bit word.
 use Rattle.std.proofs.Common.{◌<◌, ◌^◌}
 use Rattle.nr_rev.specs.declared.sides.Side.TheVariants.{Read, Write}
 use Rattle.nr_rev.specs.declared.lock.Lock.{Lock}

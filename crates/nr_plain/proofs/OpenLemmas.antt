@@ -1,4 +1,4 @@
--- The free list's front, and the place of a pushed row.
+-- The first free number, and the index of an appended row.
 use Rattle.std.proofs.Common.{◌≡◌, ℕ, List, [], ◌∷◌, ◌++◌, length, Some, refl}
 use Rattle.std.specs.Prelude.{MatchOption, slice_get}
 

@@ -1,4 +1,4 @@
--- A goroutine that acquires a semaphore has room in its queue.
+-- A semaphore's queue has room for a goroutine that acquires the semaphore.
 use Rattle.std.proofs.Common.{◌≡◌, ℕ, ◌<◌, ◌≤◌, Bool, true, false, List, length, Option, Some, None, refl, sym, ap, ◌∙◌, subst, arith}
 use Rattle.std.proofs.lemmas.Option.{slice_get_within}
 use Rattle.std.specs.Prelude.{Err, IfOk, IfSome, Ok, Result, slice_get}
@@ -27,7 +27,7 @@ bit_le : (b : Bool) → bit b ≤ 1
 bit_le true = omega arith
 bit_le false = omega arith
 
--- a goroutine that acquires has room in the queue
+-- a semaphore's queue has room for a goroutine with the status Acquiring
 pub queue_has_room : (w : World) (g s : ℕ) (side : Side) (socket : Socket) → WellFormed w → slice_get w.goroutines g ≡ Some (Acquiring s side) → slice_get w.sockets s ≡ Some socket
     → length (of_side side socket.semaphores).queue < w.limits.goroutines
 queue_has_room w g s side socket h at there =

@@ -1,4 +1,4 @@
--- The open sockets as contracts see them, after one is opened, changed or closed again.
+-- The table of open sockets after a socket is opened or changed, or its opening is undone.
 use Rattle.std.proofs.Common.{◌≡◌, ℕ, ◌-◌, ◌<◌, ◌≤◌, List, length, length-take, get_or, map, set, take, Option, Some, sym, ap, subst, ◌∙◌, arith}
 use Rattle.std.proofs.Math.Seq.{take-set-lt}
 use Rattle.std.proofs.lemmas.List.{get_or-take, length-map, length-set, length-take-le, map-set, take-map, take-take}
@@ -31,7 +31,7 @@ module _ (all : List RoomedSocket) (opened place : ℕ) (few : opened ≤ length
       ∙ ap (option_map (λ (p : RoomedSocket). p.socket))
       (slice_get_read (take opened all) opened place old (sym (length-take-le opened all few)) within (read ∙ sym (get_or-take opened all place old within)))
 
-  -- so is the socket that replaces it
+  -- the socket that replaces an open socket is in the table
   pub seen_changed : (old new : RoomedSocket) (change : Socket → Socket) → old ≡ get_or all place old → new.socket ≡ change old.socket → seen opened (set all place new) ≡ with_changed place change (seen opened all)
   seen_changed old new change read is =
       ap (map (λ (p : RoomedSocket). p.socket)) (take-set-lt opened all place new within)
@@ -46,11 +46,11 @@ module _ (all : List RoomedSocket) (opened place : ℕ) (few : opened ≤ length
       ∙ ap (λ (sockets : List Socket). record { sockets = sockets; room = length all; queue_room = queue_room; byte_room = byte_room })
       (seen_changed old new change read (ap (λ (p : RoomedSocket). p.socket) is))
 
-  -- a fact about an open socket holds in the table
+  -- a fact about an open socket holds for the socket in the table
   pub known_here : (P : Socket → Type 0) (old : RoomedSocket) → old ≡ get_or all place old → P old.socket → IfSome (slice_get (seen opened all) place) P
   known_here P old read known = subst (λ (o : Option Socket). IfSome o P) (sym (seen_at old read)) known
 
-  -- the change of an open socket, and its undo
+  -- changing an open socket changes the table, and the undo restores it
   pub edited : (queue_room byte_room : ℕ) (old new : RoomedSocket) (edit : SocketEdit) (undo : SocketUndo) → old ≡ get_or all place old → HasRoom queue_room byte_room old → Edits edit undo old new
       → EditsSocket place edit undo (table queue_room byte_room opened all) (table queue_room byte_room opened (set all place new))
   edited queue_room byte_room old new edit undo read room edits =
@@ -68,7 +68,7 @@ module _ (all : List RoomedSocket) (opened place : ℕ) (few : opened ≤ length
         light = edits.light;
       }
 
--- each socket has its room
+-- each socket has the room that the table specifies
 pub room_of : {queue_room byte_room : ℕ} (all : List RoomedSocket) (place : ℕ) (socket : RoomedSocket) → All (HasRoom queue_room byte_room) all → place < length all → socket ≡ get_or all place socket → HasRoom queue_room byte_room socket
 room_of {queue_room} {byte_room} all place socket rooms within read = subst (HasRoom queue_room byte_room) (sym read) (All-get_or (HasRoom queue_room byte_room) all place socket within rooms)
 

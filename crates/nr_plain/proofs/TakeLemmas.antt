@@ -48,7 +48,7 @@ module _ (w : World) (s : ℕ) (side : Side) (bytes : List ℕ) where
   abbrev returning : Socket → Socket
   returning = after_socket_undo (Restore side bytes)
 
-  -- the same for the world
+  -- putting the bytes back into the buffer restores the world
   restored : IfSome (slice_get w.sockets s) (λ (socket : Socket). length (of_side side socket.buffers).bytes ≤ w.limits.buffer)
       → IfSome (slice_get w.sockets s) (λ (socket : Socket). bytes ≡ take (length bytes) (of_side side socket.buffers).bytes)
       → Undoes (undo.Socket s (Restore side bytes)) (after_taking s side (length bytes) w) w
@@ -63,7 +63,7 @@ module _ (w : World) (s : ℕ) (side : Side) (bytes : List ℕ) where
             (sym (changed_back taking returning w.sockets s (IfSome_then (slice_get w.sockets s) back (λ socket undoes. undoes.1)))),
       )
 
--- a delta with the removed bytes leads back
+-- undoing a delta with the removed bytes restores the world
 pub taken_back : (w : World) (s : ℕ) (side : Side) (count : ℕ) (bytes : List ℕ) (delta : PlainDelta)
     → IfSome (slice_get w.sockets s) (λ (socket : Socket). length (of_side side socket.buffers).bytes ≤ w.limits.buffer)
     → IsFrontOf s side count w bytes → delta.undos.items ≡ undo.Socket s (Restore side bytes) ∷ []

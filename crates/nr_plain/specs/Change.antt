@@ -6,7 +6,7 @@ use Rattle.nr_plain.specs.declared.change.PlainChange.{PlainChange}
 use Rattle.nr_plain.specs.declared.change.Followed.{Followed}
 use Rattle.nr_plain.specs.declared.change.Unblocked.{Unblocked}
 
--- the change that a packed one encodes
+-- the change that this Rust type represents
 abbrev pub change_view : PlainChange → Change
 change_view c =
     record {
@@ -15,10 +15,10 @@ change_view c =
       woken = option_to_list c.woken.read ++ option_to_list c.woken.write;
     }
 
--- the change that a packed one with at most one order encodes; it wakes no goroutine
+-- the change with at most one order that this Rust type represents; it wakes no goroutine
 abbrev pub followed_view : Followed → Change
 followed_view f = record { descriptor = f.descriptor; orders = option_to_list f.order; woken = [] }
 
--- the new word, and the goroutines that are woken
+-- the new word and the goroutines that are woken
 abbrev pub unblocked_view : Unblocked → WaitWord × List ℕ
 unblocked_view u = (u.word, option_to_list u.woken)

@@ -8,7 +8,7 @@ use Rattle.nr_rev.specs.World.{World}
 use Rattle.nr_plain.specs.declared.plan.Plan.{Plan}
 use Rattle.nr_plain.specs.Plan.{CanEditAll, after_edits, total_weight}
 
--- the plan after it was extended by this change of descriptor d
+-- true if the plan `after` is `before`, extended by this change of descriptor d
 pub record Continues (d : ℕ) (row : DescriptorRow) (change : Change) (w : World)
     (before after : Plan) : Type 0 where
   pub answer : after.answer ≡ before.answer
@@ -18,7 +18,7 @@ pub record Continues (d : ℕ) (row : DescriptorRow) (change : Change) (w : Worl
   pub light : total_weight after.edits.items ≤ total_weight before.edits.items + 42
   pub few : length after.edits.items ≤ length before.edits.items + 4
 
--- a change was added to the plan, or is refused for the machine's reason
+-- true if the change is added to the plan, or is refused for the machine's reason
 abbrev pub ContinuesOr : ℕ → DescriptorRow → Change → World → Plan → Result Plan Refusal → Type 0
 ContinuesOr d row change w before (Ok after) = Continues d row change w before after
 ContinuesOr d row change w before (Err reason) =

@@ -11,12 +11,12 @@ use Rattle.nr_plain.specs.declared.edit.Undo.{Undo}
 use Rattle.nr_plain.specs.declared.edit.Undo.TheVariants as undo
 use Rattle.nr_plain.specs.SocketEdit.{CanEditSocket, CanUndoSocket, socket_edit_weight, after_socket_edit, after_socket_undo, socket_undo_weight}
 
--- a list with another element at an index, if that index exists
+-- the list with this item, if any, at an index
 abbrev pub with_item : {X : Type 0} → ℕ → Option X → List X → List X
 with_item place None xs = xs
 with_item place (Some x) xs = slice_set xs place x
 
--- the list with the item at a place changed, or the same list if that place doesn't exist
+-- the list with the item at an index changed, or the same list if that index doesn't exist
 abbrev pub with_changed : {X : Type 0} → ℕ → (X → X) → List X → List X
 with_changed place change xs = with_item place (option_map change (slice_get xs place)) xs
 
@@ -59,7 +59,7 @@ after_undo (undo.Clock time) w = record w { clock = time }
 after_undo undo.RemoveFiring w = record w { firings = take (length w.firings - 1) w.firings }
 after_undo (undo.ReturnFiring place entry) w = record w { firings = insert w.firings place entry }
 
--- there is room for what the change adds, and what it removes exists
+-- true if the world has room for what the change adds, and contains what it removes
 abbrev pub CanEdit : Edit → World → Type 0
 CanEdit (edit.Status g status) w = Unit {0}
 CanEdit edit.AddGoroutine w = length w.goroutines < w.limits.goroutines
@@ -77,7 +77,7 @@ CanEdit (edit.Clock time) w = Unit {0}
 CanEdit (edit.AddFiring entry) w = length w.firings < 2 * w.limits.descriptors
 CanEdit (edit.TakeFiring place) w = place < length w.firings
 
--- there is room for what the undo restores
+-- true if the world has room for what the undo restores
 abbrev pub CanUndo : Undo → World → Type 0
 CanUndo (undo.Socket s change) w =
     IfSome (slice_get w.sockets s) (CanUndoSocket w.limits.goroutines w.limits.buffer change)
@@ -86,7 +86,7 @@ CanUndo (undo.ReturnFiring place entry) w =
     (place ≤ length w.firings) × (length w.firings < 2 * w.limits.descriptors)
 CanUndo _ w = Unit {0}
 
--- the undo leads from the new world back to the old one
+-- true if the undo turns the new world back into the old one
 abbrev pub Undoes : Undo → World → World → Type 0
 Undoes undo new old = CanUndo undo new × (old ≡ after_undo undo new)
 

@@ -4,7 +4,7 @@ pub mod Plan
 pub mod Delta
 pub mod Worlds
 pub mod ReversibleLaws
--- inner: what only definitions and proofs of this crate use
+-- inner: used only within this crate
 pub mod SocketTable
 pub mod ListEdit
 pub mod Semaphore

@@ -10,7 +10,7 @@ after_list_edit (edit.ExtendFront items) list = items.now ++ list
 after_list_edit (edit.DropFront count) list = drop count list
 after_list_edit (edit.Truncate count) list = take count list
 
--- there is room for the items that the change adds
+-- true if the list has room for the items that the change adds
 abbrev pub CanEditList : {A : Type 0} → ℕ → ListEdit A → List A → Type 0
 CanEditList room (edit.Extend items) list = length list + length items.now ≤ room
 CanEditList room (edit.ExtendFront items) list = length items.now + length list ≤ room

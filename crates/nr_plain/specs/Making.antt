@@ -18,23 +18,24 @@ use Rattle.nr_plain.specs.Edit.{with_changed}
 use Rattle.nr_plain.specs.Plan.{world_reason}
 use Rattle.nr_plain.specs.SocketEdit.{on_bytes}
 
--- the world after this many bytes left the front of a buffer of socket s
+-- the world after this many bytes leave the front of a buffer of socket s
 abbrev pub after_taking : ℕ → Side → ℕ → World → World
 after_taking s side count w =
     record w { sockets = with_changed s (on_bytes side (λ held. drop count held)) w.sockets }
 
--- these are the first count bytes of a buffer of socket s
+-- true if these bytes are the first `count` bytes of a buffer of socket s
 abbrev pub IsFrontOf : ℕ → Side → ℕ → World → List ℕ → Type 0
 IsFrontOf s side count w bytes =
     (length bytes ≡ count) × IfSome (slice_get w.sockets s)
     (λ (socket : Socket). bytes ≡ take count (of_side side socket.buffers).bytes)
 
--- a delta leads from the new world back to the old one, and has at most this many words
+-- true if undoing the delta turns the new world into the old one, and the delta has at most this
+-- many words
 abbrev pub LeadsBackWithin : ℕ → World → World → PlainDelta → Type 0
 LeadsBackWithin most new old delta = PlainBack delta new old × (delta_weight delta ≤ most)
 
--- A step is applied, and the place stores its undo if it keeps one. Or the step is refused for its
--- reason; or memory ran out while bytes had to be kept.
+-- True if the step is applied, and the place stores its undo if an undo is kept; or if nothing
+-- changes because the step is refused, or because memory runs out for bytes to keep.
 abbrev pub Makes : {Place : Type 0} → Bool → (Place → PlainDelta → Type 0) → Place → Step → World
     → Result Answer Refusal → World → Type 0
 Makes {Place} keeps holds place step old (Ok answer) new =

@@ -6,7 +6,7 @@ use Rattle.nr_rev.specs.Refusing.{◌>>=◌}
 use Rattle.nr_rev.specs.Step.{acquiring_of, status_of}
 use Rattle.nr_rev.specs.World.{World}
 
--- the socket and side whose semaphore a goroutine acquires
+-- the socket and the side whose semaphore a goroutine acquires
 abbrev pub acquiring_by : ℕ → World → Result (ℕ × Side) Refusal
 acquiring_by g w = do
   status ← status_of g w

@@ -23,7 +23,7 @@ socket_with state queues bytes =
       shut = state.shut;
     }
 
--- the state of a socket besides its queues and its bytes
+-- the state of a socket without its queues and its bytes
 abbrev pub state_of : Socket → SocketState
 state_of socket =
     record {
@@ -51,7 +51,7 @@ socket_view p =
       byte_room = p.input.room;
     }
 
--- both queues have the same room, and so have both buffers
+-- true if both queues have the same room, and both buffers have the same room
 pub record HasItsRoom (p : Inside) : Type 0 where
   pub queues : p.write_queue.room ≡ p.read_queue.room
   pub buffers : p.output.room ≡ p.input.room

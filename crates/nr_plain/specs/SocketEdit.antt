@@ -10,7 +10,7 @@ use Rattle.nr_plain.specs.declared.socket_edit.SocketEdit.TheVariants as edit
 use Rattle.nr_plain.specs.declared.socket_edit.SocketUndo.{SocketUndo}
 use Rattle.nr_plain.specs.declared.socket_edit.SocketUndo.TheVariants as undo
 
--- a socket with the semaphore of a side changed
+-- the socket with the semaphore of a side changed
 abbrev pub on_semaphore : Side → (Semaphore → Semaphore) → Socket → Socket
 on_semaphore side change socket =
     record socket {
@@ -18,12 +18,12 @@ on_semaphore side change socket =
           socket.semaphores;
     }
 
--- a socket with the queue of a side changed
+-- the socket with the queue of a side changed
 abbrev pub on_queue : Side → (List ℕ → List ℕ) → Socket → Socket
 on_queue side change socket =
     on_semaphore side (λ semaphore. record semaphore { queue = change semaphore.queue }) socket
 
--- a socket with the bytes of a side changed
+-- the socket with the bytes of a side changed
 abbrev pub on_bytes : Side → (List ℕ → List ℕ) → Socket → Socket
 on_bytes side change socket =
     record socket {
@@ -66,7 +66,7 @@ after_socket_undo (undo.Restore side bytes) socket = on_bytes side (λ held. byt
 after_socket_undo undo.OpenPeer socket = record socket { peer_closed = false }
 after_socket_undo (undo.Shut shut) socket = record socket { shut = shut }
 
--- the change fits into queues and buffers with this much room
+-- true if the change fits into queues and buffers with this much room
 abbrev pub CanEditSocket : ℕ → ℕ → SocketEdit → Socket → Type 0
 CanEditSocket queue_room byte_room (edit.Lock lock) socket = Unit {0}
 CanEditSocket queue_room byte_room (edit.Count side count) socket = Unit {0}
@@ -79,7 +79,7 @@ CanEditSocket queue_room byte_room (edit.Append side bytes) socket =
 CanEditSocket queue_room byte_room edit.ClosePeer socket = socket.peer_closed ≡ false
 CanEditSocket queue_room byte_room (edit.Shut shut) socket = Unit {0}
 
--- what the undo restores fits into queues and buffers with this much room
+-- true if what the undo restores fits into queues and buffers with this much room
 abbrev pub CanUndoSocket : ℕ → ℕ → SocketUndo → Socket → Type 0
 CanUndoSocket queue_room byte_room (undo.Lock lock) socket = Unit {0}
 CanUndoSocket queue_room byte_room (undo.Count side count) socket = Unit {0}
@@ -92,7 +92,7 @@ CanUndoSocket queue_room byte_room (undo.Restore side bytes) socket =
 CanUndoSocket queue_room byte_room undo.OpenPeer socket = Unit {0}
 CanUndoSocket queue_room byte_room (undo.Shut shut) socket = Unit {0}
 
--- the undo leads from the new socket back to the old one
+-- true if the undo turns the new socket back into the old one
 abbrev pub UndoesSocket : ℕ → ℕ → SocketUndo → Socket → Socket → Type 0
 UndoesSocket queue_room byte_room undo new old =
     CanUndoSocket queue_room byte_room undo new × (old ≡ after_socket_undo undo new)

@@ -2,14 +2,13 @@
 use Rattle.std.specs.Prelude.{ℕ, List}
 use Rattle.nr_rev.specs.Socket.{Socket}
 
--- a socket, and the room of its queues and its buffers
+-- a socket with the room of its queues and its buffers
 pub record RoomedSocket : Type 0 where
   pub socket : Socket
   pub queue_room : ℕ
   pub byte_room : ℕ
 
--- the open sockets, the number of sockets for which there is room, and the room of each one's
--- queues and buffers
+-- the open sockets, the maximum number of sockets, and the room of each socket's queues and buffers
 pub record SocketTable : Type 0 where
   pub sockets : List Socket
   pub room : ℕ

@@ -8,7 +8,7 @@ use Rattle.nr_plain.specs.Edit.{with_changed}
 use Rattle.nr_plain.specs.SocketEdit.{CanUndoSocket, UndoesSocket, after_socket_edit, after_socket_undo, socket_edit_weight, socket_undo_weight}
 use Rattle.nr_plain.specs.SocketTable.{RoomedSocket, SocketTable}
 
--- the socket's queues and buffers have this much room
+-- true if the socket's queues and buffers have this much room
 pub record HasRoom (queue_room byte_room : ℕ) (p : RoomedSocket) : Type 0 where
   pub queues : p.queue_room ≡ queue_room
   pub buffers : p.byte_room ≡ byte_room
@@ -23,19 +23,21 @@ table_view t =
       byte_room = t.byte_room;
     }
 
--- no more sockets are open than exist, and each has its room
+-- true if no more sockets are open than exist, and each has its room
 pub record AreRoomed (t : Inside) : Type 0 where
   pub opened : t.opened ≤ length t.all.items
   pub roomed : All (HasRoom t.queue_room t.byte_room) t.all.items
 
--- the change of a socket was made, and this undoes it in as few words as allowed
+-- true if the change was made, and the undo restores the old socket and has at most the allowed
+-- number of words
 pub record Edits (edit : SocketEdit) (undo : SocketUndo) (old new : RoomedSocket) : Type 0 where
   pub after : new ≡ record old { socket = after_socket_edit edit old.socket }
   pub back : UndoesSocket old.queue_room old.byte_room undo
       (after_socket_edit edit old.socket) old.socket
   pub light : socket_undo_weight undo ≤ socket_edit_weight edit
 
--- the change of socket s was made, and this undoes it in as few words as allowed
+-- true if the change of socket s was made, and the undo restores the old table and has at most the
+-- allowed number of words
 pub record EditsSocket (s : ℕ) (edit : SocketEdit) (undo : SocketUndo) (old new : SocketTable) :
     Type 0 where
   pub after : new ≡ record old { sockets = with_changed s (after_socket_edit edit) old.sockets }

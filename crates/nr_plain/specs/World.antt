@@ -21,7 +21,7 @@ world_view p =
       next_arming = p.next_arming;
     }
 
--- the world has the room that its limits allow
+-- true if the world has the room that its limits specify
 pub record HasRooms (p : Inside) : Type 0 where
   pub goroutines : p.goroutines.room ≡ p.limits.goroutines
   pub sockets : p.sockets.room ≡ p.limits.sockets
@@ -32,7 +32,8 @@ pub record HasRooms (p : Inside) : Type 0 where
   pub free : p.free.room ≡ p.limits.descriptors
   pub small : p.limits.descriptors < 2 ^ 32
 
--- the change was made, and this undoes it in as few words as allowed
+-- true if the change was made, and the undo restores the old world and has at most the allowed
+-- number of words
 pub record Performs (edit : Edit) (undo : Undo) (old new : World) : Type 0 where
   pub after : new ≡ after_edit edit old
   pub back : Undoes undo new old

@@ -4,7 +4,7 @@ ghost use Rattle.nr_rev.specs.Socket.{room_of};
 ghost use Rattle.nr_plain.specs.Buffer.{buffer_view};
 ghost use Rattle.std.specs.Prelude.{◌≡◌, ◌^◌, ◌<◌};
 
-/// The bytes of a buffer, and their maximum number.
+/// The bytes of a buffer and their maximum number.
 #[derive(Clone, Copy)]
 pub(crate) struct PlainBuffer<'a> {
     pub(crate) bytes: &'a [u8],

@@ -92,7 +92,7 @@ impl PlainWorld {
         }
     }
 
-    /// Returns a descriptor that was made.
+    /// Returns the descriptor, if it exists.
     pub(crate) fn descriptor(&self, descriptor: u32) -> Option<Descriptor>
         ensures { result
             ≡ option_map (λ (row : Row). row.descriptor)
@@ -105,14 +105,15 @@ impl PlainWorld {
     }
 }
 
-/// What one more waiter for the read lock adds to a lock's word.
+/// The amount that a waiter for the read lock adds to a lock's word.
 const READ_WAITER: u64 = 8_388_608;
 
-/// What one more waiter for the write lock adds to a lock's word.
+/// The amount that a waiter for the write lock adds to a lock's word.
 const WRITE_WAITER: u64 = 8_796_093_022_208;
 
-/// Returns a lock as Go's 64-bit word: bit 0 is closed, bit 1 the read lock, bit 2 the write lock; the references start
-/// at bit 3, the read waiters at 23, the write waiters at 43.
+/// Returns a lock as Go's 64-bit word: bit 0 is the closed mark, bit 1 the read lock and bit 2 the
+/// write lock. The references start at bit 3, the read waiters at bit 23 and the write waiters at
+/// bit 43.
 pub(crate) fn number(lock: Lock) -> u64
     requires { LockFits lock }
     ensures { result ≡ lock_number lock }

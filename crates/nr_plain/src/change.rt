@@ -24,14 +24,14 @@ pub(crate) struct PlainChange {
     pub(crate) woken: Sides<Option<u32>>,
 }
 
-/// A descriptor, and the order to the timer of one side.
+/// A descriptor and the order to the timer of one side, if any.
 #[derive(Clone, Copy)]
 pub(crate) struct Followed {
     pub(crate) descriptor: Descriptor,
     pub(crate) order: Option<TimerOrder>,
 }
 
-/// A word, and the goroutine that it held.
+/// A word and the goroutine that it held, if any.
 #[derive(Clone, Copy)]
 pub(crate) struct Unblocked {
     pub(crate) word: WaitWord,
@@ -115,7 +115,8 @@ fn timer_reset(side: Side, descriptor: Descriptor) -> Followed
     }
 }
 
-/// Returns whether a side's deadline needs a timer of its own. The write deadline needs none under combo.
+/// Returns whether a side's deadline needs a timer of its own. The write deadline needs no timer of
+/// its own under combo.
 fn wants_timer(side: Side, descriptor: Descriptor) -> bool
     ensures { result ≡ spec.wants_timer side descriptor }
 {
@@ -206,8 +207,8 @@ fn both_follow(old: Descriptor, descriptor: Descriptor) -> Result<PlainChange, R
     })
 }
 
-/// Sets a deadline (Go's `poll_runtime_pollSetDeadline`): the timers follow, reading first, and the sides whose
-/// deadline has passed are unblocked.
+/// Sets a deadline (Go's `poll_runtime_pollSetDeadline`): orders the timers anew, reading first,
+/// and unblocks the sides whose deadline has passed.
 pub(crate) fn change_by_deadline(
     clock: i64,
     mode: Mode,
@@ -231,7 +232,7 @@ fn with_deadlines_from(clock: i64, mode: Mode, time: i64, descriptor: Descriptor
     with_deadlines(mode, deadline_from(clock, time), descriptor)
 }
 
-/// Returns an order to stop a side's timer, if it runs.
+/// Returns an order to stop a side's timer, if the timer is running.
 fn stop_if(running: bool, side: Side) -> Option<TimerOrder>
     ensures { option_to_list result ≡ spec.stop_if running side }
 {
@@ -242,8 +243,8 @@ fn stop_if(running: bool, side: Side) -> Option<TimerOrder>
     }
 }
 
-/// Evicts a descriptor (Go's `poll_runtime_pollUnblock`): it is closing, its timers are stopped, and both sides are
-/// unblocked.
+/// Evicts a descriptor (Go's `poll_runtime_pollUnblock`): marks it as closing, stops its timers,
+/// and unblocks both sides.
 pub(crate) fn change_by_evict(descriptor: Descriptor) -> Result<PlainChange, Refusal>
     ensures { Gives change_view result (spec.change_by_evict descriptor) }
 {

@@ -1,5 +1,5 @@
-//! The common part of steps that change a descriptor with its timers: the orders to its timers are carried out, and the
-//! woken goroutines continue.
+//! The common part of steps that change a descriptor with its timers: carrying out timer orders and
+//! waking goroutines.
 
 ghost use Rattle.std.specs.Prelude.{◌≡◌, ◌++◌, ◌≤◌, [], length, map, option_to_list};
 ghost use Rattle.nr_rev.specs.Step as step;
@@ -43,7 +43,7 @@ impl PlainWorld {
     }
 }
 
-/// Returns the timers after an order, if there is one, and the next arming number.
+/// Returns the timers after an order, if any, and the next arming number.
 fn after_order(
     order: Option<TimerOrder>,
     timers: Sides<Option<Timer>>,

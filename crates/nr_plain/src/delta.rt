@@ -7,7 +7,7 @@ use crate::plan::MOST_EDITS;
 use arrayvec::ArrayVec;
 use nr_rev::Keeper;
 
-/// The maximum number of words in a delta, besides the bytes that left a buffer.
+/// The maximum number of words in a delta, not counting the bytes that left a buffer.
 pub(crate) const MOST_WORDS: u32 = 64;
 
 /// The data that undoes a step: the undos of its changes, in the order in which they were made.
@@ -35,7 +35,7 @@ impl PlainDelta {
     }
 }
 
-/// A delta can store a delta.
+/// A delta can serve as the place that stores a step's delta.
 impl Keeper<PlainDelta> for PlainDelta {
     ghost use Rattle.std.specs.Prelude.{◌≡◌, true};
 

@@ -50,7 +50,7 @@ impl PlainWorld {
         )
     }
 
-    /// Returns the front of the free list, if there is one.
+    /// Returns the first number in the free list, if any.
     #[tactic(auto, using(crate::proofs::OpenLemmas::front_or_none))]
     fn front_free(&self) -> Option<u32>
         ensures { MatchOption result (self.now.free ≡ [])

@@ -36,7 +36,7 @@ pub(crate) enum Edit<'a> {
     GiveFree {
         descriptor: u32,
     },
-    /// Lets a goroutine that a word held continue.
+    /// Wakes a goroutine that a word held.
     Wake {
         goroutine: u32,
     },

@@ -1,4 +1,4 @@
-//! The steps that make goroutines and end them.
+//! The steps that start and end goroutines.
 
 ghost use Rattle.nr_rev.specs.declared.step.Step.TheVariants as steps;
 ghost use Rattle.nr_plain.specs.Plan.{Plans};

@@ -1,4 +1,4 @@
-//! The model machine over lists: the first representation of a world.
+//! A machine over lists, the simplest representation of a world.
 #![tactic(auto)]
 
 mod apply;

@@ -1,4 +1,4 @@
-//! The changes of a list, and making them.
+//! The changes of a list, and how they are made.
 
 ghost use Rattle.std.specs.Prelude.{◌≡◌, ◌≤◌, length};
 ghost use Rattle.nr_plain.specs.ListEdit.{CanEditList, after_list_edit};
@@ -12,9 +12,9 @@ pub(crate) enum ListEdit<'a, T> {
     Extend(&'a [T]),
     /// Prepends items.
     ExtendFront(&'a [T]),
-    /// Removes this many items from the front, or all if there are fewer.
+    /// Removes this many items from the front, or all items if the list has fewer.
     DropFront(usize),
-    /// Keeps this many items at the front, or all if there are fewer.
+    /// Keeps this many items at the front, or all items if the list has fewer.
     Truncate(usize),
 }
 

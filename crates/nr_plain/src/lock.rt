@@ -1,5 +1,5 @@
-//! The operations of a lock, after `internal/poll/fd_mutex.go`: on the fields of the word that Go changes by
-//! compare-and-swap. If Go panics, the operation is refused.
+//! The operations of a lock, after `internal/poll/fd_mutex.go`. They change the fields of the word
+//! that Go changes by compare-and-swap. If Go panics, the operation is refused.
 
 ghost use Rattle.std.specs.Prelude.{◌≡◌};
 ghost use Rattle.nr_rev.specs.Lock as spec;
@@ -21,7 +21,7 @@ pub(crate) fn open_lock() -> Lock
     }
 }
 
-/// Returns the answer with no release owed.
+/// Returns the outcome with this answer, in which no release is owed.
 fn answered(answer: Answer, lock: Lock) -> LockOutcome
     ensures { result ≡ spec.answered answer lock }
 {
@@ -42,7 +42,8 @@ fn raised_field(count: u32) -> Result<u32, Refusal>
     Ok(count + 1)
 }
 
-/// Returns the answer after a reference was released: `Last` if the lock is closed and no reference is left.
+/// Returns the answer after a reference is released: `Last` if the lock is closed and no reference
+/// is left.
 fn last_of(lock: Lock) -> Answer
     ensures { result ≡ spec.last_of lock }
 {
@@ -122,8 +123,8 @@ pub(crate) fn rw_lock(side: Side, lock: Lock) -> Result<LockOutcome, Refusal>
     ))
 }
 
-/// Unlocks a side and releases its reference, and owes a release to one waiter of that side, if it has any (Go's
-/// `rwunlock`).
+/// Unlocks a side, releases its reference, and owes a release to one of the side's waiters, if any
+/// (Go's `rwunlock`).
 pub(crate) fn rw_unlock(side: Side, lock: Lock) -> Result<LockOutcome, Refusal>
     ensures { result ≡ spec.rw_unlock side lock }
 {

@@ -9,7 +9,7 @@ use nr_rev::Answer;
 /// The maximum number of changes in a step.
 pub(crate) const MOST_EDITS: usize = 5;
 
-/// An answer, and the changes to make for it, in order.
+/// A step's answer, and the changes to make, in order.
 #[derive(Drop)]
 pub(crate) struct Plan<'a> {
     pub(crate) answer: Answer,

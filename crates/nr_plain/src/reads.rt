@@ -1,4 +1,4 @@
-//! What plans read of a world, and the reasons if it doesn't exist.
+//! What plans read from a world, and the reasons for which reading fails.
 
 ghost use Rattle.std.specs.Prelude.{◌≡◌, Some, None, MatchResult, slice_get};
 ghost use Rattle.nr_rev.specs.declared.refusal.Refusal.TheVariants.{NoSuchSocket};
@@ -10,7 +10,7 @@ use crate::world::PlainWorld;
 use nr_rev::{DescriptorRow, Refusal, Side, Status};
 
 impl PlainWorld {
-    /// Returns the status of a goroutine that was made and hasn't ended.
+    /// Returns the status of a goroutine that exists and hasn't ended.
     pub(crate) fn status_of(&self, goroutine: u32) -> Result<Status, Refusal>
         ensures { result ≡ step.status_of goroutine self.now }
     {
@@ -49,7 +49,7 @@ impl PlainWorld {
         Ok(())
     }
 
-    /// Returns a descriptor that was made, with its timers.
+    /// Returns a descriptor that exists, with its timers.
     pub(crate) fn row_in(&self, descriptor: u32) -> Result<DescriptorRow, Refusal>
         ensures { result ≡ step.row_of descriptor self.now }
     {
@@ -75,7 +75,7 @@ impl PlainWorld {
         self.free.as_slice().iter().any(|free| descriptor == *free)
     }
 
-    /// Returns whether a goroutine is inside a wait at the descriptor's side.
+    /// Returns whether a goroutine is inside a wait for this side of the descriptor.
     pub(crate) fn is_waited(&self, descriptor: u32, side: Side) -> bool
         ensures { result ≡ is_waited descriptor side self.now.goroutines }
     {

@@ -1,6 +1,6 @@
 //! The view of a semaphore: a count and a queue.
 
-/// A count, and the waiting goroutines, front first.
+/// A count and the waiting goroutines, from the front of the queue on.
 #[derive(Clone, Copy)]
 pub(crate) struct PlainSemaphore<'a> {
     pub(crate) count: u32,

@@ -17,7 +17,7 @@ use nr_rev::{Lock, Memory, RoomedList, Side, Sides};
 use std::alloc::Global;
 use std::marker::Model;
 
-/// The state of a socket besides its queues and its bytes.
+/// The state of a socket without its queues and its bytes.
 #[derive(Clone, Copy)]
 pub(crate) struct SocketState {
     pub(crate) lock: Lock,
@@ -46,7 +46,7 @@ impl SocketState {
     }
 }
 
-/// A socket. Its queues have the same room, and so have its buffers.
+/// A socket. Both queues have the same room, and both buffers have the same room.
 #[derive(Drop)]
 pub(crate) struct PlainSocket {
     pub(crate) state: SocketState,
@@ -69,8 +69,8 @@ impl Model for PlainSocket {
 }
 
 impl PlainSocket {
-    /// Makes a new socket with buffers of no capacity, and room for this many goroutines and bytes. Fails with `Memory`
-    /// if memory runs out.
+    /// Makes a new socket with buffers of capacity 0, and with room for this many goroutines and
+    /// bytes. Fails with `Memory` if memory runs out.
     pub(crate) fn with_room(
         alloc: Global,
         queue_room: usize,
@@ -91,7 +91,7 @@ impl PlainSocket {
         })
     }
 
-    /// Returns an equal socket, in memory of its own. Fails with `Memory` if memory runs out.
+    /// Returns an equal socket with memory of its own. Fails with `Memory` if memory runs out.
     pub(crate) fn try_copy(&self, alloc: Global) -> Result<PlainSocket, Memory>
         ensures { IfOk result (λ p. p ≡ self.now) }
     {
@@ -117,7 +117,7 @@ impl PlainSocket {
         self.output.copy_from(&other.output);
     }
 
-    /// Resets this to a new socket with buffers of these capacities.
+    /// Resets this socket to a new one with buffers of these capacities.
     pub(crate) fn renew(&mut self, read_capacity: u32, write_capacity: u32)
         ensures { self.new ≡ record self.old {
           socket = new_socket read_capacity write_capacity;
@@ -130,7 +130,7 @@ impl PlainSocket {
         self.output.truncate(0);
     }
 
-    /// Returns the state besides queues and bytes.
+    /// Returns the state without queues and bytes.
     pub(crate) fn state(&self) -> SocketState
         ensures { result ≡ state_of self.now.socket }
     {
@@ -152,7 +152,7 @@ impl PlainSocket {
         }
     }
 
-    /// Returns the buffer of a side; the read side's is the input.
+    /// Returns the buffer of a side, which is the input for the read side.
     pub(crate) fn buffer(&self, side: Side) -> PlainBuffer<'_>
         ensures viewed { buffer_view result ≡ of_side side self.now.socket.buffers }
         ensures short { length result.bytes.now ≤ self.now.byte_room }

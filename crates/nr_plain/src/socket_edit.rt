@@ -11,7 +11,7 @@ pub(crate) enum SocketEdit<'a> {
     Count { side: Side, count: u32 },
     /// Appends a goroutine to a semaphore's queue.
     Enqueue { side: Side, goroutine: u32 },
-    /// Increases a semaphore's count, and removes the front of its queue.
+    /// Increases a semaphore's count, and removes the first goroutine from its queue.
     Release { side: Side },
     /// Appends bytes to a buffer.
     Append { side: Side, bytes: &'a [u8] },
@@ -26,9 +26,9 @@ pub(crate) enum SocketEdit<'a> {
 pub enum SocketUndo {
     Lock(Lock),
     Count { side: Side, count: u32 },
-    /// Removes the back of the queue.
+    /// Removes the last goroutine from the queue.
     LeaveQueue { side: Side },
-    /// Decreases the count, and puts the former front back into the queue.
+    /// Decreases the count, and puts a goroutine back at the front of the queue.
     Requeue { side: Side, front: Option<u32> },
     /// Keeps only this many bytes in the buffer.
     Cut { side: Side, len: usize },

@@ -35,8 +35,8 @@ impl Model for Sockets {
 }
 
 impl Sockets {
-    /// Makes a table without open sockets, with room for this many, and for this many goroutines and bytes in each.
-    /// Fails with `Memory` if memory runs out.
+    /// Makes a table without open sockets, with room for this many sockets, and with room for this
+    /// many goroutines and bytes in each socket. Fails with `Memory` if memory runs out.
     pub(crate) fn with_room(
         alloc: Global,
         room: u32,
@@ -62,7 +62,7 @@ impl Sockets {
         })
     }
 
-    /// Returns an equal table, in memory of its own. Fails with `Memory` if memory runs out.
+    /// Returns an equal table with memory of its own. Fails with `Memory` if memory runs out.
     pub(crate) fn try_copy(&self, alloc: Global) -> Result<Sockets, Memory>
         ensures { IfOk result (λ s. s ≡ self.now) }
     {

@@ -78,7 +78,7 @@ impl PlainWorld {
     }
 }
 
-/// Returns the least entry of these rows, the first of which is descriptor 0.
+/// Returns the least entry of these rows, the first of which is that of descriptor 0.
 fn least_of_rows(rows: &[DescriptorRow]) -> Option<Entry>
     requires { length rows.now < 2 ^ 32 }
     ensures { result ≡ least_of (world.entries_of rows.now) }
@@ -94,7 +94,7 @@ fn least_of_rows(rows: &[DescriptorRow]) -> Option<Entry>
     least
 }
 
-/// Returns the earlier of a timer, if there is one, and an entry.
+/// Returns the earlier one of a timer, if any, and an entry, if any.
 fn earlier(descriptor: u32, side: Side, timer: Option<Timer>, least: Option<Entry>) -> Option<Entry>
     ensures { (entries : List Entry) → least ≡ least_of entries
         → result ≡ least_of (entry_of descriptor side timer ++ entries) }

@@ -113,8 +113,8 @@ impl PlainWorld {
     }
 }
 
-/// The steps that remove bytes from a buffer. Only these allocate memory, for a copy of the bytes, and none if no undo
-/// is kept.
+/// The steps that remove bytes from a buffer. Only these steps allocate memory, for a copy of the
+/// bytes, and only if an undo is kept.
 impl PlainWorld {
     /// Applies a `sysread`, and stores its undo.
     pub(crate) fn sysread<K: Keeper<PlainDelta>>(
@@ -182,8 +182,8 @@ impl PlainWorld {
     }
 }
 
-/// Returns a copy of this many bytes at the front if an undo is kept; otherwise returns an empty copy, which isn't
-/// read. Fails with `Memory` if memory runs out.
+/// Returns a copy of this many bytes from the front if an undo is kept. Otherwise returns an empty
+/// copy, which isn't used. Fails with `Memory` if memory runs out.
 fn kept_front<K: Keeper<PlainDelta>>(
     alloc: Global,
     bytes: &[u8],
@@ -200,7 +200,7 @@ fn kept_front<K: Keeper<PlainDelta>>(
     }
 }
 
-/// Returns the answer of a `sysread` that got this many bytes.
+/// Returns the answer of a `sysread` that read this many bytes.
 fn read_answer(count: u32, peer_closed: bool) -> Answer
     ensures { result ≡ step.read_answer count peer_closed }
 {
@@ -213,7 +213,7 @@ fn read_answer(count: u32, peer_closed: bool) -> Answer
     }
 }
 
-/// Returns the bytes for which there is room, or none if the write side is shut.
+/// Returns the bytes for which the buffer has room, or none if the write side is shut.
 fn writable<'a>(shut: bool, buffer: PlainBuffer, bytes: &'a [u8]) -> &'a [u8]
     ensures bytes { result.now
         ≡ take (min (output_room shut (buffer_view buffer.entry)) (length bytes.now)) bytes.now }
@@ -226,7 +226,7 @@ fn writable<'a>(shut: bool, buffer: PlainBuffer, bytes: &'a [u8]) -> &'a [u8]
     &bytes[..count]
 }
 
-/// Returns the answer of a `syswrite` that put this many bytes.
+/// Returns the answer of a `syswrite` that wrote this many bytes.
 fn write_answer(count: u32, shut: bool) -> Answer
     ensures { result ≡ step.write_answer count shut }
 {

@@ -1,5 +1,5 @@
-//! The steps of a wait at a descriptor's side: Go's `poll_runtime_pollReset`, `poll_runtime_pollWait`, `netpollblock`
-//! and `netpollblockcommit`.
+//! The steps of a wait for a descriptor's side: Go's `poll_runtime_pollReset`,
+//! `poll_runtime_pollWait`, `netpollblock` and `netpollblockcommit`.
 
 ghost use Rattle.std.specs.Prelude.{◌≡◌, ◌+◌, ◌∷◌, []};
 ghost use Rattle.nr_rev.specs.declared.step.Step.TheVariants as steps;
@@ -129,8 +129,8 @@ impl PlainWorld {
         }
     }
 
-    /// Returns the count of waiters plus one. A well-formed world has at most two waiters per descriptor, so `min`
-    /// changes nothing; it makes clear that the sum fits.
+    /// Returns the count of waiters plus one. A well-formed world has at most two waiters per
+    /// descriptor, so `min` changes nothing. It only shows that the sum fits.
     #[tactic(auto, using(nr_laws::proofs::WaitersLemmas::waiters_within))]
     fn one_waiter_more(&self) -> u64
         requires { WellFormed self.now }

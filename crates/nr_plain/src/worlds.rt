@@ -1,4 +1,4 @@
-//! `Worlds` for the world over lists.
+//! Implements `Worlds` for the world over lists.
 
 ghost use Rattle.std.specs.Prelude.{◌≡◌, ◌<◌, length, IfOk, OnErr};
 
@@ -28,7 +28,7 @@ fn copy_of<T: Copy + Drop>(alloc: Global, items: &[T]) -> Result<Vec<T>, Memory>
 impl Worlds for PlainWorld {
     ghost use Rattle.nr_plain.specs.Worlds.{meant, steps_are, reasons_are, memory_is_for_bytes, bytes_out_are, means_well_formed};
 
-    /// This world is only for tests: a snapshot is a whole world.
+    /// A snapshot is a whole world, because this world is only used in tests.
     type Snapshot = PlainWorld;
 
     ghost world = { meant };

@@ -1,4 +1,4 @@
--- the number of armed timers in the rows from number d on
+-- the number of armed timers in the rows from row d on
 use Rattle.std.proofs.Common.{◌≡◌, ◌≤◌, ◌*◌, ◌-◌, length, map, drop}
 use Rattle.nr_rev.specs.Timer.{entries_from}
 use Rattle.nr_plain.proofs.cells.armed_in.Given as goal

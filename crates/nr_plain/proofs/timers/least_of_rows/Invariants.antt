@@ -1,4 +1,4 @@
--- the least of the rows from number d on
+-- the least entry of the rows from row d on
 use Rattle.std.proofs.Common.{◌≡◌, ◌≤◌, length, map, drop}
 use Rattle.nr_rev.specs.Timer.{entries_from, least_of}
 use Rattle.nr_plain.proofs.timers.least_of_rows.Given as goal

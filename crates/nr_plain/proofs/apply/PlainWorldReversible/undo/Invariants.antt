@@ -1,4 +1,4 @@
--- the remaining undos lead to the state to which all undos lead
+-- applying the remaining undos restores the old world
 use Rattle.std.proofs.Common.{length}
 use Rattle.nr_rev.specs.Transaction.{LeadsBack}
 use Rattle.nr_rev.specs.World.{World}
