@@ -20,8 +20,8 @@ PAGE = "docs/proof/THEOREM.md"
 HEADING = "## Reading list"
 # other places that have the numbers in their text
 PAGES = (PAGE, "docs/proof/TRUSTED.md")
-# the heading in a crate's specs/Lib.antt for the files that the laws rest on
-BELIEVED = "-- what the laws of THEOREM.md rest on, whole files"
+# the heading in a crate's specs/Lib.antt for the files with definitions that the laws use
+BELIEVED = "-- files with the definitions that the laws in THEOREM.md use"
 LISTED = re.compile(r"pub mod (\w+)")
 IN_WORDS = re.compile(r"([\d,]+) definitions in ([\d,]+) lines")
 

@@ -1,7 +1,7 @@
--- what the laws of THEOREM.md rest on, whole files
+-- files with the definitions that the laws in THEOREM.md use
 pub mod Table
 pub mod Applying
--- what callers need besides
+-- more for callers
 pub mod Step
 pub mod Delta
 pub mod Worked

@@ -1,6 +1,6 @@
--- what the laws of THEOREM.md rest on, whole files
+-- files with the definitions that the laws in THEOREM.md use
 pub mod Rule
--- what callers need besides
+-- more for callers
 pub mod Pass
 pub mod Seat
 pub mod Laws

@@ -1,4 +1,4 @@
--- what the laws of THEOREM.md rest on, whole files
+-- files with the definitions that the laws in THEOREM.md use
 pub mod Kind
 pub mod Limits
 pub mod Sides
@@ -16,7 +16,7 @@ pub mod Run
 pub mod WellFormed
 pub mod Reversible
 pub mod Worlds
--- what callers need besides: contracts cite it, of other crates or of this crate's public functions
+-- more for callers: contracts of this crate and of others cite these
 pub mod RoomedList
 pub mod Aspect
 pub mod Transaction

@@ -1,4 +1,4 @@
--- what the laws of THEOREM.md rest on, whole files
+-- files with the definitions that the laws in THEOREM.md use
 pub mod Nearest
 -- inner: used only within this crate
 pub mod Known

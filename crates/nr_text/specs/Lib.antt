@@ -1,8 +1,8 @@
--- what the laws of THEOREM.md rest on, whole files
+-- files with the definitions that the laws in THEOREM.md use
 pub mod Streams
 pub mod Moments
 pub mod Text
--- what callers need besides
+-- more for callers
 pub mod Buffered
 -- inner: used only within this crate
 pub mod Calls

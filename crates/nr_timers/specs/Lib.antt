@@ -1,4 +1,4 @@
--- what the laws of THEOREM.md rest on, whole files
+-- files with the definitions that the laws in THEOREM.md use
 pub mod Order
 pub mod PathToRoot
 pub mod Index
@@ -6,7 +6,7 @@ pub mod TimersOf
 pub mod State
 pub mod Step
 pub mod Change
--- what callers need besides
+-- more for callers
 pub mod Back
 pub mod ReversibleLaws
 -- inner: used only within this crate
