@@ -1,5 +1,5 @@
 -- files with the definitions that the laws in THEOREM.md use
 pub mod Changes
--- what callers need as well: contracts of other crates or public functions of this crate cite it
+-- more for callers: contracts of other crates and public functions of this crate cite these
 pub mod Touched
 pub mod Changed

@@ -8,7 +8,7 @@ pub mod Sockets
 pub mod Rows
 pub mod Changing
 pub mod Asked
--- what callers need as well
+-- more for callers
 pub mod Delta
 pub mod DeltaLaws
 pub mod ReversibleLaws

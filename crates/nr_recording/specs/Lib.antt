@@ -10,7 +10,7 @@ pub mod Arguments
 pub mod Shapes
 pub mod Steps
 pub mod Header
--- what callers need as well
+-- more for callers
 pub mod Writing
 -- inner: used only within this crate
 pub mod Part

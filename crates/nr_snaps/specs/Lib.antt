@@ -1,7 +1,7 @@
 -- files with the definitions that the laws in THEOREM.md use
 pub mod Answers
 pub mod Fault
--- what callers need as well
+-- more for callers
 pub mod Film
 -- inner: used only within this crate
 pub mod Replay
