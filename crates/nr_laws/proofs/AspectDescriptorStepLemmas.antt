@@ -147,7 +147,7 @@ waitcheck_changes w g =
 -- ---- changes of a descriptor with its timers
 
 -- a change modifies only these aspects of the descriptor, and has timer orders only if Timers is
--- one
+-- among them
 pub record ChangeLeaves (aspects : List Aspect) (old : Descriptor) (change : Change) : Type 0 where
   pub descriptor : DescriptorLeaves aspects old change.descriptor
   pub orders : is_among aspects Timers ≡ false → change.orders ≡ []

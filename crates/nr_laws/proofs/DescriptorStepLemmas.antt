@@ -33,7 +33,7 @@ use Rattle.nr_rev.proofs.OutcomeLemmas.{Ends, Keeps, BothRaised, Ends-ok, Ends-m
 use Rattle.nr_laws.proofs.FreeNumberLemmas.{uncounted, free_cases}
 use Rattle.nr_laws.proofs.DescriptorTakenLemmas.{DescriptorTaken, Ends-taken}
 
--- the running timers are stopped, and there are no others
+-- the running timers are stopped, and no other timers exist
 Ends-stopped : (r c : Bool) (before : Sides (Option Timer)) (n : ℕ) → (r ≡ false → before.read ≡ None) → (c ≡ false → before.write ≡ None)
     → Ends (λ left. ((side : Side) → of_side side left.0 ≡ None) × (n ≡ left.1)) (after_orders (stop_if r Read ++ stop_if c Write) (before, n))
 Ends-stopped true true before n read write = Ends-ok (each_side _ refl refl, refl)

@@ -1,4 +1,5 @@
--- Each step keeps a world well formed, or is refused for a reason that a well-formed world may give.
+-- Each step keeps a world well formed, or is refused for a reason that can occur in a well-formed
+-- world.
 use Rattle.std.proofs.Common.{◌≡◌, Ok, ◌≢◌, Err, true≢false}
 use Rattle.nr_rev.specs.declared.answer.Answer.{Answer}
 use Rattle.nr_rev.specs.World.{World}

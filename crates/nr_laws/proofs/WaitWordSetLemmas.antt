@@ -39,7 +39,7 @@ held_sum rows d row side old new at is =
     let more = held_change side row old new is in
     omega arith
 
--- a word that holds no goroutine isn't one that holds k
+-- a word that holds no goroutine doesn't hold k
 pub unheld : (word : WaitWord) (k : ℕ) → is_held word ≡ false → word ≢ Held k
 unheld word k none same = true≢false (sym (ap is_held same) ∙ none)
 
@@ -151,7 +151,7 @@ pub word_has : (w : World) (d : ℕ) (side : Side) (row : DescriptorRow) (word :
     → HasWaitWord w.descriptors d side word
 word_has w d side row word at is = ap (option_map (λ (r : DescriptorRow). of_side side r.descriptor.words)) at ∙ ap Some is
 
--- a word that holds a goroutine holds the one inside the wait, which is parked
+-- if a word holds a goroutine, it is the goroutine inside the wait, and is parked
 held_alone : (w : World) (g k d : ℕ) (side : Side) → WellFormed w → IsInside w.goroutines g d side → HasWaitWord w.descriptors d side (Held k) → slice_get w.goroutines g ≡ Some (Parked d side)
 held_alone w g k d side h inside has =
     let at : slice_get w.goroutines k ≡ Some (Parked d side) = parked_at w.goroutines k d side ((h.words.held k d side).0 has) in

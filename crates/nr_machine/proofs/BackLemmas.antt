@@ -12,7 +12,7 @@ pub then_next : {S : Type 0} (first next : S → S → Type 0) → LeadsToOne fi
 then_next {S} first next one new mid both made =
     let same : both.1.0 ≡ mid = one new both.1.0 mid both.1.1 made in (both.0, subst (λ (m : S). next m both.0) same both.1.2)
 
--- undoing applies to equal undos and equal parts
+-- if an undo can be applied to parts, an equal undo can be applied to equal parts
 pub of_undo : (undo v : WorldUndo) (m new : WorldParts) → undo ≡ v → m ≡ new → (old : WorldParts) × UndoBack undo new old → (old : WorldParts) × UndoBack v m old
 of_undo undo v m new is view back =
     subst (λ (n : WorldParts). (old : WorldParts) × UndoBack v n old) (sym view) (subst (λ (u : WorldUndo). (old : WorldParts) × UndoBack u new old) is back)

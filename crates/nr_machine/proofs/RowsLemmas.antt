@@ -22,12 +22,12 @@ use Rattle.nr_machine.proofs.NumberedLemmas.{length-numbered, numbered_past, num
 abbrev pub row_with : WorldParts → ℕ → Descriptor → DescriptorRow
 row_with m d x = row_of x (timers_of m.core.timers.entries d)
 
--- the row of a descriptor that was made
+-- the row of a descriptor that exists
 pub row_at : (descriptors : List Descriptor) (entries : List Entry) (d : ℕ) (x : Descriptor) → slice_get descriptors d ≡ Some x
     → slice_get (rows_of descriptors entries) d ≡ Some (row_of x (timers_of entries d))
 row_at descriptors entries d x at = numbered_at row_of 0 d d descriptors (timers_of entries) x (omega arith) at
 
--- a descriptor that wasn't made has no row
+-- a descriptor that doesn't exist has no row
 pub row_past : (descriptors : List Descriptor) (entries : List Entry) (d : ℕ) → slice_get descriptors d ≡ None
     → slice_get (rows_of descriptors entries) d ≡ None
 row_past descriptors entries d at = numbered_past row_of 0 d descriptors (timers_of entries) at

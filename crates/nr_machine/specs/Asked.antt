@@ -1,5 +1,5 @@
--- The operations on the timers that steps request, because the represented world doesn't show
--- places in the heap.
+-- The operations on the timers that steps request. They determine the timers' places in the heap,
+-- which the represented world doesn't show.
 use Rattle.std.specs.Prelude.{◌≡◌, ℕ, List, [], ◌∷◌, map, Ok, Err}
 use Rattle.nr_rev.specs.declared.step.Step.{Step}
 use Rattle.nr_rev.specs.declared.step.Step.TheVariants as step

@@ -26,11 +26,11 @@ use Rattle.nr_machine.specs.Auxiliary.Changing.{DescBack, GoroutineBack, IfAny, 
 use Rattle.nr_machine.specs.Delta.{AddBack, GiveBack, MadeBack, ObeyBack, OfCore, ParkBack, SockBack, TakeBack, UndoBack, WokenBack, WorldBack}
 use Rattle.nr_machine.specs.World.{WorldParts}
 
--- true if undoing a state has only one result
+-- true if undoing has only one result for each state
 abbrev pub LeadsToOne : {S : Type 0} → (S → S → Type 0) → Type 0
 LeadsToOne {S} back = (new a b : S) → back new a → back new b → a ≡ b
 
--- two undos with only one result each, one after another, have only one result
+-- if two undos have only one result each, so does their sequence
 then_one : {S : Type 0} (first next : S → S → Type 0) → LeadsToOne first → LeadsToOne next
     → LeadsToOne (Then first next)
 then_one {S} first next one two new a b x y =

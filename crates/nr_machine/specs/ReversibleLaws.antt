@@ -19,7 +19,7 @@ use Rattle.nr_machine.specs.SameLaws.{same_parts}
 use Rattle.nr_machine.specs.Step.{StepTo}
 use Rattle.nr_machine.specs.World.{WorldParts, meant}
 
--- a step for which there is a reason doesn't apply
+-- a step that has a reason for refusal doesn't apply
 pub refused_has_no_step : (old : WorldParts) (step : Step) (e : Refusal) (answer : Answer)
     (new : WorldParts) → parts_reason old step ≡ Some e → StepTo old step answer new → ⊥
 refused_has_no_step old step e answer new reason is =
@@ -49,7 +49,7 @@ steps_unique old step a b new other p q =
 pub weight_is_within : (step : Step) → MOST_WORDS ≤ MOST_WORDS
 weight_is_within step = lit≤ tt
 
--- an outcome with a reason is that refusal
+-- an outcome that has a reason for refusal is that refusal
 refused_for : (o : Outcome) (e : Refusal) → refusal_of o ≡ Some e → ◌≡◌ {A = Outcome} o (Err e)
 refused_for (Ok left) e is = cc
 refused_for (Err reason) e is = cc

@@ -165,7 +165,7 @@ impl Core {
         }
     }
 
-    /// Carries out an order to the timer of a side, if there is one.
+    /// Carries out the order to the timer of a side, if any.
     #[inline(always)]
     fn obey_one(
         &mut self,
@@ -202,7 +202,7 @@ impl Core {
         self.wake_any(woken.write, descriptor, Side::Write);
     }
 
-    /// Wakes the goroutine of a side, if there is one.
+    /// Wakes the goroutine of a side, if any.
     #[inline(always)]
     fn wake_any(&mut self, woken: Option<u32>, descriptor: u32, side: Side)
         requires there { IfSome woken (λ g. (slice_get self.old.goroutines.goroutines g

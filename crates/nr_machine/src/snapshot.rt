@@ -12,7 +12,7 @@ use std::alloc::Global;
 use std::marker::Model;
 
 /// A snapshot of a packed world. Contracts see it as the core and the bytes in the buffers, as they
-/// see the world. It stores only the number of sockets after the last opened one, not the sockets.
+/// see the world. It stores the sockets up to the last opened one, and only counts the rest.
 #[derive(Drop)]
 pub struct WorldSnapshot {
     pub(crate) alloc: Global,

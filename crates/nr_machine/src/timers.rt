@@ -1,4 +1,5 @@
-//! The steps of the clock and of timers: the clock advances, a due timer goes off, a firing is run.
+//! The steps of the clock and of timers: advancing the clock, popping a due timer and running a
+//! firing.
 
 ghost use Rattle.std.specs.Prelude.{◌∷◌, []};
 ghost use Rattle.nr_rev.specs.Step as step;

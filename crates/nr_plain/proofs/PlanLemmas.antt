@@ -1,4 +1,4 @@
--- Making a plan's changes has the step's outcome, and the world remains well-formed.
+-- Making a plan's changes produces the step's outcome, and the world remains well-formed.
 use Rattle.std.proofs.Common.{◌≡◌, ◌≤◌, Bool, Result, Ok, Err, arith, sym, subst}
 use Rattle.nr_rev.specs.declared.refusal.Refusal.{Refusal}
 use Rattle.nr_rev.specs.declared.step.Step.{Step}

@@ -34,7 +34,7 @@ steps_unique old step a b new other p q = same_parts a b new other (sym p ∙ q)
 pub weight_is_within : (step : Step) → MOST_WORDS ≤ MOST_WORDS
 weight_is_within step = lit≤ tt
 
--- an outcome with a reason is that refusal
+-- an outcome that has a reason for refusal is that refusal
 refused_for : (o : Outcome) (e : Refusal) → refusal_of o ≡ Some e → ◌≡◌ {A = Outcome} o (Err e)
 refused_for (Ok left) e is = cc
 refused_for (Err reason) e is = cc

@@ -150,7 +150,7 @@ of_found {A = A} kind step found kinded h ds p e = from (found ds) p (h ds) e
     from (Ok q) p h e = subst (λ (s : Step × Items). Makes kind s.0) (same_ok {E = Fault} (step q.0, q.1) p e) (record { kinded = kinded q.0; fitting = h q refl })
     from (Err f) p h e = absurd cc
 
--- the steps of a kind without bytes always fit in a line
+-- reading a step of a kind whose steps all fit in a line
 usual : {A : Type 0} (kind : Kind) (step : A → Step) (found : Items → Result (A × Items) Fault) → ((x : A) → kind_of (step x) ≡ kind) → ((x : A) → fits (step x) ≡ true)
     → MakesFitting kind (λ ds. step_from step (found ds))
 usual kind step found kinded h = of_found kind step found kinded (λ ds p e. h p.0)

@@ -69,7 +69,7 @@ module _ (hits : ℕ → List ℕ) (direction : Direction) (low high : ℕ) wher
   missed-at : (k q : ℕ) → low ≤ q → q < high → place-of direction low high q < k → AreMissed k → hits q ≡ []
   missed-at k q a b sooner missed = ap hits (sym (place-is direction low high q a b).1) ∙ missed (place-of direction low high q) sooner
 
-  -- no mark hits at the first k + 1 positions if none hits at position k on the way
+  -- no mark hits at the first k + 1 positions if none hits at the first k or at position k
   pub missed-more : (k p : ℕ) (here : List ℕ) → p ≡ nth_on_way direction low (high - low) k → here ≡ hits p → length here ≡ 0 → AreMissed k → AreMissed (k + 1)
   missed-more k p here place is none missed j below =
       elim (split j k) [

@@ -1,4 +1,4 @@
-//! A gate that is notified which worker searches when.
+//! A gate that is notified when a worker searches.
 
 /// Is notified when a worker begins and finishes searching a segment. Workers are counted from 1.
 pub trait Gate {

@@ -1,4 +1,4 @@
--- A recording has a fault at one step at most.
+-- A recording has a fault at no more than one step.
 use Rattle.std.proofs.Common.{◌≡◌, ℕ, zero, suc, ◌-◌, ◌<◌, ◌⊎◌, inl, inr, List, [], ◌∷◌, arith, take, false, true, Some, Err, refl, sym, ap, subst, ◌∙◌, slice_get}
 use Rattle.std.specs.Prelude.{IsOk}
 use Rattle.nr_recording.specs.Recording.{Recorded, run_of}

@@ -14,7 +14,7 @@ use nr_snaps::Film;
 use std::alloc::Global;
 use std::marker::Model;
 
-/// The minimum depth of a walker: the number of deltas that it keeps.
+/// The minimum depth of a walker, which is the number of deltas that it can keep.
 pub const LEAST_DEPTH: usize = 1;
 
 /// The maximum depth of a walker.

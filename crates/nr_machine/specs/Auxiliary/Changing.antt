@@ -55,7 +55,7 @@ parked g d side core = record (with_status g (Parked d side) core) { waiters = c
 
 -- ---- undoing
 
--- undoes a change with first, and then another with next
+-- undoes a change with `first`, and then the change before it with `next`
 abbrev pub Then : {S : Type 0} → (S → S → Type 0) → (S → S → Type 0) → S → S → Type 0
 Then {S} first next new old = (mid : S) × first new mid × next mid old
 

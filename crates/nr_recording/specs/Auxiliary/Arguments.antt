@@ -11,7 +11,7 @@ use Rattle.nr_recording.specs.Arguments.{most_digits}
 abbrev pub digits_take_memory : List ℕ → Bool
 digits_take_memory text = not (nat_lt most_digits (length text)) && (length text % 2 == 0)
 
--- true if reading an argument as bytes takes memory, because it is a text for which that is so
+-- true if the argument is a text and reading its bytes takes memory
 abbrev pub argument_takes_memory : Data → Bool
 argument_takes_memory d = option_map_or digits_take_memory (as_str d) false
 

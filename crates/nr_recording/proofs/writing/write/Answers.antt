@@ -15,7 +15,7 @@ use Rattle.nr_recording.proofs.TextLaws.{reading_again}
 use Rattle.nr_recording.proofs.WrittenLemmas.{text_is_text}
 use Rattle.nr_recording.proofs.writing.write.Goals as goal
 
--- the step and the answer that reads at an index return are those at the index
+-- reading a step and its answer at an index returns the row at that index
 row_there : (r : Recorded) (n : ℕ) (step : Step) (answer : Option Answer) → Some step ≡ slice_get (run_of r).steps n → answer ≡ recorded_at r n
     → IsStepAt r n (record { step = step; answer = answer })
 row_there r n step answer read answered =
