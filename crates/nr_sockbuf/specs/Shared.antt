@@ -9,7 +9,7 @@ abbrev pub items_of : Option (Arc (Vec ℕ) Global) → List ℕ
 items_of None = []
 items_of (Some block) = (arc_value block).items
 
--- the block has no more room than its bytes need
+-- true if the block has no more room than its bytes need
 abbrev pub HasNoSpareRoom : Option (Arc (Vec ℕ) Global) → Type 0
 HasNoSpareRoom None = ⊤
 HasNoSpareRoom (Some block) = vec_capacity (arc_value block) ≡ vec_len (arc_value block)

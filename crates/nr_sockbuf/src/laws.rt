@@ -10,8 +10,9 @@ ghost use Rattle.nr_sockbuf.specs.Op.{TakesMemory, sock_reason};
 ghost use Rattle.nr_sockbuf.specs.Sock.{SockParts};
 ghost use Rattle.nr_sockbuf.specs.Agreement.{ArriveAgrees, CloseWriteAgrees, DrainAgrees, IsThere, PeerCloseAgrees, SockLoses, SockOpenAgrees, SysReadAgrees, SysWriteAgrees};
 
-/// At the buffers of an open socket, a step has the same answer, buffers and reason as the machine's step by an idle
-/// goroutine. So has an opening, if the machine has room for another socket.
+/// At the buffers of an open socket, a step has the same answer, buffers and reason as the
+/// machine's step by an idle goroutine. The same holds for an opening, if the machine has room for
+/// another socket.
 pub fn steps_are_of_the_machine()
     ensures sockopen { (rc wc : ℕ) (w : World) → SockOpenAgrees rc wc w }
     ensures arrive { (s : ℕ) (bytes : List ℕ) (socket : Socket) (w : World) → IsThere s socket w → ArriveAgrees s bytes socket w }
@@ -33,7 +34,7 @@ pub fn delta_is_its_undo()
     ensures { (delta : SockDelta) → delta ≡ record { undo = delta.undo } }
 {}
 
-/// A delta has at most three words, besides the bytes that left a buffer.
+/// A delta has at most three words, not counting the bytes that left a buffer.
 pub fn the_numbers()
     ensures words { MOST_WORDS ≡ 3 }
 {}

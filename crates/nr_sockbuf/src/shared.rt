@@ -7,8 +7,8 @@ use std::alloc::Global;
 use std::marker::Model;
 use std::sync::Arc;
 
-/// Immutable bytes that several owners may share. Contracts see them as a list. They take just the memory that they
-/// need, and none if the list is empty.
+/// Immutable bytes that several owners may share. Contracts see them as a list. They use only the
+/// memory that they need, and none if the list is empty.
 #[derive(Drop)]
 pub(crate) struct SharedBytes {
     block: Option<Arc<Vec<u8>>>,
@@ -42,7 +42,8 @@ fn joined(alloc: Global, front: &[u8], back: &[u8], len: usize) -> Result<Vec<u8
 }
 
 impl SharedBytes {
-    /// Returns the concatenation of two pieces, not shared yet. Fails with `Memory` if memory runs out.
+    /// Returns the concatenation of two pieces, with a single owner. Fails with `Memory` if memory
+    /// runs out.
     pub(crate) fn of_pieces(
         alloc: Global,
         front: &[u8],

@@ -33,7 +33,7 @@ opened_when false opened = None
 abbrev pub bytes_of : Side → OpenSock → List ℕ
 bytes_of side opened = (of_side side opened.buffers).bytes
 
--- the same socket with other bytes on a side
+-- the same socket with new bytes on a side
 abbrev pub with_bytes : Side → List ℕ → OpenSock → OpenSock
 with_bytes side bytes opened =
     record opened {

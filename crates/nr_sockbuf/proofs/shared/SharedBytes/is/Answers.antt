@@ -4,7 +4,7 @@ use Rattle.std.proofs.lemmas.List.{append_cancel_left}
 use Rattle.std.proofs.lemmas.Slice.Eq.{slice_eq-Decides, strip_prefix_is}
 use Rattle.nr_sockbuf.proofs.shared.SharedBytes.is.Goals as goal
 
--- the bytes start with the front, so the rest decides
+-- if the bytes start with the first piece, the rest decides
 pub returns-in-Some : goal.returns-in-Some
 returns-in-Some c =
     let front = c.args.front.now in
@@ -17,7 +17,7 @@ returns-in-Some c =
       λ whole. decides.1 (append_cancel_left front rest back (sym parts ∙ whole)),
     )
 
--- the bytes don't start with the front
+-- if the bytes don't start with the first piece, they aren't the concatenation
 pub returns-in-None : goal.returns-in-None
 returns-in-None c =
     let differs = strip_prefix_is Decides-eqb c.as_slice.result.now c.args.front.now None c.in-None.ensures.cases in (
