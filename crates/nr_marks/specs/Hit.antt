@@ -25,15 +25,16 @@ abbrev pub break_hits : Break → Option NextStep → Bool
 break_hits wanted None = false
 break_hits wanted (Some step) = names wanted step
 
--- The value that a mark watches in a world: its cell's. A break watches none.
+-- The value that a mark watches in a world: the value of its cell. A break watches no cell, which
+-- counts as absent.
 abbrev pub watched : World → Mark → CellValue
 watched w (mark.Break wanted) = Absent
 watched w (mark.TemporaryBreak wanted) = Absent
 watched w (mark.Watch c) = cell w c
 
 -- True if a mark hits. A break, temporary or not, hits if it names the next step. A watch hits if
--- its cell has another value in this world than in the one before. An absent cell has a value of
--- its own.
+-- its cell's value in this world differs from its value in the world before. Absence counts as a
+-- value.
 abbrev pub hits_by : CellValue → CellValue → Option NextStep → Mark → Bool
 hits_by before now next (mark.Break wanted) = break_hits wanted next
 hits_by before now next (mark.TemporaryBreak wanted) = break_hits wanted next
@@ -48,11 +49,11 @@ abbrev pub hits_between : World → World → Option NextStep → List NumberedM
 hits_between before after next marks =
     map (λ m. m.number) (filter (λ m. mark_hits before after next m.item) marks)
 
--- the step with this number, counted from 1, as breaks see it
+-- the next step as breaks see it: its number, counted from 1, and its kind
 abbrev pub step_numbered : ℕ → Step → NextStep
 step_numbered n step = record { number = n; kind = kind_of step }
 
--- a step as the next one at a position
+-- the next step at a position, as breaks see it
 abbrev pub numbered : ℕ → Option Step → Option NextStep
 numbered p step = option_map (step_numbered (p + 1)) step
 

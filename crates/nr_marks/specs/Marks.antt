@@ -1,4 +1,4 @@
--- The marks, the results of making and deleting one, and the marks after a stop.
+-- The marks, the results of making and deleting a mark, and the marks after a stop.
 use Rattle.std.specs.Prelude.{ℕ, ◌+◌, ◌==◌, ◌&&◌, Bool, true, false, not, List, Result, Ok, Err, if◌then◌else◌}
 use Rattle.std.specs.List.{list_any}
 use Rattle.nr_marks.specs.Numbered.{NumberedItems, is_full, is_present, kept_by}
@@ -12,11 +12,11 @@ use Rattle.nr_marks.specs.declared.numbered.Numbered.{Numbered}
 abbrev pub NumberedMark : Type 0
 NumberedMark = Numbered Mark
 
--- the marks, and the number of those ever made
+-- the marks, and the number of marks ever made
 abbrev pub MarkList : Type 0
 MarkList = NumberedItems Mark
 
--- The result of making a mark: its number, the next one.
+-- The result of making a mark: it gets the next number.
 abbrev pub next_number : MarkList → Result ℕ MarkFault
 next_number table = if is_full table then Err MarksFull else Ok (table.made + 1)
 
@@ -29,7 +29,7 @@ abbrev pub is_temporary : Mark → Bool
 is_temporary (TemporaryBreak wanted) = true
 is_temporary _ = false
 
--- True for a watchpoint, which hits depending on worlds; a breakpoint depends on steps only.
+-- True for a watchpoint, whose hits depend on worlds; a breakpoint's hits depend on steps only.
 abbrev pub is_watch : Mark → Bool
 is_watch (Watch c) = true
 is_watch _ = false
@@ -42,6 +42,6 @@ any_watch marks = list_any (λ m. is_watch m.item) marks
 abbrev pub goes : List ℕ → NumberedMark → Bool
 goes hits m = is_temporary m.item && list_any (λ number. number == m.number) hits
 
--- The marks after a stop at which these marks hit: all but the temporary ones among those.
+-- The marks after a stop: all except the temporary ones that hit at it.
 abbrev pub after_stop : List ℕ → MarkList → MarkList
 after_stop hits table = kept_by (λ m. not (goes hits m)) table

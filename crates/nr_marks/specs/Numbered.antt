@@ -3,7 +3,7 @@ use Rattle.std.specs.Prelude.{ℕ, ◌+◌, ◌-◌, ◌^◌, ◌==◌, Bool, no
 use Rattle.nr_marks.specs.declared.numbered.Numbered.{Numbered}
 use Rattle.nr_marks.specs.declared.numbered.TheConstants.{MOST_NUMBERED}
 
--- The items, and the number of items ever made, which is the number of the last one.
+-- The items, and the number of items ever made, which is also the number of the item made last.
 pub record NumberedItems (Item : Type 0) : Type 0 where
   pub present : List (Numbered Item)
   pub made : ℕ
@@ -17,11 +17,11 @@ module _ {Item : Type 0} where
   abbrev pub is_full : NumberedItems Item → Bool
   is_full table = (length table.present == MOST_NUMBERED) || (table.made == 2 ^ 32 - 1)
 
-  -- an item under the next number
+  -- an item with the next number
   abbrev pub newest : Item → NumberedItems Item → Numbered Item
   newest item table = record { number = table.made + 1; item = item }
 
-  -- The list after making an item, which comes last.
+  -- The list after an item is made; the new item comes last.
   abbrev pub with_item : Item → NumberedItems Item → NumberedItems Item
   with_item item table =
       if is_full table then table else record {
@@ -37,10 +37,10 @@ module _ {Item : Type 0} where
   abbrev pub is_present : ℕ → NumberedItems Item → Bool
   is_present number table = is_some (item_of number table)
 
-  -- the items that pass a test, with their numbers; the numbers of the others aren't reused
+  -- the items that pass a test, with their numbers; the numbers of the other items aren't reused
   abbrev pub kept_by : (Numbered Item → Bool) → NumberedItems Item → NumberedItems Item
   kept_by test table = record table { present = filter test table.present }
 
-  -- The list after deleting an item.
+  -- The list after an item is deleted.
   abbrev pub without_item : ℕ → NumberedItems Item → NumberedItems Item
   without_item number table = kept_by (λ n. not (n.number == number)) table

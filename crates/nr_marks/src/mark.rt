@@ -17,15 +17,15 @@ pub enum Break {
     Step(NonZeroU32),
 }
 
-/// A mark, which stops a debugger that continues, after GDB's `break`, `tbreak` and `watch`.
+/// A mark, which stops `continue`, after GDB's `break`, `tbreak` and `watch`.
 #[derive(Clone, Copy, Debug, PartialEq, Eq)]
 pub enum Mark {
     /// A breakpoint: stops before each step that it names.
     Break(Break),
     /// A temporary breakpoint: stops as a breakpoint does, and is deleted after the first stop at which it hits.
     TemporaryBreak(Break),
-    /// A watchpoint: stops after each step that changes the value of the cell. An absent cell has a value of its own,
-    /// so a step that makes it present stops too.
+    /// A watchpoint: stops after each step that changes the value of the cell. Absence counts as a
+    /// value, so a step that makes an absent cell present stops too.
     Watch(Cell),
 }
 
@@ -88,7 +88,8 @@ impl Break {
 }
 
 impl Mark {
-    /// Returns the value that the mark watches in a world: its cell's. A break watches none, which counts as absent.
+    /// Returns the value that the mark watches in a world: the value of its cell. A break watches
+    /// no cell, which counts as absent.
     #[inline(always)]
     pub fn watched<W: Worlds>(self, world: &W) -> CellValue
         requires { W.is_well_formed world.now }
@@ -100,8 +101,8 @@ impl Mark {
         }
     }
 
-    /// Returns whether the mark hits at a position, given the values that it watches one step before and there, and the
-    /// next step.
+    /// Returns whether the mark hits at a position, given the value that it watches one step
+    /// before, the value there, and the next step.
     #[inline(always)]
     pub fn hits(self, before: CellValue, now: CellValue, next: Option<NextStep>) -> bool
         ensures { result ≡ hits_by before now next self }
@@ -112,7 +113,8 @@ impl Mark {
         }
     }
 
-    /// Returns whether the mark is deleted after the first stop at which it hits, as one by GDB's `tbreak` is.
+    /// Returns whether the mark is deleted after the first stop at which it hits, as a breakpoint
+    /// of GDB's `tbreak` is.
     pub fn is_temporary(self) -> bool
         ensures { result ≡ is_temporary self }
     {

@@ -6,13 +6,13 @@ use arrayvec::ArrayVec;
 use nr_rev::{Cell, Step, Worlds};
 use std::marker::Model;
 
-/// The most marks at once.
+/// The maximum number of marks at once.
 pub const MOST_MARKS: usize = MOST_NUMBERED;
 
 /// A mark and its number.
 pub type NumberedMark = Numbered<Mark>;
 
-/// The reason why a call has left the marks as they were.
+/// The reason why a call failed and left the marks as they were.
 #[derive(Clone, Copy, Debug, PartialEq, Eq)]
 pub enum MarkFault {
     /// No mark has this number.
@@ -40,7 +40,7 @@ impl NumberedList<Mark> {
     ghost use Rattle.std.specs.Prelude.{◌≡◌};
     ghost use Rattle.nr_marks.specs.Marks.{after_stop};
 
-    // Deletes the temporary marks among those with these numbers.
+    // Deletes the temporary marks among the marks with these numbers.
     fn delete_temporary(&mut self, hits: &[u32])
         ensures { self.new ≡ after_stop hits.now self.old }
     {
@@ -123,8 +123,9 @@ impl Marks {
         }
     }
 
-    /// Deletes the temporary marks among those that hit at a stop, as GDB deletes a breakpoint of `tbreak`. The others
-    /// keep their numbers, and the numbers of the deleted ones aren't reused.
+    /// Deletes the temporary marks among the marks that hit at a stop, as GDB deletes a breakpoint
+    /// of `tbreak`. The others keep their numbers, and the numbers of the deleted ones aren't
+    /// reused.
     pub fn delete_temporary(&mut self, hits: &[u32])
         ensures { self.new ≡ after_stop hits.now self.old }
     {
@@ -155,9 +156,10 @@ impl Marks {
         self.as_slice().iter().any(|mark| mark.item.is_watch())
     }
 
-    /// Returns the numbers of the marks that hit at a position, in rising order, given the world before and the world
-    /// there, and the number of the next step, counted from 1. At position 0 the two worlds are the same, and at the
-    /// end there is no next step.
+    /// Returns the numbers of the marks that hit at a position, in rising order. `before` is the
+    /// world one step earlier, `after` the world there, and `next` the next step with its number,
+    /// counted from 1. At position 0 the two worlds are the same, and at the end there is no next
+    /// step.
     pub fn hits<W: Worlds>(
         &self,
         before: &W,

@@ -5,7 +5,7 @@ ghost use Rattle.std.specs.Prelude.{◌≡◌, ◌≤◌, ◌==◌, false, find,
 use arrayvec::ArrayVec;
 use std::marker::Model;
 
-/// The most items at once.
+/// The maximum number of items at once.
 pub const MOST_NUMBERED: usize = 64;
 
 /// An item and its number.
@@ -49,8 +49,8 @@ impl<T: Copy + Default> NumberedList<T> {
         }
     }
 
-    /// Adds an item under the next number. Returns `None`, without any change, if there are 64 items already or the
-    /// numbers up to 4,294,967,295 are used up.
+    /// Adds an item with the next number. Returns `None`, without any change, if there are 64 items
+    /// already or the numbers up to 4,294,967,295 are used up.
     pub fn make(&mut self, item: T) -> Option<Numbered<T>>
         ensures numbered { result ≡ next item self.old }
         ensures list { self.new ≡ with_item item self.old }

@@ -14,6 +14,6 @@ module _ {Item : Type 0} where
   abbrev pub numbers_of : List (Numbered Item) → List ℕ
   numbers_of items = map (λ n. n.number) items
 
-  -- The result of making an item: the item under the next number, unless it can't be made.
+  -- The result of making an item: the item gets the next number, unless it can't be made.
   abbrev pub next : Item → NumberedItems Item → Option (Numbered Item)
   next item table = if is_full table then None else Some (newest item table)

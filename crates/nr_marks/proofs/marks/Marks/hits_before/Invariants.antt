@@ -2,7 +2,7 @@ use Rattle.std.proofs.Common.{◌≡◌, ◌≤◌, length, take}
 use Rattle.nr_marks.specs.Hit.{hits_between}
 use Rattle.nr_marks.proofs.marks.Marks.hits_before.Given as goal
 
--- the marks that hit, of those so far
+-- the list has the marks that hit among those before the current one
 abbrev pub invariant-loop-numbered : goal.invariant-loop-numbered
 invariant-loop-numbered g l =
     record {
