@@ -1,4 +1,4 @@
--- The only pass of a journal.
+-- Lemmas about a journal's only pass.
 use Rattle.std.proofs.Common.{◌≡◌, ◌≢◌, ℕ, ◌<◌, List, [], ◌∷◌, ◌++◌, sym, ◌∙◌, subst, arith}
 use Rattle.std.proofs.lemmas.List.{append-nil}
 use Rattle.std.proofs.lemmas.List.Elements.{All-head}
@@ -15,7 +15,7 @@ use Rattle.nr_journal.specs.Auxiliary.Rule.{IsEntry, Kept}
 use Rattle.nr_journal.proofs.RowLemmas.{All-right}
 
 module _ (purpose : Purpose) (words : List ℕ) (views : List View) (k : Kept purpose words views) (id : ℕ) (pass_state : PassState) where
-  -- no word comes after what an only pass has read: its tag would be 0, as the pass's is
+  -- no word follows those that the only pass has read: its tag would be 0, which is the pass's own
   pub none_behind : (v : ℕ) (rest : List ℕ) → get_elem? views id ≡ some (Within pass_state) → k.log ≡ pass_state.seen ++ v ∷ rest → All (IsOthers pass_state.tag) (v ∷ rest)
       → pass_state.passes ≡ 1 → ⊥
   none_behind v rest at is others alone =

@@ -1,4 +1,4 @@
--- A seat is split in two, and takes a tag.
+-- Lemmas about splitting a seat in two, and about taking a tag.
 use Rattle.std.proofs.Common.{◌≡◌, ◌≢◌, ℕ, zero, ◌+◌, ◌<◌, List, [], ◌∷◌, ◌++◌, get_or, set, refl, sym, ap, ◌∙◌, subst, ⊎_elim, arith}
 use mathlib.Core.Option.{some, none}
 use lib.ListN.{get_elem?}
@@ -38,7 +38,7 @@ bit_drawn tags t = bit_at_or tags (2 ^ t) t ∙ one_max (bit_at tags t) (bit_at 
     one_max : (y x : ℕ) → x ≡ 1 → y < 2 → max y x ≡ 1
     one_max y x e l = omega arith
 
--- a bit that is set now and isn't the one just taken was set before
+-- a bit that is set now was set before, unless its tag was just taken
 pub was_drawn : (tags t tag : ℕ) → tag ≢ t → IsDrawn (bit_or tags (2 ^ t)) tag → IsDrawn tags tag
 was_drawn tags t tag other drawn = let o = bit_at_or tags (2 ^ t) tag in let z = bit_at-pow_other t tag other in
     let x : ℕ = bit_at tags tag in let y : ℕ = bit_at (2 ^ t) tag in let z' : y ≡ 0 = z in let m : max x y ≡ 1 = sym o ∙ drawn in of_max x y z' m
@@ -54,7 +54,7 @@ fits_drawn most tags more log (Note seen) up fits = fits
 fits_drawn most tags more log Spent up fits = tt
 
 module _ (purpose : Purpose) where
-  -- the bits of the tags grow, and one view changes
+  -- the rule still holds after bits of tags are set and one view changes
   pub kept_drawn : (words : List ℕ) (views : List View) (k : Kept purpose words views) (id more : ℕ) (w : View) → ((j : ℕ) → IsDrawn k.tags j → IsDrawn more j)
       → Fits purpose.passes more k.log w → AreApart (set views id w) → AreTaken more (set views id w) → AreFew purpose.passes more → Kept purpose (set words 0 more) (set views id w)
   kept_drawn words views k id more w up fits apart taken few = record {
@@ -98,7 +98,7 @@ module _ (purpose : Purpose) where
       up : (j : ℕ) → IsDrawn k.tags j → IsDrawn (bit_or k.tags (2 ^ tried)) j
       up j d = bit_kept k.tags (2 ^ tried) j d
 
-      -- the pass's own bit and all below
+      -- the pass's own bit and all lower bits are set
       all_up : AreDrawn (bit_or k.tags (2 ^ tried)) (tried + 1)
       all_up tag below = dite (ℕ_discrete tag tried)
           (λ (same : tag ≡ tried). subst (IsDrawn (bit_or k.tags (2 ^ tried))) (sym same) (bit_drawn k.tags tried))

@@ -1,4 +1,4 @@
--- A journal that makes all passes at once, and hands them out.
+-- Lemmas about a journal that makes all passes at once and hands them out.
 use Rattle.std.proofs.Common.{◌≡◌, ◌≢◌, ◌⊎◌, inl, inr, true, ℕ, zero, suc, ◌+◌, ◌<◌, ◌≤◌, List, [], ◌∷◌, ◌++◌, length, replicate, set, add-one, refl, sym, ap, ◌∙◌, subst, ⊎_elim, arith}
 use Rattle.std.proofs.lemmas.List.Elements.{All-nil, All-weaker}
 use Rattle.std.proofs.lemmas.Nat.Bits.{bit_at-zero}
@@ -18,7 +18,7 @@ use Rattle.nr_journal.specs.Step.{given_by, left_of}
 use Rattle.nr_journal.proofs.DrawLemmas.{bit_drawn, bit_kept, was_drawn}
 use Rattle.nr_journal.proofs.RuleLemmas.{Rule, apart_set, each_set, set_there}
 
--- a view of a longer list is one of those before, or the last
+-- each view of the longer list is one of the earlier views, or the last one
 at_end : (views : List View) (w v : View) (j : ℕ) → get_elem? (views ++ w ∷ []) j ≡ some v → (get_elem? views j ≡ some v) ⊎ ((j ≡ length views) × (w ≡ v))
 at_end [] w v zero e = inr (refl, some-injective w v e)
 at_end [] w v (suc j) e = absurd (some-ne-none v (sym e))
@@ -53,7 +53,7 @@ module _ (purpose : Purpose) (words : List ℕ) (views : List View) (k : Kept pu
     (k.log, refl),
   )
 
-  -- nothing else has the tag that is handed out
+  -- no other view has the tag that is handed out
   nobody : (j : ℕ) (v : View) (tag : ℕ) → get_elem? others j ≡ some v → HasTag v tag → next ≡ tag → ⊥
   nobody j v tag e has is = ⊎_elim
       (λ (t : (j ≡ id) × (left ≡ v)). let own : HasTag left tag = subst (λ (u : View). HasTag u tag) (sym t.1) has in (let later : next + 1 ≤ tag = own.0 in omega (arith, later, is)))
@@ -131,7 +131,7 @@ begins_drawn words passes tags row is drawn few = record {
 pub none_drawn : (tag : ℕ) → IsDrawn 0 tag → ⊥
 none_drawn tag drawn = let z : zero ≡ 1 = sym (bit_at-zero tag) ∙ drawn in omega arith
 
--- the bits of the tags below one more
+-- if the bits of all tags below this one are set, setting its bit adds it to them
 pub drawn_more : (tags tag : ℕ) → AreDrawn tags tag → AreDrawn (bit_or tags (2 ^ tag)) (tag + 1)
 drawn_more tags tag drawn j below = dite (ℕ_discrete j tag)
     (λ (same : j ≡ tag). subst (IsDrawn (bit_or tags (2 ^ tag))) (sym same) (bit_drawn tags tag))

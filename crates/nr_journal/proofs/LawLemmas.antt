@@ -23,7 +23,7 @@ empty_look purpose id pass_state words views k at zero_there = let c = (k.each_v
         let index : suc (length pass_state.seen) ≡ length pass_state.seen + 1 = omega arith in
         absurd (is_word v (found_opcode purpose words views k pass_state.seen v rest is) (sym there ∙ (ap (λ (j : ℕ). get_or words j 0) index ∙ zero_there)))
 
--- a pass has the tag of a word
+-- a view that has the tag of a word in the log is the view of a pass with that tag
 of_pass : (most tags : ℕ) (log : List ℕ) (place : ℕ) (v : View) → place < length log → HasTag v (tag_of (get_or log place 0)) → Fits most tags log v
     → (pass_state : PassState) × (v ≡ Within pass_state) × (pass_state.tag ≡ tag_of (get_or log place 0))
 of_pass most tags log place (Outside tried passes) below has fits = absurd has
@@ -35,7 +35,7 @@ of_pass most tags log place (Within pass_state) below has fits = (pass_state, re
 of_pass most tags log place (Note seen) below has fits = absurd has
 of_pass most tags log place Spent below has fits = absurd has
 
--- a word is among the words read if none of the others has its tag
+-- a word is among the words read if none of the words after those has its tag
 pub among_seen : (seen rest : List ℕ) (tag place : ℕ) → All (IsOthers tag) rest → place < length (seen ++ rest) → tag_of (get_or (seen ++ rest) place 0) ≡ tag
     → (place < length seen) × (get_or seen place 0 ≡ get_or (seen ++ rest) place 0)
 among_seen [] rest tag place others below is = absurd (others place 0 below is)
@@ -52,7 +52,7 @@ each_word purpose words views k place below =
     let lies = among_seen p.0.seen c.0 p.0.tag place c.2 (subst (λ (l : List ℕ). place < length l) c.1 below) (ap (λ (l : List ℕ). tag_of (get_or l place 0)) (sym c.1) ∙ sym p.2) in
     (o.0, p.0, at, p.2, lies.0, lies.1 ∙ ap (λ (l : List ℕ). get_or l place 0) (sym c.1))
 
--- the first knowledge has the tag of no word
+-- the first view has no tag that a word of the log has
 has_none : (purpose : Purpose) (drawn : Bool) (words passes : ℕ) → purpose ≡ record { words = words; passes = passes; drawn = drawn } → (log : List ℕ) (tags place : ℕ) → place < length log
     → HasTag (first_view purpose) (tag_of (get_or log place 0)) → Fits passes tags log (first_view purpose) → ⊥
 has_none purpose true words passes is log tags place below has fits =

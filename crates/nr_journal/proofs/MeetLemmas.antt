@@ -1,4 +1,5 @@
--- Two passes meet: a note goes from one to the other, which compares.
+-- Lemmas about two passes that meet: one gives the other a note, and the other compares it with
+-- what it has read.
 use Rattle.std.proofs.Common.{◌≡◌, ℕ, ◌<◌, List, [], ◌∷◌, ◌++◌, set, refl, sym, ◌∙◌, subst}
 use Rattle.std.specs.List.{All}
 use Rattle.std.proofs.lemmas.List.Elements.{All-weaker}
@@ -35,7 +36,7 @@ learns purpose id other pass_state learned s k at apart there =
     ((λ tag has. absurd has), (λ tag has. absurd has))
 
 module _ (purpose : Purpose) where
-  -- each word that was read has the tag of one of the passes that there may be
+  -- each word that was read has a tag below the maximum number of passes
   pub all_below : (words : List ℕ) (views : List View) (k : Kept purpose words views) (pass_state : PassState) → pass_state.passes ≡ purpose.passes → StartsWith k.log pass_state.seen
       → All (HasTagBelow pass_state.passes) pass_state.seen
   all_below words views k pass_state most begins =

@@ -1,4 +1,4 @@
--- A pass offers a word.
+-- Lemmas about a pass that offers a word.
 use Rattle.std.proofs.Common.{◌≡◌, ℕ, suc, ◌+◌, ◌<◌, ◌≤◌, lt_of_not-le, List, [], ◌∷◌, ◌++◌, length, get_or, set, replicate, eqb, ◌-◌, refl, sym, ap, ◌∙◌, subst, arith, append_assoc, length-append}
 use Rattle.std.proofs.lemmas.List.{set-get_or, append-nil}
 use Rattle.std.specs.List.{All}
@@ -22,7 +22,7 @@ use Rattle.nr_journal.proofs.RuleLemmas.{each_set, apart_set, taken_set, is_word
 pub begins_more : (log learned : List ℕ) (word : ℕ) → StartsWith log learned → StartsWith (log ++ word ∷ []) learned
 begins_more log learned word c = (c.0 ++ word ∷ [], ap (λ (l : List ℕ). l ++ word ∷ []) c.1 ∙ append_assoc learned c.0 (word ∷ []))
 
--- the log grows by a word of another
+-- a view is still correct after the log grows by a word of another pass
 pub fits_more : (most tags : ℕ) (log : List ℕ) (word : ℕ) (v : View) → tag_of word < most → (HasTag v (tag_of word) → ⊥) → Fits most tags log v → Fits most tags (log ++ word ∷ []) v
 fits_more most tags log word (Outside tried passes) below never fits = fits
 fits_more most tags log word (Keeping next passes) below never fits = (

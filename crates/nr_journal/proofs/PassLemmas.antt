@@ -1,4 +1,4 @@
--- A pass, by the view of its seat.
+-- Lemmas about a pass's state, taken from the view of its seat.
 use Rattle.std.proofs.Common.{◌≡◌, ◌≢◌, ℕ, ◌+◌, ◌<◌, List, [], ◌∷◌, ◌++◌, length, refl, sym, ap, ◌∙◌, subst, arith, length-append, append_assoc}
 use Rattle.nr_journal.specs.declared.view.PassState.{PassState}
 use Rattle.nr_journal.specs.declared.view.View.TheVariants.{Within}
@@ -42,6 +42,6 @@ sees_others_one a b v g other company = (
 pub sees_others_look : (a b : PassState) → SeesOthers a b → SeesOthers a (looked b)
 sees_others_look a b g = g
 
--- two prefixes of one list
+-- of two prefixes of one list, the shorter is a prefix of the longer
 pub are_in_line : (xs ys log : List ℕ) → StartsWith log xs → StartsWith log ys → AreInLine xs ys
 are_in_line xs ys log a b = ((λ le. in_line xs ys a.0 b.0 (sym a.1 ∙ b.1) le), (λ le. in_line ys xs b.0 a.0 (sym b.1 ∙ a.1) le))

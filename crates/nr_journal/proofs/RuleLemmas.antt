@@ -19,7 +19,7 @@ use Rattle.nr_journal.specs.Auxiliary.Rule.{HasOpcode, IsDrawn, AreTaken, IsEntr
 use Rattle.nr_journal.specs.Step.{Seat}
 use Rattle.nr_journal.proofs.RowLemmas.{All-right, behind, beside}
 
--- each view after a change of one
+-- if the new view and all others have a property, each view has it after one view changes
 pub each_set : (P : View → Type 0) (views : List View) (id : ℕ) (w : View) → ((j : ℕ) (v : View) → j ≢ id → get_elem? views j ≡ some v → P v) → P w
     → (j : ℕ) (v : View) → get_elem? (set views id w) j ≡ some v → P v
 each_set P views id w others mine j v e = ⊎_elim
@@ -27,7 +27,7 @@ each_set P views id w others mine j v e = ⊎_elim
     (λ (t : (j ≢ id) × (get_elem? views j ≡ some v)). others j v t.0 t.1)
     (at_set views id j w v e)
 
--- a property of a view after a change of one is one of a view before
+-- if a view has a property after one view changes, some view had it before
 pub had : (P : View → Type 0) (views : List View) (id : ℕ) (v w : View) → get_elem? views id ≡ some v → (P w → P v)
     → (j : ℕ) (u : View) → get_elem? (set views id w) j ≡ some u → P u → (t : View) × (get_elem? views j ≡ some t) × P t
 had P views id v w at same j u e holds = ⊎_elim
@@ -53,7 +53,7 @@ set_there [] i v w e = absurd (some-ne-none v (sym e))
 set_there (x ∷ xs) zero v w e = refl
 set_there (x ∷ xs) (suc i) v w e = set_there xs i v w e
 
--- a view that has a tag still has it after a change of one view
+-- each taken tag still belongs to a view after one view changes
 pub taken_set : (tags : ℕ) (views : List View) (id : ℕ) (v w : View) → get_elem? views id ≡ some v → ((tag : ℕ) → HasTag v tag → HasTag w tag) → AreTaken tags views → AreTaken tags (set views id w)
 taken_set tags views id v w at has_it taken tag drawn = let o = taken tag drawn in dite (ℕ_discrete o.0 id)
     (λ (same : o.0 ≡ id).
@@ -106,7 +106,7 @@ begins purpose words is = record {
 pub begins_for : (words passes : ℕ) (row : List ℕ) → row ≡ replicate (words + 1) 0 → Kept (record { words = words; passes = passes; drawn = false }) row (newcomer passes ∷ [])
 begins_for words passes row is = begins (record { words = words; passes = passes; drawn = false }) row is
 
--- a new view, with no tag
+-- a new view is added that has no tag
 pub snoc_view : (purpose : Purpose) (words : List ℕ) (views : List View) (w : View) → (k : Kept purpose words views) → Fits purpose.passes k.tags k.log w → ((tag : ℕ) → HasTag w tag → ⊥)
     → Kept purpose words (views ++ w ∷ [])
 snoc_view purpose words views w k fits none_there = record {
@@ -129,7 +129,7 @@ snoc_view purpose words views w k fits none_there = record {
 }
 
 module _ (purpose : Purpose) where
-  -- one view changes, and no word
+  -- the rule still holds after one view changes and no word does
   pub kept_view : (words : List ℕ) (views : List View) (id : ℕ) (v w : View) → get_elem? views id ≡ some v → (k : Kept purpose words views) → Fits purpose.passes k.tags k.log w → AreAlike v w
       → Kept purpose words (set views id w)
   kept_view words views id v w at k fits same = record {
@@ -145,7 +145,7 @@ module _ (purpose : Purpose) where
     few = k.few;
   }
 
-  -- the word at the place of a thread inside
+  -- the value in the table after all words that a pass has read
   pub at_place : (words : List ℕ) (views : List View) (k : Kept purpose words views) (seen : List ℕ) → k.log ≡ seen → get_or words (suc (length seen)) 0 ≡ 0
   at_place words views k seen is = ap (λ (ws : List ℕ). get_or ws (suc (length seen)) 0) k.words_are
       ∙ ap (λ (l : List ℕ). get_or (l ++ replicate k.free 0) (length seen) 0) (is ∙ sym (append-nil seen)) ∙ behind seen k.free
@@ -154,7 +154,7 @@ module _ (purpose : Purpose) where
   before_end words views k seen v rest is = ap (λ (ws : List ℕ). get_or ws (suc (length seen)) 0) k.words_are
       ∙ ap (λ (l : List ℕ). get_or (l ++ replicate k.free 0) (length seen) 0) is ∙ beside seen v rest (replicate k.free 0)
 
-  -- a word that was found at the place
+  -- the rule still holds after a pass reads the word at the next place
   pub kept_found : (words : List ℕ) (views : List View) (k : Kept purpose words views) (id : ℕ) (pass_state : PassState) (v : ℕ) (rest : List ℕ) → get_elem? views id ≡ some (Within pass_state)
       → k.log ≡ pass_state.seen ++ v ∷ rest → All (IsOthers pass_state.tag) (v ∷ rest) → Kept purpose words (set views id (Within (having_seen pass_state v)))
   kept_found words views k id pass_state v rest at is others = let c = k.each_view id (Within pass_state) at in
@@ -168,7 +168,7 @@ module _ (purpose : Purpose) where
   abbrev pub Rule : State (Unit {0}) View → Type 0
   Rule s = Kept purpose s.words s.views
 
-  -- a new view for the seat id, with which the rule holds after word i becomes n
+  -- a new view for the seat `id`, with which the rule holds after word i of the table becomes n
   abbrev pub Picks : List ℕ → List View → ℕ → ℕ → ℕ → (Seat → Type 0) → Type 0
   Picks words views id i n then = (w : View) × Kept purpose (set words i n) (set views id w) × then (w, [])
 

@@ -19,14 +19,14 @@ EmptyLookSeesAll = (purpose : Purpose) (id : ℕ) (pass_state : PassState) (word
     → get_elem? views id ≡ some (Within pass_state)
     → slice_index words (length pass_state.seen + 1) ≡ 0 → k.log ≡ pass_state.seen
 
--- the only pass that a journal may have has read all words
+-- if a journal may have only one pass, that pass has read all words
 abbrev pub AnOnlyPassSeesAll : Type 0
 AnOnlyPassSeesAll = (purpose : Purpose) (id : ℕ) (pass_state : PassState) (words : List ℕ)
     (views : List View) → (k : Kept purpose words views)
     → get_elem? views id ≡ some (Within pass_state)
     → pass_state.passes ≡ 1 → k.log ≡ pass_state.seen
 
--- each word of the log is, at its index, among the words that the pass with its tag has read
+-- each word of the log has been read, at its index, by the pass with its tag
 abbrev pub EachWordHasItsPass : Type 0
 EachWordHasItsPass = (purpose : Purpose) (words : List ℕ) (views : List View)
     → (k : Kept purpose words views) → (place : ℕ) → place < length k.log
@@ -34,8 +34,9 @@ EachWordHasItsPass = (purpose : Purpose) (words : List ℕ) (views : List View)
     × (pass_state.tag ≡ tag_of (slice_index k.log place)) × (place < length pass_state.seen)
     × (slice_index pass_state.seen place ≡ slice_index k.log place)
 
--- A pass consists of its knowledge, an index and a tag; a seat of its knowledge and two numbers of
--- tags; and a journal of its table and a number of words. Knowledge takes no bytes.
+-- True if these fields are everything: a pass has a seat of the table, an index and a tag; a seat
+-- has a seat of the table and two numbers of tags; and a journal has its table and a number of
+-- words. A seat of the table takes no bytes.
 pub record NothingIsHidden : Type 0 where
   pub pass : (one other : pass_parts.Inside)
       → one.seat ≡ other.seat → one.place ≡ other.place → one.tag ≡ other.tag → one ≡ other
@@ -45,7 +46,7 @@ pub record NothingIsHidden : Type 0 where
   pub journal : (one other : journal_parts.Inside)
       → one.table ≡ other.table → one.words ≡ other.words → one ≡ other
 
--- while all knowledge is the first knowledge, no word is written
+-- a journal has no words as long as its only view is the first one
 abbrev pub BeginsEmpty : Type 0
 BeginsEmpty = (purpose : Purpose) (words : List ℕ)
     → (k : Kept purpose words (first_view purpose ∷ [])) → k.log ≡ []

@@ -15,7 +15,7 @@ pub record Entered : Type 0 where
   pub table : TableId
   pub pass_state : PassState
 
--- the knowledge of a pass, by its view; a pass has no other sort of view
+-- the state of a pass, from its view; the other variants never occur for a pass
 abbrev pub pass_state_of : View → PassState
 pass_state_of (Outside _ _) = entering 0 0
 pass_state_of (Keeping _ _) = entering 0 0
@@ -23,7 +23,8 @@ pass_state_of (Within pass_state) = pass_state
 pass_state_of (Note _) = entering 0 0
 pass_state_of Spent = entering 0 0
 
--- the result of offering a word to a journal with this room, and the knowledge before and after
+-- true if an offer of a word, to a journal with this room, has this result and turns the state
+-- before into the state after
 abbrev pub WasOffered : ℕ → ℕ → PassState → PassState → Offered → Type 0
 WasOffered word room before after Placed =
     (after ≡ having_seen before word) × (length before.seen < room)
@@ -32,20 +33,20 @@ WasOffered word room before after (Lost v) =
     × IsOthers before.tag v × (before.passes ≢ 1)
 WasOffered word room before after Full = (after ≡ before) × (length before.seen ≡ room)
 
--- true if the shorter of two lists begins the longer
+-- true if the shorter of two lists is a prefix of the longer
 abbrev pub AreInLine : List ℕ → List ℕ → Type 0
 AreInLine xs ys =
     (length xs ≤ length ys → StartsWith ys xs) × (length ys ≤ length xs → StartsWith xs ys)
 
--- True if nothing was placed: any words that were newly read are those of others, and there are
--- none if the journal has one pass. What the pass has learned of is the same.
+-- True if the pass placed no word: all newly read words belong to other passes, and there are none
+-- if the journal has only one pass. What the pass has learned of is unchanged.
 abbrev pub SeesOthers : PassState → PassState → Type 0
 SeesOthers before after = (added : List ℕ) × (after.seen ≡ before.seen ++ added)
     × All (IsOthers before.tag) added × (after.tag ≡ before.tag) × (after.learned ≡ before.learned)
     × (after.passes ≡ before.passes) × (before.passes ≡ 1 → added ≡ [])
 
--- true if a last look found no word, so that all that the pass has learned of is among what it has
--- read; or if all words are read
+-- true if a last look found no word, and the pass has read all words that it had learned of; or if
+-- the pass has read as many words as the journal has room for
 abbrev pub CatchesUp : ℕ → PassState → PassState → Type 0
 CatchesUp room before after =
     ((after.looks ≡ before.looks + 1) × StartsWith after.seen before.learned)

@@ -9,7 +9,7 @@ use Rattle.nr_journal.specs.declared.rule.TheConstants.{BYTE_VALUES}
 abbrev pub tag_of : ℕ → ℕ
 tag_of word = word / BYTE_VALUES % BYTE_VALUES
 
--- true if the word is that of another pass than the one with this tag
+-- true if the word doesn't have this tag, so another pass placed it
 abbrev pub IsOthers : ℕ → ℕ → Type 0
 IsOthers tag word = tag_of word ≢ tag
 

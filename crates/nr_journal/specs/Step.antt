@@ -1,4 +1,4 @@
--- The knowledge after a step on a journal's table, depending on what the step found.
+-- The view after a step on a journal's table, depending on what the step found.
 use Rattle.std.specs.Prelude.{◌≡◌, ◌≢◌, ℕ, ◌+◌, ◌-◌, List, [], slice_index}
 use Rattle.std.specs.List.{All}
 use Rattle.std.specs.Int.{bit_at}
@@ -9,18 +9,18 @@ use Rattle.nr_journal.specs.declared.view.View.TheVariants.{Outside, Keeping, Wi
 use Rattle.nr_journal.specs.Rule.{IsOthers, StartsWith}
 use Rattle.nr_journal.specs.Auxiliary.Rule.{HasOpcode, HasTagBelow, entering, informed, looked, having_seen}
 
--- a seat of the table, without slots: its knowledge is its first component
+-- a seat of the table, without slots; its first component is its view
 abbrev pub Seat : Type 0
 Seat = Me (Unit {0}) View
 
--- the word after all that was read is another pass's, so the journal has more than one pass
+-- true if the next word belongs to another pass, and the journal may have more than one pass
 abbrev pub Found : PassState → ℕ → Seat → Type 0
 Found pass_state found after =
     (after ≡ (Within (having_seen pass_state found), [])) × HasOpcode found
     × IsOthers pass_state.tag found × (pass_state.passes ≢ 1)
 
--- the word after all that was read is 0, so there is no more than what was read and learned of, or
--- it is another pass's
+-- true if the next word is 0, and the pass has read all words that it had learned of; or if the
+-- next word belongs to another pass
 abbrev pub LookedFrom : View → ℕ → Seat → Type 0
 LookedFrom (Within pass_state) found after =
     (found ≡ 0 → (after ≡ (Within (looked pass_state), []))
@@ -28,11 +28,12 @@ LookedFrom (Within pass_state) found after =
     × (found ≢ 0 → Found pass_state found after)
 LookedFrom _ found after = Unit {0}
 
--- a look at the next place, as a step of the table: what was found there, and the seat after it
+-- a look at the next place, as a step of the table: the word found there, and the seat after the
+-- look
 abbrev pub Looked : Step (Unit {0}) → Seat → ℕ → Seat → Type 0
 Looked step before found after = LookedFrom before.0 found after
 
--- the word after all that was read was 0 and is the pass's own now, or it is another pass's
+-- true if the next word was 0 and is now the offered word, or if it belongs to another pass
 abbrev pub OffersFrom : ℕ → View → ℕ → Seat → Type 0
 OffersFrom word (Within pass_state) found after =
     (found ≡ 0 → after ≡ (Within (having_seen pass_state word), []))
@@ -43,18 +44,19 @@ OffersFrom word _ found after = Unit {0}
 abbrev pub Offers : Step (Unit {0}) → Seat → ℕ → Seat → Type 0
 Offers step before found after = OffersFrom step.second before.0 found after
 
--- the bit of the next tag was clear, and the tag is the pass's own now, or the bit was set
+-- true if the bit of the next tag was clear, and the seat is now a pass with that tag; or if the
+-- bit was set
 abbrev pub DrawsFrom : View → ℕ → Seat → Type 0
 DrawsFrom (Outside tried passes) found after =
     (bit_at found tried ≡ 0 → after ≡ (Within (entering passes tried), []))
     × (bit_at found tried ≢ 0 → after ≡ (Outside (tried + 1) passes, []))
 DrawsFrom _ found after = Unit {0}
 
--- a try to draw the next tag, as a step of the table
+-- an attempt to draw the next tag, as a step of the table
 abbrev pub Draws : Step (Unit {0}) → Seat → ℕ → Seat → Type 0
 Draws step before found after = DrawsFrom before.0 found after
 
--- a word that was read is still there
+-- true if a word that was read is still there
 abbrev pub RereadsFrom : ℕ → View → ℕ → Seat → Type 0
 RereadsFrom word (Within pass_state) found after =
     (after ≡ (Within pass_state, [])) × (found ≡ slice_index pass_state.seen (word - 1))
@@ -64,8 +66,8 @@ RereadsFrom word _ found after = Unit {0}
 abbrev pub Rereads : Step (Unit {0}) → Seat → ℕ → Seat → Type 0
 Rereads step before found after = RereadsFrom step.word before.0 found after
 
--- what was read and what was learned of are prefixes of one list, and each word read has the tag of
--- one of the passes that there may be
+-- true if the words read and the words learned of are prefixes of one list, and each word read has
+-- a tag below the maximum number of passes
 abbrev pub ComparesFrom : View → Seat → Type 0
 ComparesFrom (Within pass_state) after = (after ≡ (Within pass_state, []))
     × ((log : List ℕ) × StartsWith log pass_state.seen × StartsWith log pass_state.learned)
@@ -76,7 +78,7 @@ ComparesFrom _ after = Unit {0}
 abbrev pub Compares : Step (Unit {0}) → Seat → ℕ → Seat → Type 0
 Compares step before found after = ComparesFrom before.0 after
 
--- the remaining passes after the next was handed out; only they hand one out
+-- the view of the remaining passes after the next one is handed out; other views stay the same
 abbrev pub left_of : View → View
 left_of (Outside tried passes) = Outside tried passes
 left_of (Keeping next passes) = Keeping (next + 1) passes
@@ -84,7 +86,7 @@ left_of (Within pass_state) = Within pass_state
 left_of (Note seen) = Note seen
 left_of Spent = Spent
 
--- the next of the remaining passes
+-- the view of the pass that is handed out next
 abbrev pub given_by : View → View
 given_by (Outside _ _) = Spent
 given_by (Keeping next passes) = Within (entering passes next)
@@ -108,7 +110,7 @@ note_words (Within _) = []
 note_words (Note seen) = seen
 note_words Spent = []
 
--- the knowledge of a pass that takes in a note; nothing else learns from one
+-- the view of a pass after it takes in a note; other views stay the same
 abbrev pub learned_from : View → View → View
 learned_from (Outside tried passes) note = Outside tried passes
 learned_from (Keeping next passes) note = Keeping next passes

@@ -20,9 +20,9 @@ use std::alloc::Global;
 use std::cmp::Ordering;
 use std::marker::Model;
 
-/// A list of words in one order, each written once. Its passes, up to a fixed number, place and read words from as many
-/// threads without a lock. Contracts see the identity of the journal; a seat or a pass is only used with the journal
-/// that made it. No call waits.
+/// A list of words in one order, each written once. Its passes, up to a fixed number, place and
+/// read words from as many threads without a lock. Contracts see the identity of the journal; a
+/// seat or a pass can only be used with the journal that made it. No call waits.
 #[derive(Drop)]
 pub struct Journal {
     alloc: Global,
@@ -74,8 +74,8 @@ impl Journal {
         Ok((journal, first))
     }
 
-    /// Makes an empty journal with room for `words` words, and its `passes` passes. There will be no others. Their tags
-    /// are the numbers below `passes`.
+    /// Makes an empty journal with room for `words` words, and its `passes` passes. No other passes
+    /// can be made. Their tags are the numbers below `passes`.
     ///
     /// Fails only for lack of memory; nothing remains allocated then.
     #[tactic(auto, using(crate::proofs::GiveLemmas::begins_drawn))]
@@ -136,7 +136,7 @@ impl Journal {
         pass
     }
 
-    /// Makes a second seat of this journal, which knows as much as the first.
+    /// Makes a second seat of this journal, which has found the same tags taken as the first.
     pub fn split(&self, seat: &mut Seat) -> Seat
         requires { seat.old.table ≡ self.now }
         ensures same { seat.new ≡ seat.old }
@@ -151,7 +151,8 @@ impl Journal {
 
     /// Takes the first free tag, and makes a pass with it that has read nothing yet.
     ///
-    /// Fails with `NoTag` only if each tag of the journal was seen to be taken; the returned seat knows that.
+    /// Fails with `NoTag` only if each tag of the journal was found taken; the returned seat
+    /// records that.
     pub fn enter(&self, seat: Seat) -> Result<Pass, (Seat, NoTag)>
         requires { seat.table ≡ self.now }
         ensures ok { IfOk result (λ p. (p.table ≡ seat.table) × (p.pass_state ≡ entering seat.passes p.pass_state.tag)
@@ -186,8 +187,9 @@ impl Journal {
         Err((back, NoTag))
     }
 
-    /// Reads the word after those that the pass has read. It is the word of another pass. Returns `None` if there is
-    /// none yet, which counts as an empty look, or if all words are read.
+    /// Reads the word after those that the pass has read. Another pass has placed that word.
+    /// Returns `None` if no word is there yet, which counts as an empty look, or if the pass has
+    /// read as many words as the journal has room for.
     pub fn next(&self, pass: &mut Pass) -> Option<u64>
         requires { pass.old.table ≡ self.now }
         ensures table { pass.new.table ≡ pass.old.table }
@@ -215,8 +217,9 @@ impl Journal {
         Some(found)
     }
 
-    /// Places the word after all that the pass has read, or returns the word that another pass has placed there. The
-    /// pass has read that word now. The word must have an opcode from 1 to `GREATEST_OPCODE` and the pass's tag.
+    /// Places the word after all words that the pass has read, or returns the word that another
+    /// pass has placed there. The pass has then read the word at that place. The word must have an
+    /// opcode from 1 to `GREATEST_OPCODE` and the pass's tag.
     pub fn offer(&self, pass: &mut Pass, word: u64) -> Offered
         requires table { pass.old.table ≡ self.now }
         requires word { HasOpcode word × (tag_of word ≡ pass.old.pass_state.tag) }
@@ -238,8 +241,9 @@ impl Journal {
         }
     }
 
-    /// Compares how many words the two passes have read. The shorter list of words begins the longer one. After this,
-    /// an empty look of either pass shows that it has read what the other had read when they met.
+    /// Compares how many words the two passes have read. The shorter list of words is a prefix of
+    /// the longer one. After this, an empty look of either pass shows that it has read what the
+    /// other had read when they met.
     pub fn meet(&self, one: &mut Pass, other: &mut Pass) -> Ordering
         requires { (one.old.table ≡ self.now) × (other.old.table ≡ self.now) }
         ensures tables { (one.new.table ≡ one.old.table) × (other.new.table ≡ other.old.table) }
@@ -256,8 +260,8 @@ impl Journal {
         one.place.cmp(&other.place)
     }
 
-    /// Lets the passes meet, and then lets the first read until it finds nothing: it has read all that the other had
-    /// read.
+    /// Lets the passes meet, and then lets the first pass read until it finds no word. It has then
+    /// read all that the other had read.
     pub fn see_all_of(&self, one: &mut Pass, other: &mut Pass)
         requires { (one.old.table ≡ self.now) × (other.old.table ≡ self.now) }
         ensures tables { (one.new.table ≡ one.old.table) × (other.new.table ≡ other.old.table) }
@@ -272,8 +276,8 @@ impl Journal {
         self.compare(one);
     }
 
-    /// Reads until no further word is found, or all words are read; then returns the words in order, read again. Each
-    /// has the tag of one of the passes that the journal may have.
+    /// Reads until no further word is found, or all words are read; then reads all words again and
+    /// returns them in order. Each word has a tag below the maximum number of passes.
     ///
     /// Fails only for lack of memory, after reading, so the pass may have read more words.
     pub fn finish(&self, pass: &mut Pass) -> Result<Vec<u64>, Memory>
@@ -313,7 +317,7 @@ impl Journal {
         self.table.shared.load::<Reread>(&mut pass.seat, at + 1)
     }
 
-    // Tells the pass what another has read.
+    // Lets the pass learn what another pass has read.
     fn learn(&self, pass: &mut Pass, from: &mut Pass)
         requires { (pass.old.table ≡ self.now) × (from.old.table ≡ self.now) }
         ensures from { from.new ≡ from.old }
@@ -337,7 +341,7 @@ impl Journal {
     }
 }
 
-// Returns the bits of this many tags, from tag 0 on.
+// Returns a word with the bits of this many tags set, from tag 0 on.
 fn tag_bits(passes: u32) -> u64
     requires { passes ≤ MOST_PASSES }
     ensures drawn { AreDrawn result passes }

@@ -4,8 +4,8 @@ ghost use Rattle.std.specs.Prelude.{◌≡◌};
 ghost use Rattle.nr_journal.specs.Laws.{AnOnlyPassSeesAll, BeginsEmpty, EachWordHasItsPass, EmptyLookSeesAll, NothingIsHidden};
 ghost use Rattle.nr_journal.specs.declared.rule.TheConstants.{GREATEST_OPCODE, MOST_PASSES, MOST_WORDS};
 
-/// A journal begins without words: it has none while only its first seat exists, which has tried no tag, or while no
-/// pass was taken.
+/// A journal begins without words: it has none as long as only its first seat exists and has tried
+/// no tag, or none of its passes has been taken.
 pub fn begins_empty()
     ensures { BeginsEmpty }
 {}
@@ -20,8 +20,8 @@ pub fn an_only_pass_sees_all()
     ensures { AnOnlyPassSeesAll }
 {}
 
-/// No word comes from nowhere: a pass with its tag exists and has read it, at its index. A pass reads a word with its
-/// own tag only through the offer that placed it.
+/// Each word comes from a pass: a pass with the word's tag exists and has read the word, at its
+/// index. A pass reads a word with its own tag only through the offer that placed it.
 pub fn each_word_has_its_pass()
     ensures { EachWordHasItsPass }
 {}
@@ -32,7 +32,7 @@ pub fn nothing_is_hidden()
     ensures { NothingIsHidden }
 {}
 
-/// The greatest opcode of a word of the journal, the most passes that enter a journal, and the most words that it has.
+/// The greatest opcode of a word, and the maximum numbers of passes and of words of a journal.
 pub fn the_numbers()
     ensures opcode { GREATEST_OPCODE ≡ 12 }
     ensures passes { MOST_PASSES ≡ 64 }

@@ -1,4 +1,4 @@
-//! Passes, with which a thread inside a journal makes its steps.
+//! Passes, with which a thread that has entered a journal makes its steps.
 
 ghost use Rattle.std.specs.Prelude.{◌≡◌, length};
 
@@ -6,9 +6,10 @@ use crate::view::View;
 use atomic_table::Seat;
 use std::marker::Model;
 
-/// The right to place words with one tag in a journal, and the number of words read. It is used only with the journal
-/// that made it. Contracts see which journal that is, the tag, the words that the pass has read, how often it found no
-/// word, and the words that it learned another pass had read.
+/// The right to place words with one tag in a journal, and the number of words read. It is used
+/// only with the journal that made it. Contracts see which journal that is, the tag, the words that
+/// the pass has read, how often it found no word, and the words that another pass had read when the
+/// two last met.
 #[derive(Drop)]
 pub struct Pass {
     pub(crate) seat: Seat<(), View>,
@@ -36,7 +37,7 @@ impl Model for Pass {
 pub enum Offered {
     /// The word is in the journal, and the pass has read it.
     Placed,
-    /// This word of another pass is at that index, and the pass has read it.
+    /// Another pass has placed this word at that index, and the pass has read it.
     Lost(u64),
     /// The pass has read all words that the journal has room for. Nothing changed.
     Full,

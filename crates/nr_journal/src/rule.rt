@@ -9,10 +9,10 @@ pub const GREATEST_OPCODE: u64 = 12;
 /// The number of values of a byte: a word's lowest byte is its opcode, and the next byte its tag.
 pub const BYTE_VALUES: u64 = 256;
 
-/// The most passes that a journal can be made for.
+/// The maximum number of passes of a journal.
 pub const MOST_PASSES: u32 = 64;
 
-/// The most words that a journal can be made for.
+/// The maximum number of words of a journal.
 pub const MOST_WORDS: usize = 1_000_000;
 
 /// The dimensions of a journal's table.
@@ -20,13 +20,14 @@ pub const MOST_WORDS: usize = 1_000_000;
 pub struct Purpose {
     /// The number of words that the journal has room for.
     pub words: usize,
-    /// The most passes of the journal. Their tags are the numbers below.
+    /// The maximum number of passes of the journal. Their tags are the numbers below it.
     pub passes: u32,
-    /// Whether all tags are taken from the start, for passes that are handed out.
+    /// Whether all tags are taken from the start, because all passes are made at once.
     pub drawn: bool,
 }
 
-/// The invariant of a journal's words and of all that is known about them, whichever threads make which steps.
+/// The invariant of a journal's words and of all views of it. It holds whichever threads make which
+/// steps.
 pub struct InOneOrder;
 
 impl TableRule<(), View, Purpose> for InOneOrder {

@@ -30,7 +30,7 @@ impl Play<(), View> for Draw {
     ghost then = { Draws };
 }
 
-/// A pass reads a word again that it has read.
+/// A pass reads again a word that it has already read.
 pub(crate) struct Reread;
 
 impl Play<(), View> for Reread {
@@ -48,7 +48,7 @@ impl Play<(), View> for Compare {
     ghost then = { Compares };
 }
 
-/// A second seat is made, which knows as much.
+/// A second seat is made, with the same view as the first.
 pub(crate) struct Twin;
 
 impl Split<View> for Twin {

@@ -1,8 +1,8 @@
-//! Knowledge about a journal, as plain data that exists in proofs only.
+//! Views: what seats and passes know about a journal, as plain data that exists in proofs only.
 
 use std::collections::LinkedList;
 
-/// The knowledge of a pass. No value of this type is made.
+/// What a pass knows about its journal. No value of this type is made.
 pub struct PassState {
     /// The pass's tag, which no other pass has.
     pub tag: u64,
@@ -12,27 +12,28 @@ pub struct PassState {
     pub looks: u64,
     /// The words that another pass had read when the two last met.
     pub learned: LinkedList<u64>,
-    /// The most passes that its journal ever has.
+    /// The maximum number of passes of its journal.
     pub passes: u64,
 }
 
-/// The knowledge of whatever makes steps on the journal. No value of this type is made.
+/// What a seat, a pass, the remaining passes or a note knows about the journal. No value of this
+/// type is made.
 pub enum View {
-    /// The knowledge of a seat.
+    /// What a seat knows about the journal.
     Outside {
         /// The number of tags, from 0 on, that are known to be taken.
         tried: u64,
-        /// The most passes that the journal ever has.
+        /// The maximum number of passes of the journal.
         passes: u64,
     },
-    /// The knowledge of the remaining passes of a journal that makes all of them at once.
+    /// What is known about the remaining passes of a journal that makes all of them at once.
     Keeping {
         /// The tags from this one on are those of remaining passes.
         next: u64,
         /// The number of passes of the journal.
         passes: u64,
     },
-    /// The knowledge of a pass.
+    /// What a pass knows about the journal.
     Within(PassState),
     /// A note from one pass to another: words that were read.
     Note(LinkedList<u64>),

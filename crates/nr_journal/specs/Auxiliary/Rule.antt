@@ -35,11 +35,11 @@ HasTagBelow passes word = tag_of word < passes
 abbrev pub IsEntry : ℕ → ℕ → Type 0
 IsEntry tags word = HasOpcode word × IsDrawn tags (tag_of word)
 
--- True if the knowledge is right. For a seat: the most passes of the journal, and the bits of the
--- tags that it tried are set. For the remaining passes: that too; the bits of all tags are set, and
--- no word has the tag of a remaining pass. For a pass: the most passes; its own bit and all below
--- are set; it has read a prefix of the log, with all of its own words; and what it has learned of
--- is a prefix.
+-- True if a view is correct. Each view has the maximum number of passes, except for notes, whose
+-- words are a prefix of the log. For a seat, the bits of the tags that it tried are set. For the
+-- remaining passes, the bits of all tags are set, and no word has the tag of a remaining pass. For
+-- a pass, its own bit and all lower bits are set, the words that it has read are a prefix of the
+-- log with all words of its tag, and the words that it has learned of are also a prefix.
 abbrev pub Fits : ℕ → ℕ → List ℕ → View → Type 0
 Fits most tags log (Outside tried passes) = (passes ≡ most) × AreDrawn tags tried
 Fits most tags log (Keeping next passes) =
@@ -50,7 +50,7 @@ Fits most tags log (Within pass_state) =
 Fits most tags log (Note seen) = StartsWith log seen
 Fits most tags log Spent = Unit {0}
 
--- true if the view is that of a pass with this tag, or of remaining passes one of which has it
+-- true if the view belongs to a pass with this tag, or to remaining passes that include this tag
 abbrev pub HasTag : View → ℕ → Type 0
 HasTag (Outside _ _) tag = ⊥
 HasTag (Keeping next passes) tag = (next ≤ tag) × (tag < passes)
@@ -64,13 +64,13 @@ AreApart views =
     (i j tag : ℕ) (v w : View) → get_elem? views i ≡ some v → get_elem? views j ≡ some w
     → HasTag v tag → HasTag w tag → i ≡ j
 
--- true if each tag whose bit is set is that of a pass or of a remaining pass
+-- true if each tag whose bit is set belongs to a pass or to a remaining pass
 abbrev pub AreTaken : ℕ → List View → Type 0
 AreTaken tags views = (tag : ℕ) → IsDrawn tags tag
     → (id : ℕ) × (v : View) × (get_elem? views id ≡ some v) × HasTag v tag
 
 -- The invariant of a journal. There is one log: the journal is the log followed by zeros, each word
--- of the log is an entry, and all knowledge about it is right.
+-- of the log is an entry, and all views are correct.
 pub record Kept (purpose : Purpose) (words : List ℕ) (views : List View) : Type 0 where
   pub tags : ℕ
   pub log : List ℕ
@@ -83,24 +83,25 @@ pub record Kept (purpose : Purpose) (words : List ℕ) (views : List View) : Typ
   pub taken : AreTaken tags views
   pub few : AreFew purpose.passes tags
 
--- the knowledge of the first seat: the most passes of the journal
+-- the view of the first seat of a journal with at most this many passes
 abbrev pub newcomer : ℕ → View
 newcomer passes = Outside 0 passes
 
--- the knowledge of a pass that enters with a tag, in a journal with this number of passes at most
+-- the state of a pass that enters, with a tag, a journal with at most this many passes
 abbrev pub entering : ℕ → ℕ → PassState
 entering passes tag = record { tag = tag; seen = []; looks = 0; learned = []; passes = passes }
 
--- the first knowledge of a journal's only pass
+-- the first state of a journal's only pass
 abbrev pub entering_alone : PassState
 entering_alone = entering 1 0
 
--- the first knowledge: that of the remaining passes, which are all, or of the first seat
+-- the first view of a journal: that of all its passes, if they are made at once, or else that of
+-- its first seat
 abbrev pub first_view : Purpose → View
 first_view purpose =
     if purpose.drawn then Keeping 0 purpose.passes else newcomer purpose.passes
 
--- the state after a look that found no word
+-- the state of a pass after a look that found no word
 abbrev pub looked : PassState → PassState
 looked pass_state = record {
   tag = pass_state.tag;
@@ -110,7 +111,7 @@ looked pass_state = record {
   passes = pass_state.passes;
 }
 
--- the state after one more word was read
+-- the state of a pass after it read one more word
 abbrev pub having_seen : PassState → ℕ → PassState
 having_seen pass_state word = record {
   tag = pass_state.tag;
@@ -120,7 +121,8 @@ having_seen pass_state word = record {
   passes = pass_state.passes;
 }
 
--- the state after learning what another pass has read, instead of what was learned before
+-- the state of a pass after it learned what another pass has read, which replaces what it learned
+-- before
 abbrev pub informed : PassState → List ℕ → PassState
 informed pass_state learned = record {
   tag = pass_state.tag;
