@@ -15,7 +15,7 @@ from page_rules.tree import Finding, Tree, has_word
 
 GLOSSARY = "docs/internals/GLOSSARY.md"
 SHARED = "Names that several crates have"
-FOR_CALLERS, INSIDE = "what callers need", "inner"
+FOR_CALLERS, INSIDE = ("what callers need", "more for callers"), "inner"
 
 IMPORT = re.compile(r"use Rattle\.(\w+)\.specs\.([A-Z]\w*)(?:\.\{([^}]*)\}| as (\w+))")
 EXPORT = re.compile(r"^pub (mod|use) ([^;]+);", re.MULTILINE)
