@@ -57,13 +57,13 @@ pub enum DescOp {
     /// Checks whether anything prevents a wait (Go's `netpollcheckerr`). Answers `Code`.
     Check(Side),
     /// Makes a side's word wait, or consumes it if it is ready (the first half of Go's
-    /// `netpollblock`). Answers `Wait`, or `Code(0)` if it was ready.
+    /// `netpollblock`). Answers `Wait`, or `Code(0)` if the word was ready.
     Arm(Side),
     /// Makes a side's word hold the goroutine, if the word is wait (Go's `netpollblockcommit`).
     /// Answers `Yes`, or `No` if the word isn't wait.
     Commit(Side, Goroutine),
-    /// Makes a side's word nil (the second half of Go's `netpollblock`). Answers `Yes` if it was
-    /// ready, and otherwise `No`.
+    /// Makes a side's word nil (the second half of Go's `netpollblock`). Answers `Yes` if the word
+    /// was ready, and otherwise `No`.
     Swap(Side),
     /// Sets a deadline (Go's `poll_runtime_pollSetDeadline`). Answers `Done`, with the orders to the timers and the
     /// woken goroutines.

@@ -173,7 +173,7 @@ module _ {nodes : List GoroutineNode} {semaphores : List (Sides SemaphoreHead)} 
       let queue = queue_from nodes (of_side side x) in
       within_of old.previous (length nodes) n same (previous_there nodes semaphores is.queues s side x there g old at (take (length queue - 1) queue) (last_split queue g last))
 
-  -- a goroutine that is in no queue joins the back of one
+  -- a goroutine that is in no queue joins the back of a queue
   pub joined_back : (s : ℕ) (side : Side) (g : ℕ) (x : Sides SemaphoreHead) (q : SemaphoreHead) → slice_get semaphores s ≡ Some x → q ≡ of_side side x → IsOutside g t
       → (ys written : List GoroutineNode) (zs : List (Sides SemaphoreHead)) → (length written ≡ length nodes → ys ≡ written)
       → written ≡ with_next q.back (Some g) (set nodes g (node_with (Queued s side) None q.back))
@@ -188,7 +188,7 @@ module _ {nodes : List GoroutineNode} {semaphores : List (Sides SemaphoreHead)} 
       → AreTable ys zs limit (with_status g (Queued s side) (on_semaphore s side (with_last g) t)))
       (sym q_is) (requeued_table is (joins_back nodes semaphores is.queues s side x there g old.0 old.1 (of_side side x).count old.2) there (with_last g) refl)
 
-  -- a goroutine that is in no queue joins the front of one, whose count decreases
+  -- a goroutine that is in no queue joins the front of a queue, and the semaphore's count decreases
   pub joined_front : (s : ℕ) (side : Side) (g : ℕ) (x : Sides SemaphoreHead) (q : SemaphoreHead) → slice_get semaphores s ≡ Some x → q ≡ of_side side x → IsOutside g t
       → (ys written : List GoroutineNode) (zs : List (Sides SemaphoreHead)) → (length written ≡ length nodes → ys ≡ written)
       → written ≡ with_previous q.front (Some g) (set nodes g (node_with (Queued s side) q.front None))
@@ -220,7 +220,7 @@ module _ {nodes : List GoroutineNode} {semaphores : List (Sides SemaphoreHead)} 
       (sym q_is) (requeued_table is (leaves_back nodes semaphores is.queues s side x there g old at (of_side side x).count (Acquiring s side) (take (length queue - 1) queue) refl
       (last_split queue g last)) there without_last refl)
 
-  -- the first goroutine leaves a queue, whose count increases
+  -- the first goroutine leaves a queue, and the semaphore's count increases
   pub left_front : (s : ℕ) (side : Side) (g : ℕ) (x : Sides SemaphoreHead) (q : SemaphoreHead) → slice_get semaphores s ≡ Some x → q ≡ of_side side x → (old : GoroutineNode)
       → slice_get nodes g ≡ Some old → slice_get (queue_from nodes (of_side side x)) 0 ≡ Some g
       → (ys written : List GoroutineNode) (zs : List (Sides SemaphoreHead)) → (length written ≡ length nodes → ys ≡ written)

@@ -69,7 +69,7 @@ pushed nodes semaphores queues node h none no_next no_previous =
       | inr last ↦ absurd (let t : true ≡ false = ap is_waiting (sym last.1) ∙ none in cc)
     ])
 
--- the last goroutine is removed, which is in no queue
+-- the goroutine made last, which is in no queue, is removed
 pub popped : (nodes : List GoroutineNode) (semaphores : List (Sides SemaphoreHead)) (queues : ℕ → Side → List ℕ) (node : GoroutineNode) → AreQueues (nodes ++ node ∷ []) semaphores queues
     → is_waiting node.status ≡ false → AreQueues nodes semaphores queues
 popped nodes semaphores queues node h none =

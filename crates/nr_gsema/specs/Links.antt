@@ -65,7 +65,7 @@ IsLinked nodes status previous (g ∷ queue) first last =
     × ((next : Option ℕ) × (slice_get nodes g ≡ Some (node_with status next previous))
     × IsLinked nodes status (Some g) queue next last)
 
--- true if the status is that of a queued goroutine
+-- true if a goroutine with this status is queued
 abbrev pub is_waiting : Status → Bool
 is_waiting (Queued s side) = true
 is_waiting _ = false

@@ -35,8 +35,8 @@ abbrev pub or_else : Option ℕ → ℕ → Option ℕ
 or_else None g = Some g
 or_else (Some end) g = Some end
 
--- one end of a queue after the goroutine at the other end, which had this neighbour, left: none if
--- it was alone
+-- one end of a queue after the goroutine at the other end left; none if that goroutine had no
+-- neighbour
 abbrev pub end_left : Option ℕ → Option ℕ → Option ℕ
 end_left None end = None
 end_left (Some neighbour) end = end

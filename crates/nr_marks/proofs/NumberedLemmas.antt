@@ -30,7 +30,7 @@ module _ {Item : Type 0} where
   RisesWithin-push low [] last high next rising = (omega (arith, next, rising), omega (arith, next))
   RisesWithin-push low (n ∷ items) last high next rising = (rising.0, RisesWithin-push n.number items last high next rising.1)
 
-  -- the items that pass a test, if the first item passes it
+  -- if no item has the number, the first item isn't deleted
   kept-first : (named : Bool) (n : Numbered Item) (items others : List (Numbered Item)) (found : Option (Numbered Item)) → is_some (option_map (λ m. m.item) (cond named (Some n) found)) ≡ false
       → (is_some (option_map (λ m. m.item) found) ≡ false → others ≡ items) → cond (not named) (n ∷ others) others ≡ n ∷ items
   kept-first true n items others found none rest = cc

@@ -124,7 +124,7 @@ impl Marks {
     }
 
     /// Deletes the temporary marks among the marks that hit at a stop, as GDB deletes a breakpoint
-    /// of `tbreak`. The others keep their numbers, and the numbers of the deleted ones aren't
+    /// of `tbreak`. The other marks keep their numbers, and the numbers of the deleted marks aren't
     /// reused.
     pub fn delete_temporary(&mut self, hits: &[u32])
         ensures { self.new ≡ after_stop hits.now self.old }

@@ -49,7 +49,7 @@ abbrev pub WritesAll : Outgoing → Outgoing → List ℕ → Type 0
 WritesAll old new text = Sends old new text × (new.failed ≡ old.failed)
 
 -- True if a write failed after exactly n bytes of the text, fewer than all, were written, and the
--- count is n or, if n is greater, its maximum.
+-- count is n or the greatest count, 2 ^ 64 - 1, if that is less.
 pub record WritesPrefix (old new : Outgoing) (text : List ℕ) (count : ℕ) : Type 0 where
   pub n : ℕ
   pub within : n < length text

@@ -37,7 +37,7 @@ impl<W: Write> Model for Sink<W> {
 pub struct Part(pub u64);
 
 impl<W: Write> Sink<W> {
-    /// Wraps a writer. No write has been made or has failed yet.
+    /// Wraps a writer, with an empty log of writes.
     pub fn new(writer: W) -> Sink<W>
         ensures { result ≡ unwritten (W.contents writer) }
     {

@@ -36,7 +36,7 @@ impl<R: Read> Model for Source<R> {
 pub struct ReadFailed;
 
 impl<R: Read> Source<R> {
-    /// Wraps a reader. No read has been made or has failed yet.
+    /// Wraps a reader, with an empty log of reads.
     pub fn new(reader: R) -> Source<R>
         ensures { result ≡ unread (R.remaining reader) }
     {

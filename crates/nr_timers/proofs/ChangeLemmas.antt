@@ -96,7 +96,7 @@ module _ (old : List Entry) (entry : Entry) where
       } in
       subst (λ xs. OrderedAbove xs p) (sym e) (subst (λ x. OrderedAbove (old ++ entry ∷ []) x) (sym is) it)
 
--- the entry at the end of a move down was at its beginning
+-- the entry at the end of a move down is the one that was at its beginning
 pub at-moved_down : (n : ℕ) (new : List Entry) (p q : ℕ) → p < length new → Leads n p q → at (moved_down n new p) p ≡ at new q
 at-moved_down zero new p q lt h = ap (at new) (sym h)
 at-moved_down (suc n) new p q lt h =
@@ -322,7 +322,7 @@ module _ (old : List Entry) (p : ℕ) (within : p < length old) where
         pub sifted_back : TakenBack p q new rest → RemovedBack p q entry new old
         sifted_back back = let more = size_rest in let there = inside in removed_back rest new q entry is entry_is (omega arith) (inr (omega arith, omega arith)) back
 
--- the list after the last entry was moved to p
+-- the list without its last place, after the last entry was moved to p
 pub refilled_is : (old mid rest : List Entry) (p n : ℕ) → n ≡ length old → mid ≡ swap old p (n - 1) → rest ≡ take (length mid - 1) mid → rest ≡ refilled old p
 refilled_is old mid rest p n e1 e2 e3 =
     let e : mid ≡ swap old p (length old - 1) = e2 ∙ ap (λ x. swap old p (x - 1)) e1 in

@@ -113,7 +113,7 @@ Drawn-down (suc n) xs p lt =
     (Drawn-down n xs (parent p) (omega arith))
     (Drawn-swap (moved_down n xs (parent p)) p (parent p) (omega arith) (omega arith))
 
--- a heap still has the same entries after an undone move
+-- undoing a move keeps the entries of the heap
 pub Drawn-back : (new rest : List Entry) (p q : ℕ) → ((p ≡ length new) × (q ≡ p) ⊎ (p < length new) × (q < length new)) → TakenBack p q new rest → Drawn new rest × Drawn rest new
 Drawn-back new rest p q (inl h) back =
     let still : new ≡ rest = TakenBack-unique p p new new rest (TakenBack-none new p) (subst (λ i. TakenBack p i new rest) h.1 back) in
@@ -167,7 +167,7 @@ Apart-pushed f xs e h other p q lt lt_q same =
     )
     (cases_lt p (length xs))
 
--- what the undo of a removal says about the entries
+-- the entries before and after a removal, according to its undo
 module _ (p q : ℕ) (e : Entry) (new old : List Entry) (back : RemovedBack p q e new old) where
   both_ways : Drawn new back.1 × Drawn back.1 new
   both_ways = Drawn-back new back.1 p q back.0 back.2
@@ -222,7 +222,7 @@ module _ (p q : ℕ) (e : Entry) (new old : List Entry) (back : RemovedBack p q 
       (ap f (at_pushed back.1 e there.0 there.1 ∙ there.2) ∙ same ∙ ap f (sym (at_last back.1 e))) in
       omega arith
 
--- what the undo of an insertion says about the entries
+-- the entries before and after an insertion, according to its undo
 module _ (q : ℕ) (new old : List Entry) (back : InsertedBack q new old) where
   mid_is : old ++ at new q ∷ [] ≡ moved_down back.1 new (length new - 1)
   mid_is =

@@ -229,7 +229,7 @@ module _ (xs : List Entry) (ix : List ℕ) (h : IsIndexed xs ix) where
               omega arith;
         }
 
--- the index after the steps of the code
+-- the index after all steps of the code
 pub index_swapped : (xs zs : List Entry) (ix : List ℕ) (a b ka kb : ℕ) → IsIndexed xs ix → a < length xs → b < length xs → zs ≡ swap xs a b → ka ≡ key (at xs a) → kb ≡ key (at xs b)
     → IsIndexed zs (set (set ix ka (b + 1)) kb (a + 1))
 index_swapped xs zs ix a b ka kb h wa wb e ea eb =

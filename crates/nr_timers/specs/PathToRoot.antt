@@ -38,7 +38,7 @@ pub record Raised (old : List Entry) (p : ℕ) (entry : Entry) (q : ℕ) (new : 
 
 -- True if the entry was inserted at q, with p as the empty place, and no child of q is less. The
 -- entries on the path from q up to p, without p, moved one place up, and all others stayed. Each
--- that moved was the least child of its parent and less than the inserted entry.
+-- entry that moved was the least child of its parent and less than the inserted entry.
 pub record Sunk (old : List Entry) (p : ℕ) (entry : Entry) (q : ℕ) (new : List Entry) : Type 0 where
   pub on_path : OnPath q p
   pub within : q < length new

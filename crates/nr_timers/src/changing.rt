@@ -113,7 +113,8 @@ impl Heap {
         }
     }
 
-    /// Undoes the removal of an entry from a place, which moved the last entry to the place `last`.
+    /// Undoes the removal of an entry from a place; the removal moved the last entry to the place
+    /// `last`.
     #[inline(always)]
     pub(crate) fn unremove(&mut self, place: usize, last: usize, entry: Entry)
         requires { (old : List Entry)

@@ -15,7 +15,7 @@ use std::marker::Model;
 pub(crate) struct Heap {
     /// The entries by place.
     places: Vec<Entry>,
-    /// For each key, the place of its entry plus 1, or 0 if it has none.
+    /// For each key, the place of its entry plus 1, or 0 if the key has no entry.
     index: Vec<u32>,
 }
 

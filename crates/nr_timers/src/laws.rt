@@ -24,7 +24,7 @@ pub fn entries_are_the_descriptors()
         → slice_get t.entries 0 ≡ least_of (entries_from 0 timers) }
 {}
 
-/// The entry at place 0 goes off before every other.
+/// The entry at place 0 goes off before every other entry.
 pub fn the_first_is_the_least()
     ensures { (t : State) (place : ℕ) → IsTimers t → 0 < place → place < length t.entries
         → is_less (at t.entries 0) (at t.entries place) ≡ true }

@@ -1,5 +1,5 @@
 //! Timers in the order in which they are due, and the firings that wait to be run. The timers are a
-//! heap with four children per place, which finds the place of the timer of each descriptor's side.
+//! heap with four children per place; an index finds the place of each side's timer.
 #![tactic(auto)]
 
 mod apply;

@@ -3,8 +3,8 @@ use Rattle.std.specs.Prelude.{ℕ, ◌<◌, ◌≤◌, List, [], ◌∷◌, map,
 use Rattle.nr_marks.specs.declared.numbered.Numbered.{Numbered}
 use Rattle.nr_marks.specs.Numbered.{NumberedItems, is_full, newest}
 
--- True if each number is above the one before it, the first above `low`, and the last at most
--- `high`.
+-- True if each number is above the one before it, the first number is above `low`, and the last one
+-- is at most `high`.
 abbrev pub RisesWithin : ℕ → List ℕ → ℕ → Type 0
 RisesWithin low [] high = low ≤ high
 RisesWithin low (n ∷ ns) high = (low < n) × RisesWithin n ns high
