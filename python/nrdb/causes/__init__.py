@@ -1,6 +1,6 @@
 """The causes of failed calls and of hangs: the goroutine that set a deadline, closed a socket, or could have ended a
-wait. They are derived from the recording's steps and NAME.where. Nothing here is proved; each sentence names the steps
-it rests on."""
+wait. The causes are derived from the recording's steps and NAME.where. Nothing here is proved; each explanation names
+the steps on which it rests."""
 
 from .failing import causes_of
 from .first import first_words, opening_words, root_sentence

@@ -11,8 +11,8 @@ SYSREAD = "sysread"
 
 
 class Asked:
-    """For each Read, the number of bytes that its first system call asked for, and the previous Read of the same
-    goroutine and socket."""
+    """For each Read, the number of bytes that its first system call asked for, and the goroutine's previous Read on
+    that socket."""
 
     def __init__(self, index: Index) -> None:
         self._asked: dict[int, int] = {}  # keyed by the first step of the Read
@@ -47,8 +47,8 @@ class Asked:
         return self._before.get(call.first)
 
     def begin_of(self, call: Call) -> Call:
-        """The first Read of the io.ReadFull that a Read belongs to: each later Read of an io.ReadFull asks for the
-        bytes that the previous Read left. A Read that is alone is its own first Read."""
+        """The first Read of the io.ReadFull that a Read belongs to; outside an io.ReadFull, the Read itself. Each later
+        Read of an io.ReadFull asks for the bytes that the previous Read left."""
         while (before := self.before(call)) and self.is_next(before, call):
             call = before
         return call

@@ -1,6 +1,6 @@
 """Channels from which goroutines take a value and give it back in the same function, such as a pool of connections or a
-semaphore. The module counts how often each goroutine took and gave back a value, and finds the calls that gave back
-twice or never."""
+semaphore. The module counts how often each goroutine took a value and gave it back, and finds the calls that gave a
+value back twice or never."""
 
 from collections import Counter, defaultdict
 from operator import attrgetter
@@ -22,16 +22,15 @@ Path = tuple[Call, ...]  # the calls around the one that takes and gives back
 
 
 class Place(NamedTuple):
-    """The place of a use in the function that takes and gives back: the line in that function, and the caller's
-    line."""
+    """The place at which a function uses a channel: the line in the function, and the calls around it."""
 
     line: Call
     path: Path
 
 
 class Form(NamedTuple):
-    """The function that takes and gives back, what it takes, the lines at which it takes, and the lines at which it
-    gives back."""
+    """A function that takes values from a channel and gives them back: what it takes (PUT or TOOK), the lines at which
+    it does so, and the lines at which it gives a value back."""
 
     function: str
     takes: str
@@ -39,17 +38,16 @@ class Form(NamedTuple):
     giving: set[Call]
 
     def has_at(self, line: Call) -> bool:
-        """Whether a call at this line has taken something and not yet given it back. Such a call gives it back at a
-        later line or in a deferred function."""
+        """Whether a call at this line has taken a value and gives it back at a later line or in a deferred function."""
         deferred = any(one.function != self.function for one in self.giving)
         is_behind = any(one.line < line.line for one in self.taking)
         return is_behind and (deferred or any(line.line < one.line for one in self.giving))
 
 
 class Balance(NamedTuple):
-    """A goroutine's use of a channel by calls from one place: what it takes (PUT for a semaphore), the lines at which
-    it took and gave back, how often it did each, whether a call in progress has a value, and whether the goroutine
-    waits to take or to give back."""
+    """How a goroutine's calls from one place use a channel. `takes` is PUT for a semaphore; `taken` and `given` count
+    the values taken and given back at each line. The flags say whether a call in progress has a value, waits to take
+    one, or waits to give one back."""
 
     name: Name
     takes: str
@@ -79,8 +77,8 @@ class Balance(NamedTuple):
 
 
 def at_lines(often: Counter[Call]) -> str:
-    """The lines of uses: ` at a.go:3 in take`, or the number at each line: ` (9 at a.go:3 in give, 1 at a.go:7 in
-    give)`."""
+    """Text for the lines of uses: ` at a.go:3 in take`, or, with the number of uses at each line, ` (9 at a.go:3 in
+    give, 1 at a.go:7 in give)`."""
     places = Counter[str]()
     for line, count in often.items():
         places[f"{line.place()} in {short(line.function).partition(DEFERRED)[0]}"] += count
@@ -90,8 +88,8 @@ def at_lines(often: Counter[Call]) -> str:
 
 
 def balances_of(recording: Recording, number: int, now: dict[Name, Stack]) -> list[Balance]:
-    """The balances of a channel, for each function that takes and gives back. `now` are the stacks of the goroutines
-    that wait."""
+    """The balances of a channel, for each function that takes its values and gives them back. `now` has the stacks of
+    the goroutines that wait."""
     lines = recording.lines
     uses = [use for use in lines.uses.get(number, ()) if use.what in (PUT, TOOK)]
     takes, functions = takes_of(recording, uses)
@@ -113,7 +111,7 @@ def give_back(balances: list[Balance]) -> bool:
 def of_function(
     recording: Recording, function: str, takes: str, found: dict[tuple[Name, Path], list[Use]], now: dict[Name, Stack]
 ) -> list[Balance]:
-    """The balances of a function that takes and gives back, one for each goroutine and caller's line."""
+    """The balances of a function that takes values and gives them back, one for each goroutine and caller."""
     every = [use for some in found.values() for use in some]
     form = Form(function, takes, *lines_of_form(recording, every, takes, function))
     often = Counter(name for name, _ in found)
@@ -125,12 +123,12 @@ def of_function(
 
 
 def called_at(path: Path) -> str:
-    """The caller's line of a function: `a.go:3`."""
+    """The line from which a function was called, as `a.go:3`."""
     return path[0].place() if path else ""
 
 
 def lines_of_form(recording: Recording, uses: list[Use], takes: str, function: str) -> tuple[set[Call], set[Call]]:
-    """The lines at which a function takes, and the lines at which it gives back."""
+    """The lines at which a function takes values, and the lines at which it gives values back."""
     taking, giving = set[Call](), set[Call]()
     for use in uses:
         if place := place_in(function, program_frames(recording.lines.stacks[use.stack])):
@@ -157,7 +155,7 @@ def takes_of(recording: Recording, uses: list[Use]) -> tuple[str, set[str]]:
 
 
 def first_of(recording: Recording, uses: list[Use], function: str) -> str:
-    """PUT or TOOK, whichever most goroutines did first in a function."""
+    """The operation, PUT or TOOK, that most goroutines did first in a function."""
     inside = [use for use in uses if place_in(function, program_frames(recording.lines.stacks[use.stack]))]
     first: dict[int, str] = {}
     for use in sorted(inside, key=BEGIN):
@@ -170,8 +168,8 @@ def program_frames(stack: Stack) -> Frames:
 
 
 def place_in(function: str, frames: Frames) -> Optional[Place]:
-    """The innermost call of a function in a stack. For a deferred function, the line is that of the `defer`
-    statement."""
+    """The innermost call of a function in a stack. If a function literal or a deferred call of the function is running,
+    the line is the one there; for a deferred call, that is the line of its `defer` statement."""
     for at, call in enumerate(frames):
         if call.function == function:
             inner = frames[at - 1] if at and frames[at - 1].function.startswith(f"{function}.") else call
@@ -182,7 +180,7 @@ def place_in(function: str, frames: Frames) -> Optional[Place]:
 def balance_of(
     recording: Recording, name: Name, path: Path, uses: list[Use], form: Form, now: dict[Name, Stack]
 ) -> Balance:
-    """The balance of a goroutine's calls of the function from one place."""
+    """The balance of the calls that a goroutine made to the function from one place."""
     taken, given, stacks = Counter[Call](), Counter[Call](), recording.lines.stacks
     for use in uses:
         if place := place_in(form.function, program_frames(stacks[use.stack])):
@@ -207,8 +205,8 @@ def has_ended(recording: Recording, name: Name) -> bool:
 
 
 def current_in(function: str, path: Path, stack: Optional[Stack]) -> Optional[tuple[Call, Frames]]:
-    """The place that a goroutine is now at in a call of the function from the same caller's line, and the goroutine's
-    whole stack."""
+    """The line at which a goroutine is now in a call of the function by these callers, and the goroutine's frames in
+    the program; None if it is in no such call."""
     frames = program_frames(stack) if stack else ()
     for at, call in enumerate(frames):
         if call.function == function and frames[at + 1 :] == path:

@@ -1,5 +1,5 @@
 """Sentences about functions that take values from a channel and give them back: calls that kept a value, and calls that
-gave back too often."""
+gave a value back too often."""
 
 from netrev_words.plurals import counted
 
@@ -12,8 +12,8 @@ MOST_BALANCES = 3  # the most sentences
 
 
 def kept_says(recording: Recording, balances: list[Balance]) -> list[str]:
-    """Sentences about the goroutines whose calls kept what they took, and the lines that only these goroutines passed
-    among those started by the same `go` statement."""
+    """Sentences about the goroutines whose calls kept what they took. Of the goroutines that a `go` statement started,
+    the sentences name the lines that only these passed."""
     kept = [one for one in balances if one.missing > 0]
     if not kept:
         return []

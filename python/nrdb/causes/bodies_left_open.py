@@ -19,7 +19,8 @@ READ_LOOP = "net/http.(*persistConn).readLoop"
 
 
 def open_bodies(recording: Recording, ledger: Ledger, waits: Waits, position: int) -> list[str]:
-    """Sentences about such connections, and the paths on which a body isn't closed; none if no connection waits."""
+    """Sentences about connections that wait for a body, and about the paths on which a body isn't closed; none if no
+    connection waits."""
     kept = [wait for wait in waits.left(position) if is_kept(wait)]
     if not kept:
         return []

@@ -29,7 +29,7 @@ LATE = 1_000_000_000  # nanoseconds by which a timer may be late
 
 
 class Found(NamedTuple):
-    """A channel that a goroutine found closed, with the time, and the function that tested the channel."""
+    """A channel that a goroutine found closed, the time, and the function that tested the channel."""
 
     object: int
     time: int
@@ -37,8 +37,8 @@ class Found(NamedTuple):
 
 
 class Cancel(NamedTuple):
-    """A goroutine that found a channel closed, the use by which it found the channel closed, and the timers that may
-    have closed the channel."""
+    """A goroutine that found a channel closed, the use that closed the channel, and the timers that may have done
+    so."""
 
     goroutine: int
     use: Use
@@ -111,8 +111,8 @@ def limits_of(recording: Recording, use: Use, goid: int) -> list[Timer]:
 
 
 def limits_before(recording: Recording, time: int, goid: int) -> list[Timer]:
-    """The timers of contexts that went off just before a time, latest first. If this goroutine made some of them, only
-    those."""
+    """The timers of contexts that went off just before a time, latest first. If the goroutine made some of these
+    timers, the result has only its own."""
     timers = [
         timer for timer in recording.lines.timers.get(0, ())
         if has(recording.lines.stacks[timer.stack], OF_A_LIMIT) and timer.due <= time < timer.due + LATE
@@ -147,12 +147,12 @@ def cancel_says(index: Index, cancel: Cancel) -> str:
 
 
 def perhaps_of(index: Index, timers: list[Timer]) -> str:
-    """`perhaps ` if timers made at several places may have gone off; else empty."""
+    """`perhaps ` if the timers were made at several places; else empty."""
     return "perhaps " if len({place_in(index.recording.lines.stacks[one.stack]) for one in timers}) > 1 else ""
 
 
 def limit_says(index: Index, timers: list[Timer]) -> str:
-    """A sentence which says that a context's timeout had passed. One of the timers was the context's."""
+    """A sentence which says that a context's timeout had passed. One of the timers belonged to that context."""
     lines, timer = index.recording.lines, timers[0]
     return (
         f"the limit of a context, {perhaps_of(index, timers)}{duration(timer.due - timer.time)}, had passed since that was "
@@ -161,9 +161,9 @@ def limit_says(index: Index, timers: list[Timer]) -> str:
 
 
 def is_of_a_rest(recording: Recording, timer: Timer) -> bool:
-    """Whether a timer may cover the rest of a timeout after a redirect: the same goroutine made an earlier timer at the
-    same place, and both are due at nearly the same time. For two separate requests, the timers' due times differ as
-    much as the times at which they were made."""
+    """Whether a timer may cover the rest of a timeout after a redirect: its goroutine made an earlier timer at the same
+    place that is due at nearly the same time. The timers of two separate requests are due as far apart as they were
+    made."""
     return any(
         (one.goid, one.stack) == (timer.goid, timer.stack) and 2 * abs(one.due - timer.due) < timer.time - one.time
         for one in recording.lines.timers.get(0, ())
@@ -172,7 +172,7 @@ def is_of_a_rest(recording: Recording, timer: Timer) -> bool:
 
 def deferred_says(index: Index, cancel: Cancel) -> list[str]:
     """Sentences about a context that was cancelled when a function returned: the line that defers the cancel, and the
-    line that makes the context. Empty unless the source has exactly one such line."""
+    line that makes the context. The list is empty unless the source has exactly one such `defer`."""
     own = index.recording.lines.stacks[cancel.use.stack].own()
     if cancel.timers or not own or not text_at(index.recording, own[0]).strip().startswith(("return", "}")):
         return []
@@ -192,8 +192,8 @@ def under_way(index: Index, call: Call, step: int) -> str:
 
 
 def after_says(index: Index, step: int, goroutine: int) -> list[str]:
-    """Sentences about a step of a goroutine that context.AfterFunc started: which goroutine had cancelled the context,
-    and at which line, or which timeout had passed."""
+    """Sentences about a step of a goroutine that context.AfterFunc started. They name the goroutine and line that had
+    cancelled the context, or the timeout that had passed."""
     lines = index.recording.lines
     known = lines.goroutines.get(lines.goid_of(goroutine, step))
     if known is None or known.made is None or not known.made.function.startswith(AFTER_FUNC):

@@ -1,5 +1,5 @@
-"""The chain of waits that led to a failed call, at the step at which the call failed: what held up the goroutine that
-the call waited for, what held up the goroutine that the first one waited for, and so on."""
+"""The chain of waits that led to a failed call, at the step at which the call failed. The call waited for a goroutine,
+which itself waited for another, and so on."""
 
 from ..one_call import Call
 from ..waits import Name
@@ -32,7 +32,7 @@ def chain_says(index: Index, call: Call, need: Need, position: int) -> list[str]
 
 
 def is_elsewhere(index: Index, call: Call, waiter: Waiter, need: Need) -> bool:
-    """Whether a goroutine is needed only because it used the other end, although it is now in a call on another
+    """Whether a goroutine counts as needed only because it used the other end, although it is now in a call on another
     connection."""
     ends = (call.socket, index.other_end(call.socket))
     return waiter.call is not None and waiter.call.socket not in ends and need.how.endswith("the other end last")
@@ -48,8 +48,8 @@ def is_still_so(index: Index, waiter: Waiter, position: int) -> bool:
 
 
 def link_says(index: Index, waiter: Waiter, need: Need, is_back: bool, told: list[str]) -> list[str]:
-    """The sentences about one goroutine of the chain. If that goroutine waits for the failed call's own goroutine, the
-    reason of its need is left out."""
+    """The sentences about one goroutine of the chain. They leave out the reason of its need if that goroutine waits for
+    the failed call's own goroutine."""
     more = [*need.says, *need.more] if not (is_back and waiter.call) else need.more
     place = place_in(waiter.stack)
     is_told = bool(place) and any(place in line for line in told)

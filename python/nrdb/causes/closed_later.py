@@ -1,5 +1,5 @@
-"""Selects that another goroutine would end later: the other goroutine is in a function, before a line that closes the
-channel of a case or cancels its context. The lines come from the program's source."""
+"""Selects that another goroutine would end later: that goroutine is in a function, before a line that closes a case's
+channel or cancels a case's context. The lines come from the program's source."""
 
 import re
 from typing import Iterable, Iterator, Optional
@@ -18,8 +18,8 @@ DONE = ".Done"
 
 
 def closed_later(recording: Recording, wait: Waiting, stacks: Iterable[tuple[Name, Stack]]) -> Optional[Need]:
-    """The need of a goroutine that waits in a select. None if the goroutine waits elsewhere, or if no other goroutine
-    has such a line ahead."""
+    """The need of a goroutine that waits in a select. The result is None if the goroutine isn't in a select, or if no
+    other goroutine is before a line that would end the select."""
     own = wait.stack.own()
     lines = source_of(recording, own[0].file) if own and own[0].of == OF_THE_PROGRAM else None
     if wait.kind != A_SELECT or not own or not lines:

@@ -22,8 +22,8 @@ MOST = 2
 
 
 class Waking(NamedTuple):
-    """A function that changes what a Wait's loop tests: its line, the field, the line that wakes a waiter (if any), and
-    whether the function itself waits."""
+    """A function that changes what a Wait's loop tests: the line of the change, the field, the line that wakes a waiter
+    (if any), and whether the function itself waits."""
 
     function: str
     changes: int
@@ -56,8 +56,8 @@ def one_alone(recording: Recording, wait: Waiting, waiting: int) -> list[str]:
 
 
 def mistaken_signal(recording: Recording, wait: Waiting) -> list[str]:
-    """Sentences about a loop that tests an entry of its own: a Signal may wake a goroutine that waits for another
-    entry."""
+    """Sentences about a Signal that perhaps woke a different goroutine, because goroutines wait there for different
+    things: at several lines, or for different entries of a table."""
     own = wait.stack.own()
     lines = source_of(recording, own[0].file) if own else None
     head = head_of(lines, own[0]) if own and lines else 0
@@ -141,19 +141,19 @@ def fields_of(lines: Lines, call: Call) -> set[str]:
 
 
 def conditions_of(lines: Lines, head: int) -> list[str]:
-    """The conditions in the body of a loop whose head has none."""
+    """The conditions in the body of a loop that has no condition in its head."""
     texts = (lines[number - 1].partition("//")[0].strip() for number in body_of(lines, head))
     is_endless = lines[head - 1].strip() == "for {"
     return [text for text in texts if text.startswith(("if ", "for "))] if is_endless else []
 
 
 def conditions_in(lines: Lines, head: int) -> set[str]:
-    """The fields in the conditions in the body of a loop whose head has none."""
+    """The fields that a loop's body tests, if the loop has no condition in its head."""
     return {field for text in conditions_of(lines, head) for field in FIELD.findall(text)}
 
 
 def functions_of(lines: Lines) -> list[tuple[str, range]]:
-    """The functions of a file, each with its name as in a stack and its lines."""
+    """The functions of a file, each with its lines and with the name that stacks use."""
     found = []
     for number, text in enumerate(lines, 1):
         if named := FUNCTION.match(text):

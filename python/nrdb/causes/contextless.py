@@ -1,5 +1,5 @@
-"""Requests of net/http without a context, made in a function that has one, while a goroutine waits for the response.
-Derived from the program's source."""
+"""Requests of net/http that were made without a context in a function that has a context, while a goroutine waits for
+the response. The module reads the program's source."""
 
 import re
 

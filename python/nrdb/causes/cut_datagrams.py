@@ -81,7 +81,7 @@ def sent_to(index: Index, socket: int) -> list[Call]:
 
 
 def causes_of_cuts(index: Index) -> list[Cause]:
-    """Possible causes from cut datagrams: one for each line that read some, about the first of them."""
+    """Possible causes from cut datagrams: for each line that read cut datagrams, a cause about the first of them."""
     found: dict[object, list[CutDatagram]] = defaultdict(list)
     for pair in cut_datagrams(index):
         found[index.recording.lines.of(pair.read.first).own()].append(pair)
@@ -89,7 +89,7 @@ def causes_of_cuts(index: Index) -> list[Cause]:
 
 
 def cause_of(index: Index, pair: CutDatagram, others: int) -> Cause:
-    """The cause for a datagram that was cut, with the number of further ones."""
+    """The cause for a datagram that was cut, with the number of further cut datagrams."""
     more = [f"{others} more like it."] if others else []
     looks = [f"goto {pair.read.last}", f"calls sock {pair.read.socket}"]
     return Cause(pair.read, [*pair.says(index), *more], [pair.wrote.first, pair.read.first], looks)
@@ -97,8 +97,8 @@ def cause_of(index: Index, pair: CutDatagram, others: int) -> Cause:
 
 def cut_says(index: Index, call: Call, position: int) -> list[str]:
     """Sentences about a Read that waits for a datagram. If the last datagram that the Read's goroutine sent was cut,
-    they say so, and what the receiver did next. Otherwise, they say so if the last datagram that the goroutine received
-    was cut."""
+    the sentences say so, and what the receiver did next. Otherwise, if the last datagram that the goroutine received
+    was cut, they say that."""
     wrote = index.last_use(call.socket, call.first, ("Write",)) if is_datagram(index, call.socket) else None
     pair = next((one for one in cut_datagrams(index) if wrote and one.wrote is wrote), None)
     if pair is None or pair.wrote.goroutine != call.goroutine or pair.read.last > position:

@@ -1,5 +1,5 @@
-"""Requests by datagrams that perhaps got no answer. If no addresses show which socket got the request, the request is
-matched with the only Read on another socket that got as many bytes."""
+"""Requests sent as datagrams that perhaps got no answer. If no address shows which socket got the request, the module
+looks for the only Read on another socket that got as many bytes."""
 
 from typing import Optional
 
@@ -14,8 +14,8 @@ DEADLINES = ("SetReadDeadline", "SetDeadline")
 
 
 def unanswered_datagram(index: Index, call: Call, position: int) -> list[str]:
-    """Sentences about a Read that waits for a datagram. They name the goroutine that perhaps read the request and sent
-    no answer, and say if no deadline was set."""
+    """Sentences about a Read that waits for a datagram. The sentences name the goroutine that perhaps read the request
+    and sent no answer, and say so if no deadline was set."""
     if not is_datagram(index, call.socket):
         return []
     wrote = index.last_use(call.socket, call.first, ("Write",))
@@ -39,8 +39,8 @@ def unanswered_datagram(index: Index, call: Call, position: int) -> list[str]:
 
 
 def dropped_datagram(index: Index, call: Call) -> list[str]:
-    """Sentences about a Read of a datagram that timed out: the goroutine that perhaps read the request and sent no
-    answer, and whether the request filled the whole buffer."""
+    """Sentences about a Read of a datagram that timed out. They name the goroutine that perhaps read the request and
+    sent no answer, and say so if the request filled the whole buffer."""
     wrote = index.last_use(call.socket, call.first, ("Write",)) if is_datagram(index, call.socket) else None
     read = reader_of(index, call, wrote, call.last) if wrote and wrote.goroutine == call.goroutine else None
     if wrote is None or read is None:

@@ -1,4 +1,4 @@
-"""Deadlines that haven't passed yet, of calls that wait: such a call ends by itself."""
+"""Deadlines of waiting calls that haven't passed yet. A call with such a deadline ends by itself."""
 
 from collections import defaultdict
 from functools import lru_cache
@@ -52,6 +52,6 @@ def until_words(index: Index, call: Call) -> str:
 
 
 def setting_says(index: Index, setting: Setting) -> str:
-    """A sentence with the line that set a deadline, and the time until the deadline."""
+    """A sentence that names the line that set a deadline, and the time until the deadline."""
     at = place_of_step(index.recording, setting.step, setting.goroutine)
     return f"Its deadline was set{at}, {duration(setting.time)} ahead, and hasn't passed."

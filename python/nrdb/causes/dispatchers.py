@@ -1,5 +1,5 @@
-"""Goroutines that read for others and pass on what they read. The module finds a goroutine that got bytes after a
-request and has passed nothing on since then."""
+"""Goroutines that read for other goroutines and pass on what they read. The module finds a goroutine that got bytes
+after a request and has passed nothing on since then."""
 
 from netrev_words.plurals import counted
 
@@ -12,8 +12,8 @@ from .words import told
 
 
 def perhaps_dropped(recording: Recording, wait: Waiting, by: Waiter) -> list[str]:
-    """Sentences about a goroutine that wrote a request and waits for another goroutine to pass the answer on: the other
-    one has since got bytes and passed none on."""
+    """Sentences about a goroutine that wrote a request and waits for another goroutine to pass the answer on. That
+    other goroutine has since got bytes and passed none of them on."""
     reader = by.call
     if reader is None or reader.name != "Read" or wait.name.is_goid or len(wait.objects) != 1:
         return []

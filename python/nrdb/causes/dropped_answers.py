@@ -1,5 +1,5 @@
 """Answers that a goroutine read completely and passed to no other goroutine, while the goroutine that wrote the request
-waits on a channel, as in clients of many RPC protocols."""
+waits on a channel. Clients of many RPC protocols pass answers on through channels."""
 
 import re
 from collections import defaultdict
@@ -42,8 +42,8 @@ def is_for_values(wait: Waiting) -> bool:
 
 
 def dropped_answer(index: Index, wait: Waiting, hands: Mapping[int, list[Hand]]) -> Optional[Need]:
-    """The need of a goroutine that waits for an answer, if one of these goroutines, keyed by socket, read the answer
-    and passed it to no other goroutine; None if unknown."""
+    """The need of a goroutine that waits for an answer, if a goroutine in `hands` (keyed by socket) read the answer and
+    passed it to no other goroutine; None if unknown."""
     sockets = asked_at(index, wait) if hands else set()
     for hand in (hand for socket in sorted(sockets) for hand in hands.get(socket, ())):
         wrote = request_of(index, wait, hand.call.socket)
@@ -55,8 +55,8 @@ def dropped_answer(index: Index, wait: Waiting, hands: Mapping[int, list[Hand]])
 
 def hands_of(recording: Recording, wait: Waiting, waiters: Mapping[Name, Waiter]) -> list[Hand]:
     """The goroutines that wait to read and that pass on what they read. Such a goroutine has put values into channels
-    from which others took them at the waiter's line, or it is in a function in which another goroutine does so. If no
-    goroutine has done so: the goroutines in a function whose source does."""
+    from which others took them at the waiter's line, or it is in a function in which another goroutine has done so. If
+    no goroutine has put such a value, the result has the goroutines in a function with a line that would."""
     readers = {name: waiter for name, waiter in waiters.items() if waiter.call and waiter.call.name == "Read"}
     lines, own = recording.lines, wait.stack.own()
     taken = {
@@ -108,8 +108,8 @@ def by_source(recording: Recording, wait: Waiting, readers: Mapping[Name, Waiter
 
 
 def request_of(index: Index, wait: Waiting, socket: int) -> Optional[Call]:
-    """The last Write of a goroutine to a socket before it waits; else the first Write of a goroutine to which it passed
-    its request."""
+    """The last Write of a goroutine to a socket before it waits. If it made none, the first Write of a goroutine to
+    which it passed its request."""
     calls = [] if wait.name.is_goid else index.by_goroutine.get(wait.name.number, [])
     writes = [one for one in calls if one.name == "Write" and one.socket == socket and one.moved and one.last]
     own = next((one for one in reversed(writes) if one.first <= wait.first), None)
@@ -117,7 +117,8 @@ def request_of(index: Index, wait: Waiting, socket: int) -> Optional[Call]:
 
 
 def read_since(index: Index, hand: Hand, wrote: Call) -> Optional[Call]:
-    """The last Read after a Write by which a goroutine got bytes, before the Read in which the goroutine waits now."""
+    """The last Read, after a Write, that got bytes for a goroutine; the Read in which the goroutine waits now doesn't
+    count."""
     calls = [one for one in index.by_goroutine.get(hand.call.goroutine, []) if one.socket == hand.call.socket]
     reads = [one for one in calls if one.name == "Read" and one.moved and one.last]
     return next((one for one in reversed(reads) if wrote.first < one.last < hand.call.first), None)
@@ -130,8 +131,8 @@ def has_put(recording: Recording, wait: Waiting, read: Call) -> bool:
 
 
 def is_answered(index: Index, wrote: Call) -> bool:
-    """Whether, as far as known, all requests at a socket were answered: a goroutine at the other end read after the
-    request, wrote, and now reads again; or the other end made as many Writes."""
+    """Whether, as far as known, all requests at a socket were answered. Either a goroutine at the other end read after
+    the request, wrote, and now reads again, or the other end made as many Writes as this end."""
     other = index.other_end(wrote.socket)
     if other is None:
         return False
@@ -153,8 +154,8 @@ def reads_on(index: Index, goroutine: int, socket: int) -> bool:
 
 
 def says_of(index: Index, wait: Waiting, hand: Hand, wrote: Call, read: Call) -> list[str]:
-    """The sentences about the request, the goroutine that read after it, and the lines by which that goroutine goes on
-    without passing the answer on."""
+    """The sentences about the request, the goroutine that read the answer, and the lines by which that goroutine goes
+    on without passing the answer on."""
     recording, name = index.recording, hand.reader.name
     was = "was" if Name(wrote.goroutine) == wait.name else "was perhaps"
     says = [
@@ -168,7 +169,7 @@ def says_of(index: Index, wait: Waiting, hand: Hand, wrote: Call, read: Call) ->
 
 
 def ways_words(file: str, ways: list[int]) -> str:
-    """The lines by which a goroutine goes on: `a.go:3 goes on`."""
+    """Text for the lines by which a goroutine goes on: `a.go:3 goes on`."""
     return f"{' and '.join(f'{file}:{number}' for number in ways)} {'go' if len(ways) > 1 else 'goes'} on"
 
 
@@ -206,7 +207,7 @@ def defaults_behind(lines: Lines, number: int) -> list[int]:
 
 
 def conditions_round(lines: Lines, begin: int, number: int) -> list[int]:
-    """The innermost condition around a line that begins after another line."""
+    """The innermost condition around a line, if the condition comes after another line."""
     margin = indent_of(lines[number - 1])
     for at in range(number - 1, begin, -1):
         if lines[at - 1].strip() and indent_of(lines[at - 1]) < margin:

@@ -1,5 +1,5 @@
 """Values that are dropped if no goroutine waits for them. For a goroutine that waits on a channel, the module finds the
-lines that put a value into that channel in a select with a `default`. Derived from the program's source."""
+lines of the program's source that put a value into that channel in a select with a `default`."""
 
 import re
 from typing import Optional
@@ -19,7 +19,7 @@ MOST, MOST_FRAMES, NEAR = 2, 6, 8
 
 
 def dropped_notices(recording: Recording, wait: Waiting) -> list[str]:
-    """Sentences about such lines; none if the source has none."""
+    """Sentences about the lines that may drop a value; none if the source has no such line."""
     own = wait.stack.own()
     if not own or own[0].of != OF_THE_PROGRAM or not any(at.use == FOR_VALUE for at in wait.objects):
         return []

@@ -50,7 +50,7 @@ def dropped_request(recording: Recording, wait: Waiting, waiters: Mapping[Name, 
 
 
 def answered_before(recording: Recording, wait: Waiting) -> int:
-    """The step after which a goroutine's last wait at the same line ended; 0 if none ended."""
+    """The step after which a goroutine's last wait at the same line ended; 0 if no wait there has ended."""
     earlier = (one for one in waits_of(recording).of.get(wait.name, ()) if one.stack.own() == wait.stack.own())
     return max((one.last for one in earlier if one.last is not None and one.last <= wait.first), default=0)
 
@@ -70,8 +70,8 @@ def has_answer(recording: Recording, wait: Waiting, request: Use) -> bool:
 
 
 def taker_of(recording: Recording, wait: Waiting, request: Use, waiters: Mapping[Name, Waiter]) -> Optional[Taken]:
-    """The goroutine that took a request. None unless all requests were taken, and each goroutine that took one has
-    ended or waits for the next."""
+    """The goroutine that took a request. The result is None unless all requests were taken, and each goroutine that
+    took a request has ended or waits for the next."""
     lines, number = recording.lines, request.object
     uses = lines.uses[number]
     put, took = (sum(use.often for use in uses if use.what == what) for what in (PUT, TOOK))
@@ -97,8 +97,8 @@ def is_free(recording: Recording, use: Use, number: int, waiters: Mapping[Name, 
 
 def answer_line(recording: Recording, wait: Waiting, taker: Waiter) -> int:
     """The line that puts a value into a channel with the name of the channel that the other goroutine waits on. The
-    line comes after the taker's wait, in a function that the taker is in or in a function literal of it; 0 if no such
-    line exists."""
+    line comes after the taker's wait, in a function that the taker is in or in one of its function literals. The result
+    is 0 if no such line exists."""
     own = wait.stack.own()
     numbers = [giving.number for giving in givings_at(recording, wait)]
     for call in taker.stack.calls:

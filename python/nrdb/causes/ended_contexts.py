@@ -1,5 +1,5 @@
 """Requests that net/http's client didn't send because their contexts had ended, and contexts of handlers that
-goroutines use after the handler returned. Derived from the program's source."""
+goroutines use after the handler returned. The module reads the program's source."""
 
 import re
 from typing import Iterator, NamedTuple, Optional
@@ -76,7 +76,7 @@ def of_a_handler(recording: Recording, goid: int) -> list[str]:
 
 
 def kept_by_a_handler(recording: Recording, stack: Stack) -> list[str]:
-    """The only line of a package at which a handler of net/http keeps the context of its request. Empty if the line is
+    """The only line of a package at which a handler of net/http keeps the context of its request; empty if the line is
     in the stack, or if the package has several such lines."""
     own = stack.own()
     if own is None or any(call.function == SERVE for call in stack.calls):
@@ -93,7 +93,8 @@ def causes_of_ended(index: Index) -> list[Cause]:
 
 
 def cause_of(index: Index, ended: EndedBefore) -> Optional[Cause]:
-    """The cause for such a request, attached to the last call before the request; None if no call came before it."""
+    """The cause for a request that wasn't sent, attached to the last call before the request; None if no call came
+    before it."""
     near = next(back(index.book.calls, ended.use.last), None)
     looks = [f"goto {ended.use.last}", "info goroutines"]
     return Cause(near, ended.says(index.recording), [ended.use.last], looks) if near else None

@@ -1,6 +1,5 @@
-"""Goroutines that ended without doing what another goroutine waits for on a channel. They were in a function, or
-started a function, with a line that puts or takes a value there, and didn't reach that line. Derived from the program's
-source."""
+"""Goroutines that ended without doing what another goroutine waits for on a channel. By the program's source, they ran
+a function with a line that puts a value there or takes one, and ended before that line."""
 
 import re
 from typing import Iterator, Optional
@@ -23,8 +22,8 @@ MOST = 50  # the most goroutines to examine
 
 
 def ended_giver(index: Index, wait: Waiting) -> Optional[Need]:
-    """The need for a value, or for room, that goroutines which have ended should perhaps have given; None if no such
-    goroutines are found."""
+    """The need for a value, or for room, that goroutines should perhaps have given before they ended; None if no such
+    goroutine is found."""
     own, recording = wait.stack.own(), index.recording
     is_select = wait.kind == A_SELECT
     if not own or own[0].of != OF_THE_PROGRAM or not wait.objects or wait.objects[0].use not in WORDS:
@@ -65,8 +64,8 @@ def need_of(index: Index, wait: Waiting, found: list[int], own: Call, number: in
 
 
 def ended_before(recording: Recording, wait: Waiting, file: str, givings: list[Giving]) -> Iterator[int]:
-    """The goroutines that ended without passing a line that gives, latest first. If the waiter started some of them,
-    only those."""
+    """The goroutines that ended without passing a line that gives, latest first. If the waiter started some of these
+    goroutines, the result has only those."""
     waiter, passed, numbers = goid_of(recording, wait.name), lines_of(recording), {one.number for one in givings}
     ended = [goid for goid, known in recording.lines.goroutines.items() if known.last >= 0 and known.made]
     mine = [goid for goid in ended if recording.lines.goroutines[goid].maker == waiter] or ended
@@ -76,8 +75,8 @@ def ended_before(recording: Recording, wait: Waiting, file: str, givings: list[G
 
 
 def upcoming(recording: Recording, goid: int, file: str, givings: list[Giving]) -> int:
-    """The line that gives, after the last line that a goroutine passed in a function of its stack or in its first
-    function; 0 if no such line exists."""
+    """The line that gives a value or takes one, after the last line that a goroutine passed in a function of its stack
+    or in its first function; 0 if no such line exists."""
     made, passed = recording.lines.goroutines[goid].made, lines_of(recording).of(goid)
     for giving in givings:
         last = max((call.line for call in passed if call.file == file and call.line in giving.within), default=0)

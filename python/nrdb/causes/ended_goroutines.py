@@ -1,5 +1,5 @@
-"""Goroutines that ended while others wait for them: the last place of each, and the lines by which it may have left its
-loop."""
+"""Goroutines that ended while others wait for them: the last known place of each goroutine, and the lines by which it
+may have left its loop."""
 
 import re
 from functools import lru_cache
@@ -19,7 +19,7 @@ MOST_LEAVES = 2
 
 
 class Passed(NamedTuple):
-    """A stack of a goroutine, with the step after which the goroutine was there, and the time."""
+    """A stack of a goroutine, and the step and time at which the goroutine had that stack."""
 
     step: int
     time: int
@@ -33,7 +33,7 @@ def goid_of(recording: Recording, name: Name) -> int:
 
 @lru_cache(maxsize=1024)
 def last_stack(index: Index, name: Name) -> Optional[Stack]:
-    """The last known stack of a goroutine, leaving out those of deferred functions."""
+    """The last known stack of a goroutine that isn't in a deferred function."""
     last = max(passed_by(index, name), key=lambda one: (one.step, one.time), default=None)
     return last.stack if last else None
 
@@ -60,8 +60,8 @@ def time_of(recording: Recording, step: int) -> int:
 
 
 def ended_where(index: Index, name: Name, known: Optional[Stack] = None) -> str:
-    """The last place of a goroutine that ended, unless it is the known line: `, last known at a.go:15 in parse, from
-    whose loop only a.go:18 leads`; empty if unknown."""
+    """The last place of a goroutine that ended, as `, last known at a.go:15 in parse, from whose loop only a.go:18
+    leads`; empty if unknown, or if the place is the known line."""
     stack = last_stack(index, name)
     own = [call for call in stack.calls if call.of == OF_THE_PROGRAM and WRAPPED not in call.function] if stack else []
     if not own:
@@ -96,7 +96,7 @@ def ways_out(recording: Recording, call: Call) -> str:
 
 def left_by(index: Index, call: OneCall) -> str:
     """The line by which a goroutine that ended left the loop in which it made a call, in the form of `ended_where`. If
-    several lines are possible, the first one after the goroutine's last line in that function."""
+    several lines are possible, the result is the first line after the goroutine's last line in that function."""
     own = index.recording.lines.of(call.first).own()
     leaves = every_leave(index.recording, own[0]) if own and own[0].of == OF_THE_PROGRAM else []
     if not own or not leaves:
@@ -173,7 +173,7 @@ def body_of(lines: Lines, head: int) -> Iterator[int]:
 
 
 def is_inner_break(lines: Lines, head: int, number: int) -> bool:
-    """Whether a `break` belongs to a loop, a switch or a select inside the loop."""
+    """Whether a `break` belongs to an inner loop, switch or select rather than to the loop itself."""
     text, margin = lines[number - 1].strip(), indent_of(lines[number - 1])
     if not text.startswith("break") or text.partition("//")[0].strip() != "break":
         return False

@@ -1,6 +1,6 @@
 """Goroutines that put values into channels of other goroutines and have ended, while another goroutine waits for such a
-value. In clients of many RPC protocols a goroutine passes the answers on in this way, and in servers workers send their
-results so."""
+value. Clients of many RPC protocols pass answers on in this way, and workers of servers send their results in this
+way."""
 
 from functools import lru_cache
 from typing import NamedTuple, Optional, Sequence
@@ -31,7 +31,7 @@ class EndedHand(NamedTuple):
 
 def ended_hand(index: Index, wait: Waiting) -> Optional[Need]:
     """The need of a goroutine that waits for a value, if all goroutines that put values for others at the same line
-    have ended. None if one of them hasn't ended, or if no goroutine put values there."""
+    have ended. The result is None if one of these goroutines hasn't ended, or if no goroutine put values there."""
     lines, own = index.recording.lines, wait.stack.own()
     if not own or own[0].of != OF_THE_PROGRAM or len(wait.objects) != 1 or wait.objects[0].use != FOR_VALUE:
         return None

@@ -1,4 +1,4 @@
-"""The requests of net/http's client that ended because their contexts ended, as causes."""
+"""Causes for the requests of net/http's client that ended because their contexts ended."""
 
 from collections import defaultdict
 from typing import Hashable
@@ -33,8 +33,8 @@ def of_request(recording: Recording, ended: CancelledRequest) -> Cause:
 
 
 def unserved_says(index: Index, ended: CancelledRequest) -> list[str]:
-    """Sentences about a request on a connection that no goroutine had accepted. They say what the goroutine that should
-    have accepted the connection did instead."""
+    """Sentences about a request on a connection that no goroutine had accepted. The sentences say what the goroutine
+    that should have accepted the connection did instead."""
     step = ended.closed.first
     reads = (one for one in index.by_socket[ended.request.socket] if one.name == "Read" and one.first < step)
     read = next((one for one in reads if not 0 < one.last < step), None)

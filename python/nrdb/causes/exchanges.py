@@ -1,6 +1,6 @@
-"""Requests and answers on a connection, by the order of its Writes and Reads. The module finds a Read that waits for an
-answer without a request, a request that was read and not answered, and a Read that asks for more bytes than the other
-end wrote."""
+"""Requests and answers on a connection, matched by the order of its Writes and Reads. The module finds a Read that
+waits for an answer without a request, a request that was read and not answered, and a Read that asks for more bytes
+than the other end wrote."""
 
 from typing import Iterator, NamedTuple, Optional
 
@@ -53,8 +53,8 @@ def exchanges_of(index: Index, goroutine: int, socket: int, until: int) -> list[
 
 
 def is_client(index: Index, goroutine: int, socket: int) -> bool:
-    """Whether a goroutine is the only one that reads and writes on a socket, and the socket was dialed. If it isn't
-    known whether the socket was dialed: whether the goroutine wrote before it got bytes."""
+    """Whether only this goroutine reads and writes on a socket, and the socket was dialed. If the recording doesn't
+    show whether the socket was dialed, a goroutine that wrote before it got bytes counts as the dialer."""
     calls = index.by_socket.get(socket, [])
     moved = [call for call in calls if call.name in MOVING and call.moved]
     stack = index.recording.lines.of(calls[0].first) if calls else None
@@ -65,7 +65,7 @@ def is_client(index: Index, goroutine: int, socket: int) -> bool:
 
 def unasked(index: Index, call: Call) -> list[str]:
     """Sentences about a Read that waits for an answer without a request: its goroutine wrote a request before each
-    earlier answer, and none before this Read."""
+    earlier answer, but no request before this Read."""
     found = exchanges_of(index, call.goroutine, call.socket, call.first)
     *before, last = found or [Exchange([], [])]
     if not is_client(index, call.goroutine, call.socket):
@@ -118,7 +118,7 @@ def unanswered(index: Index, call: Call, other: int, position: int) -> list[str]
 
 
 def unended(index: Index, wrote: Call, read: Call, now: Call) -> list[str]:
-    """Sentences about a first request that was read and not answered: its reader still looks for the end of a line."""
+    """Sentences about a first request that was read but not answered: its reader still looks for the end of a line."""
     line = line_reader_of(index, now)
     if not line or line_reader_of(index, read) != line:
         return []
@@ -132,9 +132,10 @@ def unended(index: Index, wrote: Call, read: Call, now: Call) -> list[str]:
 
 
 def perhaps_why(index: Index, call: Call, now: Call) -> str:
-    """Why a goroutine that looks for the end of a line perhaps reads on. The reason concerns the answer if the
-    goroutine's function writes through a buffer, or, if that isn't known, if requests of as many Writes were answered
-    before. Otherwise the reason concerns the request."""
+    """Why a goroutine that looks for the end of a line perhaps reads on. The reason concerns the answer if a path skips
+    the answer or its Flush, or if the function writes through a buffer. If the source doesn't show this, the reason
+    concerns the answer if requests of as many Writes were answered before. In all other cases it concerns the
+    request."""
     line = line_reader_of(index, now)
     if not line:
         return ""
@@ -176,8 +177,8 @@ def reader_of(index: Index, other: int, wrote: Call, position: int) -> Optional[
 
 
 def lacking(index: Index, call: Call, other: int) -> list[str]:
-    """Sentences about a Read that waits in an io.ReadFull: how many bytes the Read asked for, how many bytes came, and
-    that the other end wrote no more."""
+    """Sentences about a Read that waits in an io.ReadFull. They say how many bytes the Read asked for, how many bytes
+    came, and that the other end wrote no more."""
     recording = index.recording
     stack = recording.lines.of(call.first)
     if call.name != "Read" or not any(one.function == READ_FULL for one in stack.calls):
@@ -241,7 +242,7 @@ def begin_of_full(index: Index, asked: Asked, call: Call) -> Call:
 
 
 def is_cut(recording: Recording, index: Index, sockets: tuple[int, ...]) -> bool:
-    """Whether reads or writes at these sockets count fewer bytes than they moved."""
+    """Whether the recording counts fewer bytes than the reads or writes at these sockets moved."""
     most = recording.lines.bytes
     calls: Iterator[Call] = (call for socket in sockets for call in index.by_socket.get(socket, ()))
     return most is not None and any((call.moved or 0) >= most for call in calls)

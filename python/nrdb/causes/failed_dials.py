@@ -38,8 +38,8 @@ def failed_dial(index: Index, goroutine: int) -> Optional[UnconnectedSocket]:
 
 
 def refused(recording: Recording, goid: int) -> Optional[FailedDial]:
-    """The last connect of a goroutine that the system refused or that was given up. None if the steps show a later
-    connect that succeeded."""
+    """The last connect of a goroutine that failed: the system refused it, or the goroutine gave it up. The result is
+    None if the steps show a later connect that succeeded."""
     failed = recording.lines.failed_dials.get(goid, ())
     number = recording.lines.goroutines[goid].number if goid in recording.lines.goroutines else -1
     index = index_of(recording)
@@ -49,14 +49,14 @@ def refused(recording: Recording, goid: int) -> Optional[FailedDial]:
 
 
 def connected_by(index: Index, goroutine: int) -> Iterator[Call]:
-    """The Opens of a goroutine whose sockets it connected."""
+    """The Opens of the sockets that a goroutine connected."""
     for call in index.by_goroutine.get(goroutine, ()):
         if call.name == OPEN and any(CONNECTS in one.function for one in index.recording.lines.of(call.first).calls):
             yield call
 
 
 def reason_words(failed: FailedDial) -> str:
-    """Why a connect failed: `ECONNREFUSED, 127.0.0.1:80`; empty if unknown."""
+    """Why a connect failed, as `ECONNREFUSED, 127.0.0.1:80`; empty if unknown."""
     return ", ".join(word for word in (failed.why, failed.address) if word)
 
 
@@ -69,8 +69,8 @@ def refused_words(recording: Recording, failed: FailedDial) -> str:
 
 
 def ended_says(recording: Recording, failed: FailedDial) -> list[str]:
-    """Sentences about a dial that failed: the goroutine that had cancelled its context, and the line; or that a
-    sync.Once made the dial and doesn't run again."""
+    """Sentences about a dial that failed. They name the goroutine that had cancelled its context, and the line; or they
+    say that a sync.Once made the dial and doesn't run again."""
     lines = recording.lines
     closes = [use for use in lines.uses.get(failed.context, ()) if use.what == CLOSED and use.begin <= failed.time]
     stack = lines.stacks[closes[0].stack] if failed.context and closes else None
@@ -94,8 +94,8 @@ def refused_dials(recording: Recording) -> Iterator[FailedDial]:
 
 
 def failed_dials(index: Index) -> Iterator[Cause]:
-    """The goroutines whose last Dial failed, each as a cause. If exactly one listener was closed before, the cause
-    names the listener."""
+    """A cause for each goroutine whose last Dial failed. If exactly one listener was closed before, the cause names the
+    listener."""
     recording = index.recording
     for goroutine in sorted(index.by_goroutine):
         dial = failed_dial(index, goroutine)
@@ -132,7 +132,7 @@ def refusal_of(recording: Recording, dial: UnconnectedSocket, goroutine: int) ->
 
 
 def is_listener(index: Index, socket: int) -> bool:
-    """Whether a socket accepts connections, or may."""
+    """Whether a socket accepts connections, or may accept them."""
     opened = index.by_socket[socket][0]
     listens = any(
         call.function.startswith("net.(*netFD).listen") for call in index.recording.lines.of(opened.first).calls

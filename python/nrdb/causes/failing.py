@@ -63,8 +63,8 @@ def cause_of(index: Index, call: Call, deep: int = 0) -> Cause:
 
 
 def of_timeout(index: Index, call: Call, begins: str) -> Cause:
-    """The cause of a timeout: which goroutine set the deadline and when, which calls succeeded under that deadline
-    before, and what the call waited for."""
+    """The cause of a timeout. It says which goroutine set the deadline and when, which calls succeeded under that
+    deadline before, and what the call waited for."""
     recording = index.recording
     step = recording.step(call.cause)
     side = "r" if call.name in READING else "w"
@@ -103,8 +103,8 @@ def of_timeout(index: Index, call: Call, begins: str) -> Cause:
 
 def is_of_a_server(stack: Stack) -> bool:
     """Whether a server of net/http itself set a deadline: the innermost function outside the connection's methods is
-    the server's. A handler may also set a deadline, through its http.ResponseController; the server is then below the
-    handler in the stack."""
+    the server's. A handler may set a deadline too, through its http.ResponseController; in that case the handler is
+    inside the server's function."""
     outside = (one.function for one in stack.calls if not one.function.startswith(OF_CONNECTIONS))
     return next(outside, "").startswith(OF_A_SERVER)
 
@@ -121,8 +121,8 @@ def between(index: Index, call: Call) -> str:
 
 
 def under(well: list[Call], late: list[Call], name: str) -> str:
-    """The text about the calls that succeeded or timed out under a deadline before the deadline ended a call; only the
-    full stop if no call did."""
+    """Text about the calls that succeeded or timed out under a deadline before the deadline ended a call; only a full
+    stop if no call did."""
     did = [f"{counted(len(well), name)} went well under it"] if well else []
     did += [f"{counted(len(late), name)} had timed out by it before"] if late else []
     return f"; {' and '.join(did)}, and nobody has moved it since." if did else "."
@@ -153,8 +153,8 @@ def of_close(index: Index, call: Call, begins: str, deep: int) -> Cause:
 
 def context_says(index: Index, call: Call, by: Optional[Call]) -> list[str]:
     """Sentences about a descriptor that was closed because a request's context had ended or because a channel was
-    closed. They name the goroutine that cancelled or closed, or the timeout that had passed, and say what the goroutine
-    that served the request did."""
+    closed. The sentences name the goroutine that cancelled the context or closed the channel, or the timeout that had
+    passed. They also say what the goroutine that served the request did."""
     request = next((one for one in cancelled_requests(index) if by and one.closed.first == by.first), None)
     cancel = None if request else cancel_before(index, call.cause)
     if request is None and cancel is None:
@@ -205,7 +205,7 @@ def of_the_other_end(index: Index, call: Call, begins: str, deep: int) -> Cause:
 
 def part_says(index: Index, call: Call, last: Call) -> list[str]:
     """Sentences about a connection whose other end was closed before all bytes were read: the last Read got fewer bytes
-    than it asked for. None unless the program itself called Read."""
+    than it asked for. The list is empty unless the program itself called Read."""
     recording, own = index.recording, index.recording.lines.of(last.first).own()
     functions = [one.function for one in recording.lines.of(last.first).calls]
     is_direct = own is not None and (CONN_READ, own[0].function) in zip(functions, functions[1:])
@@ -241,7 +241,7 @@ def is_late(index: Index, call: Call) -> bool:
 
 
 class Before(NamedTuple):
-    """Earlier failures: the sentences about them, and the failed calls."""
+    """The sentences about earlier failures, and the calls that failed."""
 
     says: list[str]
     calls: list[Call]

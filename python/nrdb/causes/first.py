@@ -36,7 +36,7 @@ CAUSE, INDENT, NEXT = "cause:  ", "        ", "next:   "
 
 
 def first_words(recording: Recording, name: str) -> list[str]:
-    """The lines, before `plain` is applied to them; none if no cause is found."""
+    """The lines of the first output, before `plain` is applied to them; none if no cause is found."""
     failed = failures_of(recording)
     graph = graph_at(recording, recording.length)
     hangs = hangs_of(graph, bool(failed))
@@ -70,13 +70,14 @@ def first_words(recording: Recording, name: str) -> list[str]:
 
 
 def topics_of(graph: WaitGraph, failed: list[Cause], hangs: list[Hang]) -> list[Topic]:
-    """The causes in their order. Each hang is joined to the failed call that it explains or follows from."""
+    """The topics of the first output, in order. Each hang is joined to the failed call that it explains or follows
+    from."""
     order = [Topic(None, one) if isinstance(one, Hang) else Topic(one) for one in in_order(graph, failed, hangs)]
     return joined(graph, order)
 
 
 def count_in(hangs: list[Hang], topics: list[Topic]) -> int:
-    """The number of these hangs that belong to one of the topics."""
+    """The number of `hangs` that belong to one of the topics."""
     return sum(any(topic.hang is hang for topic in topics) for hang in hangs)
 
 
@@ -86,7 +87,7 @@ def topic_looks(topic: Topic) -> list[str]:
 
 
 def topic_lines(graph: WaitGraph, topic: Topic, shown: set[int]) -> list[str]:
-    """The lines of a cause: a hang that belongs to a failed call is indented below the call."""
+    """The lines of a topic. A hang that belongs to a failed call is indented below the call."""
     cause, left = topic.cause, left_by(graph, topic.cause.call) if topic.cause else []
     source = text_after(graph.recording, cause.stopped) if cause else []
     if cause:
@@ -99,8 +100,8 @@ def topic_lines(graph: WaitGraph, topic: Topic, shown: set[int]) -> list[str]:
 
 
 def in_order(graph: WaitGraph, failed: list[Cause], hangs: list[Hang]) -> list[Union[Cause, Hang]]:
-    """The causes in their order. Failures come first. If the main goroutine hangs for a known reason, failures
-    unrelated to its hang come last, because the program went on after them."""
+    """The failures and hangs in their order. Failures come first. If the main goroutine hangs for a known reason,
+    failures unrelated to its hang come last, because the program went on after them."""
     first = next(iter(hangs), None)
     if first is None or not is_of_main(graph, first):
         return [*failed, *hangs]
@@ -129,8 +130,8 @@ def has_to_do_with(graph: WaitGraph, hang: Hang, call: Call) -> bool:
 
 
 def left_by(graph: WaitGraph, call: Call) -> list[str]:
-    """Sentences about the goroutine of a failed call, if that call was its last: that the goroutine has ended since,
-    and which goroutine waits for it."""
+    """Sentences about the goroutine of a failed call, if that call was its last. They say that the goroutine has ended
+    since, and which goroutine waits for it."""
     name, index = Name(call.goroutine), index_of(graph.recording)
     left = next((waiter for waiter in graph.waiters.values() if graph.needs[waiter.name].gone == name), None)
     ended = ended_behind(index, call, graph.position)
@@ -146,10 +147,11 @@ def left_by(graph: WaitGraph, call: Call) -> list[str]:
 
 
 def hangs_of(graph: WaitGraph, has_failures: bool) -> list[Hang]:
-    """The hangs of the first output. If no goroutine waits for a hang, such as a read or a select, its goroutine may
-    have nothing to do. Such a hang is listed only if nothing else is. If the program ended by itself, such a hang must
-    also be at a mutex that was left locked. If the main goroutine hangs, only that hang is listed, because the program
-    ends when the main goroutine does."""
+    """The hangs of the first output. A goroutine that hangs in a read or a select may have nothing to do if no
+    goroutine waits for it. Its hang is listed only if nothing else is. If the main goroutine is in such a hang, only
+    that hang is listed, because the program ends when the main goroutine does. If the program ended by itself, a hang
+    is listed only if another goroutine waits for it, if it is a deadlock, or if its need `is_odd`. If no hang
+    qualifies, the hangs at a mutex that was left locked are listed."""
     hangs = [hang for hang in graph.shown if not hang.is_quiet]
     if graph.has_ended:
         hangs = [hang for hang in hangs if not hang.root.is_of_go or hang.is_deadlock]
@@ -190,8 +192,8 @@ def failures_of(recording: Recording) -> list[Cause]:
 
 
 def telling_failures(recording: Recording) -> list[Cause]:
-    """The failed calls that are worth printing, with their causes. Failures with the same stack, caused by the same
-    step, share a cause. It is computed once, because a program may loop on a closed descriptor."""
+    """Causes for the failed calls that are worth printing. Failures with the same stack that were caused by the same
+    step share a cause, because a program may loop on a closed descriptor."""
     index, alike = index_of(recording), dict[Hashable, list[Call]]()
     of_line: dict[Hashable, list[Call]] = defaultdict(list)
     stacks = recording.lines.steps
@@ -215,15 +217,14 @@ def telling_failures(recording: Recording) -> list[Cause]:
 
 
 def late_reads(index: Index) -> list[Call]:
-    """The Reads that met the end of a stream instead of an answer, after their goroutine wrote to an end that was
-    already closed."""
+    """The Reads that met the end of a stream instead of an answer, because their goroutine had written to an end that
+    was already closed."""
     return [call for call in index.book.calls if call.outcome is Outcome.EOF and call.last and is_late(index, call)]
 
 
 def opening_words(recording: Recording) -> list[str]:
-    """The opening text of a session: the first failed call, or else the first hang, and the line to type next. A hang
-    that no goroutine waits for is only counted if its goroutine may have nothing to do or if the program ended by
-    itself."""
+    """The opening text of a session: the first failed call, or else the first hang, and the line to type next. If there
+    is neither, the text only counts the goroutines that may have nothing to do."""
     failed = failures_of(recording)
     graph = graph_at(recording, recording.length)
     hangs = hangs_of(graph, True)
@@ -245,7 +246,8 @@ def root_sentence(recording: Recording) -> str:
 
 
 def quiet_words(hangs: list[Hang]) -> list[str]:
-    """A sentence with the places where goroutines wait that may have nothing to do; empty if no goroutine does."""
+    """A sentence with the places where goroutines wait that may have nothing to do; empty if no goroutine waits in this
+    way."""
     count = sum(1 + len(hang.alike) for hang in hangs)
     places = [place.strip() for hang in hangs if (place := place_in(hang.root.stack))]
     at = f", {'; '.join(places[:MOST_HANGS])}{' ..' if places[MOST_HANGS:] else ''}" if places else ""
@@ -255,8 +257,8 @@ def quiet_words(hangs: list[Hang]) -> list[str]:
 
 
 def hang_lines(graph: WaitGraph, hang: Hang, shown: set[int]) -> list[str]:
-    """The lines for a hang: its sentences; the source after the line at which a goroutine stopped that could have gone
-    on, unless shown before; and the goroutines that wait."""
+    """The lines for a hang: its sentences, a piece of source, and the goroutines that wait. The piece of source begins
+    at the line at which a goroutine stopped that could have gone on; a piece that was shown before is left out."""
     stopped = 0 if hang.is_deadlock else hang.needs[0].stopped
     source = (
         text_after(graph.recording, stopped) if not any(alike(graph.recording, stopped, one) for one in shown) else []
@@ -271,21 +273,21 @@ def alike(recording: Recording, step: int, other: int) -> bool:
 
 
 def paragraph(says: list[str]) -> list[str]:
-    """The lines of a cause, a sentence each."""
+    """The lines of a cause, one sentence to a line."""
     first, *rest = says
     return [f"{CAUSE}{first}", *(f"{INDENT}{line}" for line in rest)]
 
 
 def is_telling(recording: Recording, call: Call) -> bool:
-    """Whether a failed call is worth printing: it isn't by Go's own code alone, it isn't the end of a listener, and its
-    descriptor wasn't known to be closed."""
+    """Whether a failed call is worth printing: it reads, writes or accepts, it isn't by Go's own code alone, and it
+    isn't the Accept of a listener that was closed."""
     if is_of_go(recording, call) or call.name not in READING + WRITING:
         return False
     return not (call.outcome is Outcome.CLOSED and index_of(recording).is_listening(call))
 
 
 def once(recording: Recording, causes: list[Cause], counts: list[int]) -> list[Cause]:
-    """The causes. Causes of the same lines are merged into one cause that gives their number."""
+    """The causes. Merges causes with the same lines into one cause that gives their number."""
     kept: dict[object, Cause] = {}
     many: dict[object, int] = {}
     at: Callable[[int], object] = recording.lines.words

@@ -1,5 +1,5 @@
-"""Lengths in front of data. For a Read that asks for more bytes than came, the module finds the lines of the program's
-source that wrote the length and that read it."""
+"""Lengths that are sent in front of data. For a Read that asks for more bytes than came, the module finds the lines of
+the program's source that wrote the length and that read it."""
 
 import re
 from typing import NamedTuple, Optional
@@ -33,8 +33,8 @@ class Line(NamedTuple):
 
 
 def length_says(recording: Recording, wrote: Call, read: Call) -> list[str]:
-    """Sentences about the lines that wrote and read the length that a Read asks for. If that length belongs to
-    something other than the bytes that were written, they say so."""
+    """Sentences about the lines that wrote and read the length that a Read asks for. They say so if that length belongs
+    to something other than the bytes that were written."""
     written = length_line(recording, wrote)
     if written is None:
         return []
@@ -69,8 +69,8 @@ def length_line(recording: Recording, wrote: Call) -> Optional[Line]:
 
 
 def line_of(recording: Recording, call: Call, pattern: "re.Pattern[str]") -> Optional[Line]:
-    """The last line that matches a pattern, up to the line of a call, in the innermost function of the program that has
-    such a line."""
+    """The line that matches a pattern, in the innermost function of the program that has such a line: the last match up
+    to the call's line, else the last match in the function."""
     for one in recording.lines.of(call.first).calls:
         lines = source_of(recording, one.file) if one.of == OF_THE_PROGRAM else None
         within = range_of(lines, one) if lines else None
@@ -83,7 +83,8 @@ def line_of(recording: Recording, call: Call, pattern: "re.Pattern[str]") -> Opt
 
 
 def bodies_of(recording: Recording, wrote: Call) -> set[str]:
-    """The variables that the function of a Write writes or assembles. Those named like a header are left out."""
+    """The variables that the function of a Write writes, except variables named like a header and slices that the
+    function assembles."""
     own = recording.lines.of(wrote.first).own()
     lines = source_of(recording, own[0].file) if own and own[0].of == OF_THE_PROGRAM else None
     within = range_of(lines, own[0]) if lines and own else None

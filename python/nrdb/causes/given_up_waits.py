@@ -1,5 +1,5 @@
-"""Waits on a channel that were given up, as at a pool whose slots are all taken. The channel was full, or empty, and
-stays so until the end of the recording."""
+"""Waits on a channel that goroutines gave up, as at a pool with no free slot. The channel was full, or empty, and stays
+so until the end of the recording."""
 
 from operator import attrgetter
 from typing import Iterator
@@ -20,7 +20,7 @@ A_WHILE = 20_000_000  # nanoseconds, the shortest wait that counts
 
 
 def given_up_waits(index: Index) -> Iterator[Cause]:
-    """The first given-up wait on each buffered channel: the select went on by another case."""
+    """The first wait on each buffered channel that a goroutine gave up: its select went on by another case."""
     recording, seen = index.recording, set[int]()
     every = [wait for some in waits_of(recording).of.values() for wait in some]
     for wait in sorted(every, key=attrgetter("first", "begin")):

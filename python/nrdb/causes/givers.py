@@ -38,7 +38,7 @@ def have_ended(recording: Recording, wait: Waiting) -> list[str]:
 
 
 def only_itself(recording: Recording, wait: Waiting) -> str:
-    """Words which say that, so far, only the waiting goroutine itself has done what it waits for."""
+    """Words which say that only the waiting goroutine itself has done, so far, what it waits for."""
     at, lines = wait.objects[0], recording.lines
     uses = [use for use in lines.uses.get(at.object, ())[:MOST_GIVEN] if use.what == GIVES.get(at.use, "")]
     if not uses or any(name_of_goid(lines, use.goid) != wait.name for use in uses):
@@ -49,11 +49,11 @@ def only_itself(recording: Recording, wait: Waiting) -> str:
 
 
 def is_in(stack: Stack, call: Call) -> bool:
-    """Whether a goroutine is in the function of a call, after that line."""
+    """Whether a goroutine is in the function of a call, after the call's line."""
     return any(one.function == call.function and one.line > call.line for one in stack.calls)
 
 
 def has_left(stack: Stack, earlier: Stack) -> bool:
-    """Whether a goroutine has returned from the program's function that it was in."""
+    """Whether a goroutine has returned from the function of the program that it was in."""
     own = earlier.own()
     return own is not None and all(call.function != own[0].function for call in stack.calls)

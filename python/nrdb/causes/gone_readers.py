@@ -1,5 +1,5 @@
-"""Goroutines that were the only readers of a connection and have ended, although the connection is still open and more
-bytes came."""
+"""Goroutines that were the only readers of a connection and have ended. The connection is still open, and more bytes
+may have come."""
 
 from typing import Iterator, NamedTuple, Optional
 
@@ -32,7 +32,7 @@ class GoneReader(NamedTuple):
 
 
 def gone_readers(index: Index, position: int) -> Iterator[GoneReader]:
-    """The readers that have ended at a position, except those of connections that were closed at this end."""
+    """The readers that have ended at a position, except the readers of connections that were closed at this end."""
     for socket in sorted(index.recording.lines.peers):
         gone = gone_reader(index, socket, position)
         if gone is not None:
@@ -40,8 +40,8 @@ def gone_readers(index: Index, position: int) -> Iterator[GoneReader]:
 
 
 def gone_reader(index: Index, socket: int, position: int) -> Optional[GoneReader]:
-    """The reader of a socket that has ended at a position. None if the socket has no such reader or was closed at this
-    end."""
+    """The reader of a socket that has ended at a position. The result is None if the socket has no such reader or was
+    closed at this end."""
     other = index.recording.lines.peers.get(socket)
     if other is None:
         return None
@@ -65,7 +65,7 @@ def ended_behind(index: Index, call: Call, position: int) -> Optional[int]:
 
 
 def without_reader(index: Index) -> Iterator[Cause]:
-    """Possible causes at the end of the recording: readers that ended before more bytes came, and whose last Read
+    """Possible causes at the end of the recording: readers that ended before more bytes came, although their last Read
     neither failed nor met the end of the stream."""
     for one in gone_readers(index, index.recording.length):
         if not one.wrote or not one.read.moved or one.read.outcome is not Outcome.DONE:
@@ -75,8 +75,8 @@ def without_reader(index: Index) -> Iterator[Cause]:
 
 
 def ended_reader(index: Index, call: Call, other: int, position: int) -> list[str]:
-    """Sentences about a Read that waits for an answer: the only goroutine that had read at the other end has ended, and
-    left its loop by these lines."""
+    """Sentences about a Read that waits for an answer: the only goroutine that had read at the other end has ended. The
+    sentences name the lines by which it left its loop."""
     gone = gone_reader(index, other, position)
     wrote = index.last_use(call.socket, position, ("Write",))
     if gone is None or gone.read.outcome is not Outcome.DONE or wrote is None or wrote.goroutine != call.goroutine:

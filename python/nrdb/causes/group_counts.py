@@ -1,5 +1,5 @@
-"""What goroutines added to a WaitGroup, and which goroutines called Done. The module finds the number of missing calls,
-and the goroutines that ended without a call."""
+"""The sum that goroutines added to a WaitGroup, and the goroutines that called Done. The module finds the number of
+missing calls, and the goroutines that ended without a call."""
 
 from collections import Counter
 from typing import NamedTuple, Optional
@@ -15,7 +15,7 @@ MOST_PLACES, MOST_KINDS = 2, 2
 
 
 class Count(NamedTuple):
-    """The sum of what goroutines added to a WaitGroup, and of what they subtracted."""
+    """The sums that goroutines added to a WaitGroup and subtracted from it."""
 
     added: list[Use]
     done: list[Use]
@@ -32,7 +32,7 @@ class Count(NamedTuple):
 
     @property
     def is_once(self) -> bool:
-        """Whether each goroutine called Done once, as a goroutine that is started for one task does."""
+        """Whether each goroutine called Done only once, as does a goroutine that is started for one task."""
         return total(self.done) == len(self.done_by)
 
 
@@ -41,14 +41,14 @@ def total(uses: list[Use]) -> int:
 
 
 def count_of(recording: Recording, number: int) -> Optional[Count]:
-    """The count of a WaitGroup with missing calls of Done; None if unknown."""
+    """The count of a WaitGroup that lacks calls of Done; None if unknown."""
     uses = recording.lines.uses.get(number, ())
     count = Count(*([use for use in uses if use.what == what] for what in (ADDED, DONE)))
     return count if count.added and count.missing > 0 else None
 
 
 def count_says(recording: Recording, count: Count) -> str:
-    """A sentence with the number of calls of Done that are missing."""
+    """A sentence which says how many calls of Done are missing."""
     missing = f"{count.missing} calls of Done are" if count.missing > 1 else "1 call of Done is"
     done = f"{total(count.done)} done{places_of(recording, count.done)}" if count.done else "none done"
     were = "were" if total(count.added) > 1 else "was"
@@ -66,15 +66,15 @@ def places_of(recording: Recording, uses: list[Use]) -> str:
 
 
 def started_by(recording: Recording, count: Count) -> set[int]:
-    """The goroutines that were started, after the first Add, by the goroutines that called Add."""
+    """The goroutines that were started after the first Add by goroutines that called Add."""
     adders, begin = {use.goid for use in count.added}, min(use.begin for use in count.added)
     goroutines = recording.lines.goroutines
     return {goid for goid, known in goroutines.items() if known.maker in adders and known.begin >= begin}
 
 
 def kinds_at(recording: Recording, count: Count) -> list[Kind]:
-    """The `go` statements whose goroutines should call Done: those with a goroutine that did. If no goroutine did, the
-    `go` statement after the line that called Add."""
+    """The `go` statements whose goroutines should call Done, because at least one of their goroutines did. If no
+    goroutine did, the result has the `go` statement after the line that called Add."""
     found, goroutines = dict[Call, Kind](), recording.lines.goroutines
     for goid in sorted(started_by(recording, count)):
         made = goroutines[goid].made
@@ -94,8 +94,8 @@ def next_behind(recording: Recording, count: Count, kinds: list[Kind]) -> list[K
 
 
 def ended_says(recording: Recording, count: Count) -> list[str]:
-    """Sentences about the goroutines that should call Done and ended without it, and the lines by which they differ
-    from the others. If all have called Done, a sentence that says so."""
+    """Sentences about the goroutines that should have called Done and ended without it, and the lines by which they
+    differ from the others. If all goroutines have called Done, a sentence says so."""
     kinds = kinds_at(recording, count)
     says = [kind_says(recording, count, kind) for kind in kinds if kind.ended][:MOST_KINDS]
     if says or not kinds or not count.is_once or any(kind.alive for kind in kinds):

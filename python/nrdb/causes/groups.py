@@ -26,8 +26,8 @@ STARTED_BY_GROUP = "sync.(*WaitGroup).Go"
 
 
 class Member(NamedTuple):
-    """A goroutine that may call Done, with the line of the call. If the line isn't known: with the goroutine that
-    started it."""
+    """A goroutine that may call Done, with the line of the call. If the line isn't known, `line` is the `go` statement
+    that started the goroutine."""
 
     name: Name
     line: Call
@@ -35,12 +35,12 @@ class Member(NamedTuple):
 
 
 def outermost(function: str) -> str:
-    """The function that a function literal is written in: `main.serve` of `main.serve.func1.2`."""
+    """The function that contains a function literal: `main.serve` for `main.serve.func1.2`."""
     return LITERAL.sub("", function)
 
 
 class Groups:
-    """The goroutines on which the waiters of WaitGroups wait. `stacks` has the stacks of all goroutines that wait or
+    """The goroutines for which the waiters of WaitGroups wait. `stacks` has the stacks of all goroutines that wait or
     sleep."""
 
     def __init__(self, index: Index, waits: Waits, stacks: list[tuple[Name, Stack]], position: int) -> None:
@@ -108,7 +108,7 @@ class Groups:
         return []
 
     def _are_level(self, call: Call, number: int) -> bool:
-        """Whether neither of two lines of a function is in a deeper block than the other."""
+        """Whether two lines of a function are in blocks of the same depth."""
         lines = source_of(self._recording, call.file)
         return lines is not None and indent_of(lines[call.line - 1]) == indent_of(lines[number - 1])
 
@@ -118,14 +118,14 @@ class Groups:
         return count_of(self._recording, at[0].object) if at else None
 
     def _without_done(self, count: Optional[Count]) -> list[str]:
-        """Sentences about the number of missing calls of Done and the goroutines that ended without one; none if no
-        such goroutine is known."""
+        """Sentences about the number of missing calls of Done and the goroutines that ended without calling it; none if
+        no such goroutine is known."""
         ended = ended_says(self._recording, count) if count else []
         return [count_says(self._recording, count), *ended] if count and ended else []
 
     def _in_order(self, members: list[Member], count: Optional[Count]) -> list[Member]:
         """The goroutines that may call Done, starting with those that haven't called it yet. If goroutines that called
-        Add started some of these afterwards, only those."""
+        Add started some of these goroutines afterwards, the result has only those."""
         if count is None:
             return members
         started = started_by(self._recording, count)
@@ -164,8 +164,8 @@ class Groups:
 
     def _started(self, waiter: Waiter) -> list[Member]:
         """Goroutines that wait or sleep and were started by a function that the waiter is in, or by the function around
-        that literal. If no such goroutine exists: those that another literal of that function, or a WaitGroup,
-        started."""
+        such a literal. If no such goroutine exists, the result has the goroutines that another literal of that
+        function, or a WaitGroup, started."""
         inside = {call.function for call in waiter.stack.calls if call.of == OF_THE_PROGRAM}
         outer = set(map(outermost, inside))
         made = [(name, stack.made) for name, stack in self._stacks if stack.made]
@@ -174,8 +174,8 @@ class Groups:
         return [Member(name, at) for name, at in near or others]
 
     def _how(self, waiter: Waiter, member: Member) -> str:
-        """Words for the line at which a goroutine calls Done. Without such a line, they say that the waiter started the
-        goroutine, if known, or name the line that started it."""
+        """Words for the line at which a goroutine calls Done. If that line isn't known, the words say that the waiter
+        started the goroutine, or name the line that started it."""
         if member.number:
             return f"which calls Done at {member.line.file}:{member.number}{self._when(member)}"
         lines = self._recording.lines
@@ -184,14 +184,14 @@ class Groups:
         return "which it started" if known and known.maker == starter > 0 else f"started at {member.line.place()}"
 
     def _when(self, member: Member) -> str:
-        """`as it ends`, if a goroutine's call of Done is its last, after any loop and all other work; else empty."""
+        """`as it ends` if a goroutine calls Done in its last line or in a `defer` statement; else empty."""
         done = [one for number, one in found_in(self._recording, member.line, DONE) if number == member.number]
         is_last = is_last_line(self._recording, member.line, member.number)
         return " as it ends" if is_last or any(one[1] for one in done) else ""
 
     def _of_ended(self, waiter: Waiter) -> list[str]:
-        """Sentences about the goroutines that the waiter's functions started, if all of them have ended: that they
-        ended, and which of them differed from the others."""
+        """Sentences about the goroutines that the waiter's functions started, if all of these have ended. They say so,
+        and name the goroutines that differed from the others."""
         inside = {call.function for call in waiter.stack.calls if call.of == OF_THE_PROGRAM}
         started: dict[Call, list[int]] = {}
         lines = self._recording.lines
@@ -217,7 +217,7 @@ class Groups:
         return [*says, f"Perhaps {names} ended without Done{differs}{''.join(f'; {one}' for one in dials)}."]
 
     def _failed_dial(self, goid: int) -> str:
-        """Words which say that a goroutine's Dial failed; empty if none failed."""
+        """Words which say that a goroutine's Dial failed; empty if no Dial failed."""
         if failed := refused(self._recording, goid):
             return f"its {refused_words(self._recording, failed)}"
         dial = failed_dial(self._index, self._recording.lines.goroutines[goid].number)

@@ -1,5 +1,5 @@
-"""Requests that a goroutine put into a channel and another goroutine took, such as the goroutine that writes all
-requests of a connection."""
+"""Requests that a goroutine put into a channel and that another goroutine took. The taker is, for example, the
+goroutine that writes all requests of a connection."""
 
 from collections import defaultdict
 from functools import lru_cache
@@ -38,8 +38,8 @@ def puts_of(recording: Recording) -> dict[int, list[Use]]:
 
 
 def asked_at(index: Index, wait: Waiting) -> set[int]:
-    """The sockets to which a goroutine wrote, or to which other goroutines wrote after they took a request of this
-    goroutine from a channel."""
+    """The sockets to which a goroutine wrote, and the sockets to which other goroutines wrote after they took its
+    request from a channel."""
     lines, put = index.recording.lines, put_before(index.recording, wait)
     takers = {use.goid for use in lines.uses.get(put.object, ()) if use.what == TOOK} if put else set()
     own = [] if wait.name.is_goid else index.by_goroutine.get(wait.name.number, [])

@@ -80,15 +80,15 @@ def of_waiters(graph: WaitGraph, hang: Hang) -> list[str]:
 
 
 def ahead_says(graph: WaitGraph, hang: Hang) -> list[list[str]]:
-    """For each root, sentences about the deadline that its call still has."""
+    """Sentences about the deadlines that the roots' calls still have."""
     index = index_of(graph.recording)
     found = (deadline_ahead(index, root.call, graph.position) if root.call else None for root in hang.roots)
     return [[setting_says(index, one)] if one else [] for one in found]
 
 
 def beside_words(graph: WaitGraph, hang: Hang) -> list[str]:
-    """Sentences about the other roots that wait for the same ended goroutine, one sentence for each group of roots that
-    wait alike."""
+    """Sentences about the other roots that wait for the same ended goroutine, one sentence for each group of similar
+    roots."""
     alike: dict[object, list[Waiter]] = defaultdict(list)
     for waiter in hang.beside:
         alike[kind_of(graph.recording, waiter)].append(waiter)
@@ -101,8 +101,8 @@ def beside_words(graph: WaitGraph, hang: Hang) -> list[str]:
 
 
 def unread_words(graph: WaitGraph, hang: Hang) -> list[str]:
-    """Sentences about bytes that a goroutine of a hang wrote and no goroutine reads. None if the hang's root waits for
-    room, because the root's sentence already names those bytes."""
+    """Sentences about bytes that a goroutine of a hang wrote and no goroutine reads. The list is empty if the hang's
+    root waits for room, because the root's sentence already names those bytes."""
     call, index, names = hang.root.call, index_of(graph.recording), {waiter.name for waiter in waiters_of(hang)}
     if any(root.call and root.call.name == "Write" for root in hang.roots) or (call and call.is_asking):
         return []
@@ -117,8 +117,8 @@ def wants_value(waiter: Waiter) -> bool:
 
 
 def reader_words(index: Index, names: set[Name], position: int) -> list[str]:
-    """Sentences about a socket whose only reader has ended, if one of these goroutines wrote to the socket last. These
-    goroutines wait for values."""
+    """Sentences about a socket whose only reader has ended, if a goroutine that waits for a value wrote to that socket
+    last."""
     for gone in gone_readers(index, position):
         wrote = index.last_use(gone.read.socket, position, ("Write",))
         if wrote and Name(wrote.goroutine) in names:
@@ -128,7 +128,7 @@ def reader_words(index: Index, names: set[Name], position: int) -> list[str]:
 
 
 def first_sentence(graph: WaitGraph, hang: Hang) -> str:
-    """The sentence that says what the waiters of a root wait for."""
+    """The first sentence of a hang, which says what its goroutines wait for."""
     recording, root, many = graph.recording, hang.root, len(hang.alike) + 1
     if not hang.waiting:
         return f"{root_words(recording, hang)}." if hang.alike else f"{waiter_words(recording, root)}."
@@ -156,7 +156,7 @@ def waiting_words(graph: WaitGraph, hang: Hang) -> str:
 
 
 def root_words(recording: Recording, hang: Hang) -> str:
-    """The text for roots that are alike."""
+    """The text for similar roots."""
     if hang.root.call:
         return f"{len(hang.alike) + 1} calls wait: {call_words(recording, hang)}"
     names = of_names(waiter.name for waiter in (hang.root, *hang.alike))
@@ -164,7 +164,7 @@ def root_words(recording: Recording, hang: Hang) -> str:
 
 
 def call_words(recording: Recording, hang: Hang) -> str:
-    """The text for the calls of roots that are alike, with their goroutines and sockets."""
+    """The text for the calls of similar roots, with their goroutines and sockets."""
     root, every = hang.root, [hang.root, *hang.alike]
     names = of_names(waiter.name for waiter in every)
     what = name_of(recording, root.call) if root.call else ""
@@ -183,8 +183,8 @@ def waits(waiter: Waiter) -> str:
 
 
 def deadlock_words(graph: WaitGraph, hang: Hang) -> str:
-    """A sentence which says that goroutines wait for one another, and, if one of the calls has a deadline, until
-    when."""
+    """A sentence which says that goroutines wait for one another. If one of their calls has a deadline, the sentence
+    names it."""
     many = NUMBERS.get(len(hang.roots), str(len(hang.roots)))
     what = "calls" if all(root.call for root in hang.roots) else "goroutines"
     is_perhaps = hang.certainty == Certainty.PERHAPS
@@ -231,16 +231,16 @@ def for_what(recording: Recording, waiter: Waiter) -> str:
 
 
 def waiter_words(recording: Recording, waiter: Waiter) -> str:
-    """The sentence about a waiter, without the sentence's end: `Read at a.go:3 in ask (goroutine 0) waits on socket 2
-    since step 9`."""
+    """The beginning of the sentence about a waiter: `Read at a.go:3 in ask (goroutine 0) waits on socket 2 since step
+    9`."""
     if waiter.call:
         return f"{told(recording, waiter.call)} waits on socket {waiter.call.socket} since step {waiter.since}"
     return f"{capital(str(waiter.name))} {waits(waiter)} since step {waiter.since}"
 
 
 def tree_lines(graph: WaitGraph, hang: Hang) -> list[str]:
-    """The goroutines that wait for a root, up to the greatest number of lines. Goroutines that wait alike share a
-    line."""
+    """The lines for the goroutines that wait for a root, up to the greatest number of lines. Goroutines that wait for
+    the same thing at the same line share a line."""
     lines = [line for branch in hang.branches for line in branch_lines(graph.recording, branch, 1)]
     left = len(lines) - MOST_LINES
     return [*lines[:MOST_LINES], *([f"{INDENT}and {counted(left, 'line')} more"] if left > 0 else [])]

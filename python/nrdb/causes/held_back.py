@@ -1,5 +1,5 @@
-"""Answers that a handler of net/http wrote and its server holds back until the handler returns or calls Flush, while a
-goroutine waits for such an answer. Derived from the program's source."""
+"""Answers that a handler of net/http wrote, while a goroutine waits for such an answer. The server holds an answer back
+until the handler returns or calls Flush. The module reads the program's source."""
 
 import re
 from typing import Iterator, Optional
@@ -65,8 +65,8 @@ def has_written(index: Index, server: Name, socket: int, position: int) -> bool:
 
 
 def came_since(index: Index, server: Name, socket: int, position: int) -> list[str]:
-    """Sentences about a goroutine that has got bytes elsewhere since it last read from a socket, and has written
-    nothing to that socket."""
+    """Sentences about a goroutine that, since it last read from a socket, has got bytes from another socket and has
+    written nothing to the first."""
     calls = [one for one in index.by_goroutine.get(server.number, []) if one.first <= position]
     asked = next((one for one in reversed(calls) if one.socket == socket and one.name == "Read" and one.moved), None)
     since = [one for one in calls if asked and one.first > asked.last and one.moved]
@@ -94,8 +94,8 @@ def flushed_in_vain(recording: Recording, stack: Stack) -> str:
 
 
 def unflushed(recording: Recording, stack: Stack) -> Iterator[tuple[str, bool]]:
-    """The lines of a stack's functions that write to a ResponseWriter, each with whether the goroutine certainly passed
-    it; none if one of these functions flushes."""
+    """The lines of a stack's functions that write to a ResponseWriter, each with a flag: whether the goroutine
+    certainly passed the line. The result is empty if one of these functions flushes."""
     found: list[tuple[str, bool]] = []
     innermost = next((call for call in stack.calls if call.of == OF_THE_PROGRAM), None)
     for call in stack.calls:
@@ -110,8 +110,8 @@ def unflushed(recording: Recording, stack: Stack) -> Iterator[tuple[str, bool]]:
 
 def writes_of(lines: Lines, call: LineCall, within: range, is_innermost: bool) -> Iterator[tuple[str, bool]]:
     """The lines of a function that write to its ResponseWriter, starting with the last one before the goroutine's line.
-    The goroutine's line itself counts only if it calls no function of the program, since such a function may produce
-    what is to be written."""
+    The goroutine's own line counts only if it calls no function of the program, since such a function may produce the
+    text to write."""
     named = next((match[1] for number in within if (match := WRITER.search(code_at(lines, number)))), None)
     if named is None:
         return
@@ -130,5 +130,5 @@ def writes_of(lines: Lines, call: LineCall, within: range, is_innermost: bool) -
 
 
 def is_passed(lines: Lines, number: int, line: int) -> bool:
-    """Whether a line is outside every block that ends before another line."""
+    """Whether a line comes before another line and in no block that ends between them."""
     return all(indent_of(lines[at - 1]) >= indent_of(lines[number - 1]) for at in range(number + 1, line + 1))

@@ -1,5 +1,5 @@
-"""The requests of net/http's client, found from the channels of its connections: the line, the goroutine and the socket
-of each. The module also finds the requests that ended because their contexts ended."""
+"""The requests of net/http's client, each with its line, goroutine and socket. They are found from the channels of the
+client's connections. The module also finds the requests that ended because their contexts ended."""
 
 from functools import lru_cache
 from operator import attrgetter
@@ -22,8 +22,8 @@ WITH_DEADLINE, CLIENT_TIMEOUT = "context.WithDeadlineCause", "net/http.setReques
 
 
 class Request(NamedTuple):
-    """Requests that goroutines wrote from one stack on a connection: their number, and the step and time at which the
-    last of them was handed over."""
+    """Requests that goroutines made from one stack on a connection: their number, and the step and time at which the
+    last request was handed over."""
 
     name: Name
     goid: int
@@ -35,9 +35,9 @@ class Request(NamedTuple):
 
 
 class CancelledRequest(NamedTuple):
-    """A request that ended because its context ended: the request, the call that closed its connection, the step after
-    which the context ended, the stack and goroutine that ended the context, and the timer of the context's deadline, if
-    certain."""
+    """A request that ended because its context ended. `closed` is the call that closed its connection, and `step` the
+    step after which the context ended. `by` is the goroutine that ended the context, from `stack`. `timer` is the timer
+    of the context's deadline, if certain."""
 
     request: Request
     closed: Call
@@ -75,8 +75,8 @@ class CancelledRequest(NamedTuple):
 
 
 def requests_of(index: Index) -> list[Request]:
-    """The requests whose connection is certain. Each was put into a channel from which only one connection's goroutine
-    took values, and that goroutine wrote to only one socket."""
+    """The requests whose connection is certain. Each request was put into a channel from which only one connection's
+    goroutine took values, and that goroutine wrote to only one socket."""
     lines, found = index.recording.lines, []
     for uses in lines.uses.values():
         puts = [use for use in uses if use.what == PUT and has(lines.stacks[use.stack], ROUND_TRIP)]
@@ -121,8 +121,8 @@ def is_by_context(stack: Stack) -> bool:
 
 
 def cancelled(index: Index, every: list[Request], ended: Use, close: Use) -> Iterator[CancelledRequest]:
-    """The request that a cancelled context ended. It is the last request that its goroutine wrote before, if that
-    goroutine then closed the connection."""
+    """The request that a cancelled context ended: the last request that its goroutine wrote before, if that goroutine
+    then closed the connection."""
     lines = index.recording.lines
     own = [request for request in every if request.goid == ended.goid and request.time < close.begin]
     if not own or own[-1].name.is_goid:
@@ -141,9 +141,9 @@ def cancelled(index: Index, every: list[Request], ended: Use, close: Use) -> Ite
 
 
 def timer_of(recording: Recording, request: Request, close: Use) -> Optional[Timer]:
-    """The timer of the deadline that ended a request's context; None if uncertain. It is the timer of the client's
-    Timeout: the last timer that the request's goroutine made for a client at the same line before it handed the request
-    over. Without such a timer, it is the only timer of the program's contexts that was due by then."""
+    """The timer of the deadline that ended a request's context; None if uncertain. If the client has a Timeout, this is
+    its timer: the last timer that the request's goroutine made for a client at the same line before it handed the
+    request over. Otherwise it is the timer of the program's contexts that was due by then, if there is only one."""
     stacks = recording.lines.stacks
     timers = [
         timer for some in recording.lines.timers.values() for timer in some

@@ -1,4 +1,4 @@
-"""Open listeners on which no goroutine has called Accept, while goroutines of one `go` statement accept on another
+"""Open listeners on which no goroutine has called Accept, while the goroutines of one `go` statement accept on another
 listener."""
 
 from collections import defaultdict
@@ -15,8 +15,8 @@ LISTENS = "net.(*netFD).listen"
 
 
 def idle_listeners(index: Index, position: int) -> list[str]:
-    """Sentences about such listeners, for a goroutine that waits on a connection that no goroutine has accepted; none
-    if no such listener exists."""
+    """Sentences about listeners without an Accept, for a goroutine that waits on a connection that wasn't accepted;
+    none if no such listener exists."""
     listeners = [
         socket for socket in index.by_socket if is_listener(index, socket) and not closed(index, socket, position)
     ]

@@ -40,7 +40,7 @@ def with_others(cause: Cause, others: int) -> Cause:
 
 
 class Index:
-    """The calls of a recording, each list in the order of their first steps."""
+    """The calls of a recording by socket and by goroutine, each list in the order of first steps."""
 
     def __init__(self, recording: Recording) -> None:
         self.recording, self.book = recording, book_of(recording)
@@ -54,8 +54,8 @@ class Index:
         self._under_way: dict[tuple[int, int], list[Call]] = {}
 
     def by_goid(self, goid: int) -> list[Call]:
-        """The calls of the goroutine with this goid, if the goroutine's number in the recording is still its own at the
-        end."""
+        """The calls of the goroutine with this goid; none if another goroutine has its number at the end of the
+        recording."""
         lines = self.recording.lines
         number = lines.number_of(goid)
         calls = self.by_goroutine.get(number, []) if number >= 0 else []
@@ -71,7 +71,8 @@ class Index:
         return next((one for one in begun if not one.last or one.last >= step), None)
 
     def closing(self, socket: int, until: int, whole: bool = False) -> Optional[Call]:
-        """The first call, up to a step, that closed a socket, or closed only its write side."""
+        """The first call, up to a step, that closed a socket; if not `whole`, a call that closed only the write side
+        counts too."""
         if (socket, whole) not in self._closing:
             names = (CLOSE,) if whole else (CLOSE, CLOSE_WRITE)
             closing = (one for one in self.by_socket.get(socket, ()) if one.name in names and not one.outcome.is_error)
@@ -91,7 +92,7 @@ class Index:
         return next((one for one in back(self.by_socket.get(socket, ()), until) if one.name in names), None)
 
     def before(self, call: Call) -> Optional[Call]:
-        """The last call before this one by which the same goroutine read, wrote or waited."""
+        """The goroutine's last call before this one that read, wrote or waited."""
         begun = back(self.by_goroutine[call.goroutine], call.first - 1)
         return next((one for one in begun if one.name in READING + WRITING), None)
 
@@ -116,8 +117,8 @@ class Index:
         return sum(one.moved or 0 for one in calls if one.name == name and 0 < one.last <= until)
 
     def under_its_deadline(self, call: Call) -> list[Call]:
-        """The calls of the same side that ended between the step that set a call's deadline and the call itself, in the
-        order of their first steps. The function doesn't scan all calls, because a side may have as many timeouts as
+        """The calls that ended on the same side of the socket between the step that set a call's deadline and the call,
+        in the order of first steps. The function doesn't scan all calls, because a side may have as many timeouts as
         calls."""
         side = call.socket, call.name
         if side not in self._ended:
@@ -138,7 +139,7 @@ def back(calls: Sequence[Call], step: int) -> Iterator[Call]:
 
 
 def went_well(call: Call) -> bool:
-    """Whether a call has ended without an error, and moved something."""
+    """Whether a call has ended without an error and has moved at least one byte."""
     return call.last > 0 and call.outcome is Outcome.DONE and bool(call.moved)
 
 

@@ -21,8 +21,8 @@ class Topic(NamedTuple):
 
 
 def joined(graph: WaitGraph, order: list[Topic]) -> list[Topic]:
-    """The topics in their order. Each hang is joined to the first failed call that it is related to. A hang that
-    explains a failed call is listed even if it otherwise wouldn't be, as in a program that ended by itself."""
+    """The topics, each hang joined to the first failed call to which it is related. A hang that explains a failed call
+    is listed even if it isn't in `order`, as in a program that ended by itself."""
     hangs = [one.hang for one in order if one.hang]
     left = [*hangs, *(hang for hang in graph.shown if not any(hang is one for one in hangs))]
     of_failures: dict[int, Topic] = {}
@@ -36,9 +36,9 @@ def joined(graph: WaitGraph, order: list[Topic]) -> list[Topic]:
 
 
 def because_of(graph: WaitGraph, hang: Hang, cause: Optional[Cause]) -> str:
-    """The sentence that joins a hang to a failed call; empty if they are unrelated, or if the reason of the hang isn't
-    known."""
-    # (the first sentence of such a hang says which goroutine doesn't read)
+    """The sentence that joins a hang to a failed call; empty if the two are unrelated, or if the reason of the hang
+    isn't known."""
+    # (the first sentence of a hang at a write says which goroutine doesn't read)
     is_write = hang.root.call is not None and hang.root.call.name in WRITING
     if cause is None or hang.is_quiet or hang.is_of_go or not (hang.has_reason or hang.is_deadlock or is_write):
         return ""

@@ -1,5 +1,5 @@
 """Paths on which a call keeps what it took, from the program's source. The call took a value from a pool or a semaphore
-whose calls gave back less than they took, or it got a net/http response whose body it doesn't close."""
+and didn't give it back, or it got a net/http response and doesn't close its body."""
 
 import re
 from operator import attrgetter
@@ -35,7 +35,7 @@ TAKEN_AT, GIVEN_AT = attrgetter("taken"), attrgetter("given")
 
 
 def ways_that_keep(recording: Recording, balances: Iterable[Balance]) -> list[str]:
-    """The paths, in the function that takes and gives back, on which its calls kept what they took."""
+    """Sentences about the paths on which the calls of a function kept what they took."""
     taken = {line for one in balances if one.missing > 0 for line in one.taken}
     given = {line for one in balances for line in one.given}
     says = []
@@ -50,8 +50,8 @@ def ways_that_keep(recording: Recording, balances: Iterable[Balance]) -> list[st
 
 
 def ways_with_an_error(recording: Recording, wait: Waiting) -> list[str]:
-    """The paths of a function that return an error without giving back what the function took from a pool or a
-    semaphore. At least one other path of the function gives it back."""
+    """Sentences about the paths of a function that return an error without giving back what the function took from a
+    pool or a semaphore. At least one other path of the function gives it back."""
     own = wait.stack.own()
     if not own or own[0].of != OF_THE_PROGRAM or len(wait.objects) != 1:
         return []
@@ -73,8 +73,8 @@ def ways_with_an_error(recording: Recording, wait: Waiting) -> list[str]:
 
 
 def case_of(recording: Recording, line: Call, use: str) -> Call:
-    """The line of a select's first case with the operation that a goroutine waits for; for a line without a select, the
-    line itself."""
+    """The line of a select's first case with the operation that a goroutine waits for. If the line has no select, the
+    result is the line itself."""
     lines = source_of(recording, line.file)
     if not lines or lines[line.line - 1].partition("//")[0].strip() != "select {":
         return line
@@ -90,7 +90,7 @@ def case_of(recording: Recording, line: Call, use: str) -> Call:
 
 
 def gives_on_most_ways(recording: Recording, balances: Iterable[Balance]) -> bool:
-    """Whether the function that takes gives back at several lines, and has fewer paths that don't give back."""
+    """Whether a function that takes values gives them back at several lines, and on more paths than it keeps them."""
     taken, given = ({line for one in balances for line in some(one)} for some in (TAKEN_AT, GIVEN_AT))
     ends = gives_back(recording, given)
     for line in taken if ends else ():
@@ -103,15 +103,15 @@ def gives_on_most_ways(recording: Recording, balances: Iterable[Balance]) -> boo
 
 
 def gives_back(recording: Recording, given: Iterable[Call]) -> Optional[Test]:
-    """A test whether a statement gives something back, derived from statements that did; None if the text of these
-    isn't known."""
+    """A test whether a statement gives something back. It is derived from the statements that did so, and is None if
+    their text isn't known."""
     patterns = {pattern for line in given if (pattern := pattern_of(text_at(recording, line)))}
     return has("|".join(sorted(patterns))) if patterns else None
 
 
 def pattern_of(text: str) -> str:
-    """A pattern for statements that send on the same channel, receive from the same channel or call the same function
-    as a statement; empty if the statement does none of these."""
+    """A pattern for statements that do the same as this one: send on its channel, receive from its channel, or call its
+    function. It is empty if the statement does none of these."""
     code = LITERAL.sub("", text.strip())
     if found := SEND.search(code):
         return rf"{re.escape(found[1])} <- "
@@ -159,8 +159,8 @@ def ways_past_close(recording: Recording, stacks: Iterable[Stack]) -> list[str]:
 
 
 def closed_in_a_loop(recording: Recording, call: Call, name: str) -> str:
-    """A sentence about something that is made in a loop and closed only when the function returns, because its Close is
-    deferred; else empty."""
+    """A sentence about something that a loop makes in each round and that is closed only when the function returns,
+    because its Close is deferred; else empty."""
     lines = source_of(recording, call.file)
     within = range_of(lines, call) if lines else None
     head = loop_round(lines, within, call.line) if lines and within else 0

@@ -1,5 +1,5 @@
-"""Answers of an http.Server that its WriteTimeout cut, if only Go's own code wrote them, and the handler that ran when
-the timeout passed."""
+"""Answers of an http.Server that its WriteTimeout cut off, and the handler that ran when the timeout passed. Only Go's
+own code wrote these answers."""
 
 from typing import Iterator
 
@@ -21,7 +21,7 @@ def is_of_write_timeout(index: Index, call: Call) -> bool:
 
 
 def late_answers(index: Index) -> Iterator[Cause]:
-    """The answers that were cut, each with what its goroutine did when the timeout passed."""
+    """Causes for the answers that were cut off. Each says what the goroutine did when the timeout passed."""
     recording = index.recording
     for call in index.failed(recording.length):
         if not is_of_write_timeout(index, call) or not is_of_go(recording, call):
@@ -36,8 +36,8 @@ def late_answers(index: Index) -> Iterator[Cause]:
 
 
 def at_work(index: Index, call: Call) -> list[str]:
-    """What the goroutine that served the request did when the timeout passed, else what the goroutine last waited for;
-    empty if unknown."""
+    """What the goroutine that served the request did when the timeout passed. If that isn't known, the result is what
+    the goroutine last waited for; empty if that isn't known either."""
     passed, server = call.passed, f"goroutine {call.goroutine}, which serves the request,"
     if not call.cause < passed < call.first:
         return []

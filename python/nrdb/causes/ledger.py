@@ -1,4 +1,4 @@
-"""What goroutines did on the channels and mutexes for which others wait, from the objects of NAME.where."""
+"""What goroutines did on the channels and mutexes on which other goroutines wait, from the objects of NAME.where."""
 
 from collections import defaultdict
 from operator import attrgetter
@@ -53,14 +53,13 @@ class Ledger:
         return {found[0] for wait in self._locked[number] if (found := wait.stack.own())}
 
     def last_holder(self, number: int) -> Optional[Waiting]:
-        """The wait for a mutex that ended last, and whose goroutine then got the mutex. None if that goroutine has
-        since unlocked the mutex for another goroutine."""
+        """The wait for a mutex that ended last, and whose goroutine then got the mutex; None if no wait has ended."""
         ended = [wait for wait in self._locked[number] if wait.last is not None]
         last = max(ended, key=attrgetter("last", "begin"), default=None)
         return last
 
     def had(self, number: int) -> set[Name]:
-        """The goroutines that have held a mutex: those that waited for the mutex and got it, and those that unlocked it
-        for another goroutine."""
+        """The goroutines that have held a mutex: some waited for the mutex and got it, others unlocked it for a waiting
+        goroutine."""
         ended = [wait for wait in self._locked[number] if wait.last is not None]
         return {wait.name for wait in ended} | {wait.by for wait in ended if wait.by}

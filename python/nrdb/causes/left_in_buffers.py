@@ -1,5 +1,5 @@
-"""Requests that are still in a buffer: a goroutine waits for an answer, has written nothing since the last answer, and
-is in a function that writes into a bufio.Writer without flushing it. Derived from the program's source."""
+"""Requests that are still in a buffer. A goroutine waits for an answer, has written nothing since the last answer, and,
+by the program's source, is in a function that writes into a bufio.Writer without flushing it."""
 
 import re
 from functools import lru_cache
@@ -22,8 +22,8 @@ STARTS = re.compile(r"\b(?:go|defer)\b")
 
 
 class Named(NamedTuple):
-    """The names that a package uses for its buffers: the functions that write into a buffer, the functions that flush
-    one, the variables and fields that are buffers, and those that are flushed."""
+    """Names in a package: functions that write into a buffer, functions that flush a buffer, variables and fields that
+    are buffers, and the buffers that are flushed."""
 
     writes: frozenset[str]
     flushes: frozenset[str]
@@ -44,8 +44,8 @@ def left_in_buffer(index: Index, call: Call) -> list[str]:
 
 
 def unflushed_in(recording: Recording, frame: LineCall) -> str:
-    """The last line of a function, before the goroutine's line, that writes into a buffer, if no line in between
-    flushes that buffer; else empty."""
+    """The last line before the goroutine's line in a function that writes into a buffer, if no line in between flushes
+    a buffer; else empty."""
     lines = source_of(recording, frame.file)
     within = range_of(lines, frame) if lines else None
     if not lines or not within:
@@ -62,7 +62,7 @@ def unflushed_in(recording: Recording, frame: LineCall) -> str:
 
 
 def never_flushed(recording: Recording, call: Call) -> str:
-    """The line at which the package of a call makes a buffered writer, if no line of the package flushes one:
+    """The line at which the package of a call makes a buffered writer, if no line of the package flushes a writer:
     `main.go:28`; else empty."""
     own = recording.lines.of(call.first).own()
     if own is None or own[0].of != OF_THE_PROGRAM:

@@ -1,4 +1,4 @@
-"""Functions that return with a mutex locked on one of their paths, from the program's source. A goroutine waits for the
+"""Functions that, by the program's source, leave a mutex locked on one of their paths. A goroutine waits for that
 mutex, and no goroutine is known to hold it."""
 
 import re
@@ -27,7 +27,7 @@ class Function(NamedTuple):
 
 
 class Leak(NamedTuple):
-    """A function that locks a mutex at a line and returns at another line without unlocking the mutex (0: no line
+    """A function that locks a mutex, and the line at which it returns without unlocking it (0: no line of the function
     unlocks it)."""
 
     function: str
@@ -36,7 +36,8 @@ class Leak(NamedTuple):
 
 
 def left_locked(recording: Recording, lock: Call) -> list[str]:
-    """Sentences about functions that may have left locked the mutex that a goroutine waits for in the call `lock`."""
+    """Sentences about functions that may have left a mutex locked. A goroutine waits for that mutex in the call
+    `lock`."""
     lines, name = source_of(recording, lock.file), LOCK.search(text_at(recording, lock))
     if not lines or not name:
         return []
@@ -54,8 +55,8 @@ def left_locked(recording: Recording, lock: Call) -> list[str]:
 
 
 def returns_locked(recording: Recording, lock: Call) -> list[str]:
-    """Sentences about the function that locked a mutex in a call and left it locked: the line that returns without an
-    Unlock, or that the function has no Unlock."""
+    """Sentences about the function that locked a mutex in a call and left it locked. They name the line that returns
+    without an Unlock, or say that the function has no Unlock."""
     lines, name = source_of(recording, lock.file), LOCK.search(text_at(recording, lock))
     own = next((one for one in functions_of(lines, lock) if lock.line in one.within), None) if lines else None
     field = field_of(own, name[1]) if own and name else None
@@ -81,8 +82,8 @@ def functions_of(lines: Lines, near: Call) -> Iterator[Function]:
 
 
 def field_of(function: Function, name: str) -> Optional[str]:
-    """The mutex that an expression names: a field of the receiver, or, in a function without receiver, a variable of
-    the package. None for other variables."""
+    """The mutex that an expression names: a field of the receiver, or, in a function without a receiver, a variable of
+    the package. The result is None for other variables."""
     first, dot, rest = name.partition(".")
     if function.receiver:
         return f".{rest}" if dot and first == function.receiver else None
@@ -102,8 +103,9 @@ def leaks_of(lines: Lines, functions: list[Function], field: str) -> list[Leak]:
 
 
 def leak_of(lines: Lines, function: Function, field: str) -> Optional[Leak]:
-    """The first path on which a function returns with the mutex locked. None if unknown: the function defers an unlock,
-    lets another function unlock, unlocks first or in a block that goes on, or locks in a block that ends."""
+    """The first path on which a function returns with the mutex locked. The result is None if unknown: the function
+    defers an unlock, calls another function that unlocks, unlocks first or in a block that doesn't return, or locks in
+    a block that returns."""
     locked, released, number = 0, 0, function.within.start + 1
     while number in function.within:
         text = lines[number - 1].partition("//")[0]
@@ -128,7 +130,7 @@ def leak_of(lines: Lines, function: Function, field: str) -> Optional[Leak]:
 
 
 def is_unknown(text: str) -> bool:
-    """Whether a line may unlock a mutex in another way: deferred, or by a function of another name."""
+    """Whether a line may unlock a mutex in another way: in a `defer` statement, or by a function with another name."""
     found = UNLOCK.search(text)
     return OTHERS.search(text) is not None and (found is None or text.strip() != found[0])
 

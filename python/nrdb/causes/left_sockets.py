@@ -1,5 +1,5 @@
-"""Connections that a function dialed or accepted and left open on one of its paths, so that the other end waits.
-Derived from the later places of the function's goroutine, and from the program's source."""
+"""Connections that a function dialed or accepted and left open on one of its paths, so that the other end waits. They
+are found from where the function's goroutine was later, and from the program's source."""
 
 import re
 from typing import Optional
@@ -23,7 +23,7 @@ TO_OTHERS = r"\breturn\b.*\b{name}\b|[=({{,:]\s*{name}\b\s*[,)}};]|[=:] *{name}$
 
 def left_socket(index: Index, socket: int, position: int) -> list[str]:
     """Sentences about a socket at whose other end a goroutine waits. The socket is open although the function that
-    opened it has returned, and the path that the function took doesn't close it. None if unknown."""
+    opened it has returned: the path that the function took doesn't close it. None if unknown."""
     opened = next((one for one in index.by_socket.get(socket, ()) if one.name == OPEN), None)
     if opened is None or index.closing(socket, position, whole=True):
         return []
@@ -73,7 +73,7 @@ def left_by(index: Index, opened: Call, line: LineCall) -> list[str]:
 
 
 def without_users(recording: Recording, file: str, name: str, statement: str) -> str:
-    """A statement, without those calls in it that pass a value to functions of the package which only use the value."""
+    """A statement without the arguments of calls that pass a value to functions of the package which only use it."""
 
     def shortened(call: "re.Match[str]") -> str:
         arguments = [one.strip() for one in call[2].split(",")]
@@ -84,8 +84,8 @@ def without_users(recording: Recording, file: str, name: str, statement: str) ->
 
 
 def only_uses(recording: Recording, file: str, function: str, place: int) -> bool:
-    """Whether, by its source, the function of the package with that name only uses its parameter at a place: it neither
-    closes, keeps nor passes on the parameter."""
+    """Whether the package's function of this name only uses the parameter at `place`: by its source, it doesn't close,
+    keep or pass on the parameter."""
     found = [
         (path, lines, number, head)
         for path, lines in files_of(recording, file)
@@ -104,7 +104,7 @@ def only_uses(recording: Recording, file: str, function: str, place: int) -> boo
 
 
 def stack_at(index: Index, goroutine: int, position: int) -> Optional[Stack]:
-    """The stack of a goroutine's call or wait at a position, or else of the goroutine's last call."""
+    """The stack of a goroutine's call or wait at a position. If it is in neither, the stack of its last call."""
     call, wait = index.inside(goroutine, position), waits_of(index.recording).at(Name(goroutine), position)
     if wait:
         return wait.stack

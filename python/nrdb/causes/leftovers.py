@@ -1,5 +1,5 @@
-"""What may be wrong if no call failed and no call hangs: a reader that has ended, bytes that no goroutine read before
-their connection was closed, an early end of a stream, sockets left open, and a write between two writes of another
+"""What may be wrong if no call failed and no call hangs: readers that have ended, bytes that no goroutine read before
+their connection was closed, early ends of streams, sockets left open, and writes between two writes of another
 goroutine. None of these is a fault by itself, so each text begins with `Perhaps`."""
 
 from typing import Iterator, NamedTuple, Optional
@@ -26,15 +26,15 @@ FAREWELL = "crypto/tls.(*Conn).closeNotify"  # an alert that the other end needn
 
 
 class Place(NamedTuple):
-    """A function of the program, and a line of the function; 0 if no line is known."""
+    """A function of the program, and a line of that function (0: unknown)."""
 
     function: str
     line: int
 
 
 def leftovers_of(recording: Recording) -> list[Cause]:
-    """All findings at the end of a recording. Each kind is in the order of its steps, and findings about Go's own code
-    alone are left out."""
+    """All findings at the end of a recording. The findings of each kind are in the order of their steps. Findings about
+    Go's own code alone are left out."""
     index = index_of(recording)
     found = [
         *causes_of_cuts(index),
@@ -85,7 +85,7 @@ def never_read(index: Index) -> Iterator[Cause]:
 
 
 def first_beyond(index: Index, socket: int, count: int) -> Optional[Call]:
-    """The first Write to a socket after which the total of the bytes written there was above this number."""
+    """The first Write to a socket after which more bytes than this number had been written there."""
     together = 0
     for call in index.by_socket[socket]:
         together += size_of(index, call) if call.name == "Write" else 0
@@ -137,7 +137,7 @@ def early_ends(index: Index) -> Iterator[Cause]:
 
 
 def is_asking(index: Index, call: Call) -> bool:
-    """Whether a Read waits for an answer: its goroutine has written to the socket, and no bytes came since."""
+    """Whether a Read waits for an answer: its goroutine has written to the socket, and no bytes have come since."""
     moved = [one for one in index.by_socket[call.socket] if one.name in MOVING and one.moved and one.first < call.first]
     return (
         bool(moved) and moved[-1].name == "Write" and moved[-1].goroutine == call.goroutine and moved[0].name == "Write"
@@ -145,8 +145,8 @@ def is_asking(index: Index, call: Call) -> bool:
 
 
 def mixed_writes(index: Index) -> Iterator[Cause]:
-    """A Write of one goroutine between two Writes of another goroutine to the same socket, if one function of the
-    program makes all three, and the other goroutine's two at different lines. Those two may be pieces of one
+    """Writes of one goroutine between two Writes of another goroutine to the same socket. One function of the program
+    makes all three Writes. Since the other goroutine's two Writes are at different lines, they may be pieces of one
     message."""
     recording = index.recording
     for calls in index.by_socket.values():
@@ -168,6 +168,6 @@ def mixed_writes(index: Index) -> Iterator[Cause]:
 
 
 def place_of_function(recording: Recording, call: Call) -> Place:
-    """The function of the program that makes a call, and its line there."""
+    """The function of the program that makes a call, and the line of the call."""
     found = recording.lines.of(call.first).own()
     return Place(found[0].function, found[0].line) if found and found[0].of == OF_THE_PROGRAM else Place("", 0)

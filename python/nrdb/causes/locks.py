@@ -24,7 +24,7 @@ class Held(NamedTuple):
 
 
 def held_at(recording: Recording, call: Call) -> list[Held]:
-    """The mutexes that a function has locked, and not unlocked, before the goroutine's line; none if the source isn't
+    """The mutexes that a function has locked and not unlocked before the goroutine's line; none if the source isn't
     available."""
     return _held_at(os.path.abspath(call.file), recording.lines.written, call)
 
@@ -60,8 +60,8 @@ def end_of_literal(lines: Lines, number: int) -> int:
 
 
 def is_left(lines: Lines, number: int, lock: int) -> bool:
-    """Whether an unlock is on a path that leaves the function or the loop: the unlock is nested deeper than the line
-    that locked, and comes before a `return`."""
+    """Whether an unlock is on a path that leaves the function or the loop: it is nested deeper than the line that
+    locked, and a `return` or a similar statement follows."""
     if indent_of(lines[number - 1]) <= indent_of(lines[lock - 1]):
         return False
     rest = (lines[at - 1] for at in range(number + 1, len(lines) + 1))

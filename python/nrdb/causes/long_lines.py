@@ -1,4 +1,5 @@
-"""Lines that are too long for a bufio.Scanner: a Read filled its buffer of 65,536 bytes, after which Scan gives up."""
+"""Lines that are too long for a bufio.Scanner. When a Read has filled the Scanner's buffer of 65,536 bytes, Scan gives
+up."""
 
 from ..one_call import Call
 from .asked import asked_of
@@ -8,8 +9,8 @@ SCAN, HALF = "bufio.(*Scanner).Scan", 32_768
 
 
 def long_line_says(index: Index, last: Call) -> list[str]:
-    """Sentences about the last Read of a goroutine on a socket; none unless a Scanner's buffer was at its largest in
-    that Read."""
+    """Sentences about the last Read of a goroutine on a socket; none unless that Read was for a Scanner whose buffer
+    had its greatest size."""
     functions = (call.function for call in index.recording.lines.of(last.first).calls)
     if not last.moved or SCAN not in functions or asked_of(index.recording).of(last) != HALF:
         return []

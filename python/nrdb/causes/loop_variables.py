@@ -18,8 +18,7 @@ MOST_FOLDERS = 12
 
 
 def shared_variables(recording: Recording, file: str) -> list[str]:
-    """Sentences about the loops of a file whose variables are shared by the goroutines that the loops start, one
-    sentence for each loop."""
+    """A sentence for each loop of a file that shares its variables with the goroutines that it starts."""
     minor = language_of(os.path.dirname(os.path.abspath(file)))
     if minor is None or minor >= FIRST:
         return []
@@ -38,7 +37,7 @@ def shared_variables(recording: Recording, file: str) -> list[str]:
 
 
 def shared_at(lines: Lines, made: Call) -> Iterator[tuple[int, str]]:
-    """The loop around a `go` statement with a function literal, and the loop's variables that the literal uses."""
+    """The loop around a `go` statement, and the loop's variables that the statement's function literal uses."""
     text = lines[made.line - 1]
     within = range_of(lines, made._replace(function=LITERAL.sub("", made.function)))
     begin = made.line if "go func()" in text else begin_of_literal(lines, made.line)

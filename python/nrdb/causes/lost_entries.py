@@ -1,5 +1,5 @@
-"""Tables with the goroutines that wait for answers, from the program's source: the lines that look up an entry, add
-entries, and remove them. An entry replaces another goroutine's entry if both have the same key."""
+"""Tables of the goroutines that wait for answers. The module finds, in the program's source, the lines that look up an
+entry, add entries, and remove them. An entry replaces another goroutine's entry if both have the same key."""
 
 import re
 from typing import NamedTuple
@@ -22,8 +22,8 @@ class Place(NamedTuple):
 
 
 def entry_says(recording: Recording, line: Call) -> list[str]:
-    """Sentences about a goroutine that passes answers on at a line: the table in which it looks up the receiver, and
-    the lines that add entries and remove them."""
+    """Sentences about a goroutine that passes answers on at a line. They name the table in which it looks up the
+    receiver, and the lines that add entries and remove them."""
     lines = source_of(recording, line.file)
     within = range_of(lines, line) if lines else None
     found = [

@@ -1,5 +1,5 @@
 """Unbuffered channels whose maker has returned. A goroutine waits for a receiver, and the recording shows which
-function made the channel. The lines by which this function returns come from the program's source."""
+function made the channel. The module reads the lines by which that function returns in the program's source."""
 
 import re
 
@@ -44,7 +44,8 @@ def is_local(index: Index, line: Call) -> bool:
 
 
 def has_returned(index: Index, maker: Name, line: Call, position: int) -> bool:
-    """Whether a goroutine has left the function of a line: it has ended, or its stack no longer has the function."""
+    """Whether a goroutine has left the function of a line: it has ended, or its stack no longer contains the
+    function."""
     if has_ended(index.recording, maker):
         return True
     wait = waits_of(index.recording).at(maker, position)
@@ -60,7 +61,7 @@ def returns_says(index: Index, line: Call) -> str:
 
 
 def is_filled_by_maker(recording: Recording, at: At) -> bool:
-    """Whether the function that made a channel put in all its values, as in a token bucket."""
+    """Whether only the function that made a channel put values into it, as for a token bucket."""
     lines = recording.lines
     made = lines.made.get(at.object)
     own = lines.stacks[made.stack].own() if made else None

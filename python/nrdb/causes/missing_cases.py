@@ -1,5 +1,5 @@
-"""Selects that no goroutine ends. Either a Shutdown waits until a goroutine has served its request, and the goroutine
-waits in the select; or the select lacks a case for a closed channel that another select of the same type has."""
+"""Selects that no goroutine ends. A Shutdown waits until a goroutine has served its request, and that goroutine waits
+in the select. Or the select lacks a case for a closed channel; another select of the same type has that case."""
 
 from operator import attrgetter
 from typing import NamedTuple, Optional
@@ -15,15 +15,15 @@ from .words import place_in
 
 
 class Lacking(NamedTuple):
-    """A closed channel that another goroutine waited on: the use that closed it, and that goroutine's wait."""
+    """A closed channel on which another goroutine waited: the use that closed the channel, and that wait."""
 
     closed: Use
     wait: Waiting
 
 
 def missing_case_says(recording: Recording, hang: Hang) -> list[str]:
-    """Sentences about a root that waits in a select: the Shutdown that waits for it, and the closed channel for which
-    the select perhaps lacks a case. None if no Shutdown or WaitGroup waits."""
+    """Sentences about a root that waits in a select. They name the Shutdown that waits for it, and the closed channel
+    for which the select perhaps lacks a case. The list is empty if no Shutdown or WaitGroup waits."""
     wait = hang.root.wait
     if hang.is_deadlock or wait is None or wait.kind != A_SELECT or own_of(wait.stack) is None:
         return []
@@ -64,8 +64,8 @@ def shutdown_says(shutdown: Waiting) -> str:
 
 
 def lacking_of(recording: Recording, wait: Waiting, ends: Waiting) -> Optional[Lacking]:
-    """A channel without values that was closed by the goroutine that waits until other goroutines end. An earlier wait
-    on that channel was in a function of the same type, or package, as this wait."""
+    """A channel that never had a value, and that was closed by the goroutine that waits until other goroutines end.
+    Another function of the same type, or package, has waited on that channel."""
     own, closed = own_of(wait.stack), closed_by(recording, ends.name)
     for at in wait.objects:
         closed.pop(at.object, None)

@@ -1,5 +1,5 @@
-"""The goroutine that holds a mutex for which another waits, from the recorder's table of the mutexes that were locked
-at the end."""
+"""The goroutine that holds a mutex for which another goroutine waits, found in the recorder's table of the mutexes that
+were locked at the end."""
 
 from typing import Callable, Iterator, Mapping, NamedTuple, Optional
 
@@ -39,7 +39,8 @@ class Holder(NamedTuple):
 
     @property
     def locked(self) -> str:
-        """Words for the line that locked the mutex: `, locked at a.go:12`; empty if no line of the program did."""
+        """Words for the line that locked the mutex: `, locked at a.go:12`; empty if no line of the program locked
+        it."""
         call = self.call
         return f", locked at {call.place()}" if call else ""
 
@@ -58,7 +59,7 @@ class MutexHolders:
 
     @property
     def are_known(self) -> bool:
-        """Whether the recording has the holders of mutexes at this position. A recording has them only for its end."""
+        """Whether the recording has the holders of mutexes at this position. It has the holders only for its end."""
         return self._recording.lines.held is not None and self._position == self._recording.length
 
     def need(self, wait: Waiting) -> Need:
@@ -71,9 +72,8 @@ class MutexHolders:
         return self._of_holder(wait, others[0], others[1:]) if others else self._of_nobody(wait)
 
     def _holders(self, wait: Waiting) -> Iterator[Holder]:
-        """The holders that a goroutine waits for: the writer, or, if the goroutine is itself a writer that already has
-        the mutex, the readers that it waits for. The goroutine itself is among the holders if it also holds the
-        mutex."""
+        """The holders for which a goroutine waits: the writer; or the readers, if the goroutine is itself a writer that
+        already has the mutex. The goroutine itself is among the holders if it also holds the mutex."""
         held = [one for at in wait.objects for one in (self._recording.lines.held or {}).get(at.object, ())]
         writers = [self._holder(one) for one in held if one.how != READ]
         readers = [self._holder(one) for one in held if one.how == READ]
@@ -96,7 +96,7 @@ class MutexHolders:
         return not holder.is_reader and not is_in_mutex and any(WRITES in one for one in inside)
 
     def _of_itself(self, wait: Waiting, holder: Holder) -> Need:
-        """The need of a goroutine that has itself locked the mutex before."""
+        """The need of a goroutine that has already locked the mutex itself."""
         if left := self._left_locked(holder, wait.stack):
             return left
         return Need([f"It {holder.how} itself{holder.locked}: Lock waits for its own goroutine."], is_odd=True)
@@ -126,8 +126,8 @@ class MutexHolders:
         return Need([f"{str(holder.name).capitalize()} {holder.how}{holder.locked}{others}{doing}."], is_odd=True)
 
     def _left_locked(self, holder: Holder, now: Stack) -> Optional[Need]:
-        """The need, if the holder's current line shows that the holder has left the function that locked the mutex.
-        That function unlocks the mutex on other paths. Else None."""
+        """The need, if the holder's current line shows that the holder has left the function that locked the mutex. On
+        its other paths, that function unlocks the mutex. Else None."""
         call = holder.call
         if call is None or not now.calls or any(one.function == call.function for one in now.calls):
             return None
@@ -138,8 +138,8 @@ class MutexHolders:
         return Need([says, *returns_locked(self._recording, call)], is_odd=True, gone=holder.name)
 
     def _of_nobody(self, wait: Waiting) -> Need:
-        """The need, if no goroutine holds the mutex: if the goroutine has waited for more than a moment, the mutex may
-        be a copy of a locked mutex."""
+        """The need, if no goroutine holds the mutex. If the waiter has waited for more than a moment, the mutex may be
+        a copy of a locked mutex."""
         times = self._recording.lines.times
         if not times or times[-1] - wait.begin < A_MOMENT:
             return Need([])
@@ -152,5 +152,5 @@ class MutexHolders:
 
 
 def locked_words(holder: Holder) -> str:
-    """Words for the goroutine that locked a mutex, and for the line."""
+    """Words for the goroutine that locked a mutex, and for the line at which it did so."""
     return f"{str(holder.name).capitalize()} locked it{place_in(holder.stack)} (step {holder.step})"

@@ -10,7 +10,7 @@ GOES_FIRST = "{by} waits to lock it for writing, and goes first"  # of an RWMute
 
 
 class Certainty(IntEnum):
-    """The strength of the evidence that a goroutine could give what another needs."""
+    """The strength of the evidence that a goroutine could give what another goroutine needs."""
 
     PERHAPS = 1  # from stacks alone
     LIKELY = 2  # the goroutine has done the same before
@@ -18,14 +18,14 @@ class Certainty(IntEnum):
 
 
 class Need(NamedTuple):
-    """A waiter's need. `says` are sentences about it. `by` is the goroutine that could end the wait, `how` is a
+    """A waiter's need. `says` has sentences about the need. `by` is the goroutine that could end the wait, `how` is a
     sentence about that goroutine (with `{by}` for its name), and `certainty` is the strength of the evidence. `stopped`
-    is the last step of a goroutine that could have gone on and is no longer in a call. `more` are sentences that a
-    deadlock shows too. `is_plain` means that these sentences give no reason, only what a Read reads up to. `is_odd`
-    means that goroutines of one `go` statement differ in whether they did what is needed. `gone` is the ended goroutine
-    that did it before, `ended` are the goroutines that ended without doing it, and `others` are further candidates for
-    `by`. `is_kept` means that finished calls have kept what is needed, so no waiter has it. `beside` are sentences to
-    add if `by` itself waits for another goroutine."""
+    is a step of the last call of a goroutine that could have gone on and is no longer in a call. `more` has sentences
+    that a deadlock shows too; if `is_plain`, they give no reason, only what a Read reads up to. `is_odd` means that
+    something is wrong here, such as goroutines of one `go` statement that differ in what they did. `gone` is the ended
+    goroutine that did what is needed before, `ended` are the goroutines that ended without doing it, and `others` are
+    further candidates for `by`. `is_kept` means that finished calls have kept what is needed, so no waiter has it.
+    `beside` has sentences to add if `by` itself waits for another goroutine."""
 
     says: list[str]
     by: Optional[Name] = None

@@ -1,5 +1,5 @@
-"""What each goroutine that waits needs, and which goroutine could give it: from the recording's steps, from earlier
-uses, or from stacks alone."""
+"""What each waiting goroutine needs, and which goroutine could give it. The evidence is in the recording's steps, in
+earlier uses, or in stacks alone."""
 
 from operator import attrgetter
 from typing import Optional
@@ -75,8 +75,8 @@ class Needs:
         return need._replace(more=more or ends, beside=tuple(lost), is_plain=bool(ends))
 
     def _of_exchange(self, call: Call, other: int) -> list[str]:
-        """Sentences about the need of a Read that waits, from the earlier Writes of its goroutine, the Reads at the
-        other end, and the counts of bytes."""
+        """Sentences about the need of a waiting Read. They are derived from the earlier Writes of its goroutine, the
+        Reads at the other end, and the counts of bytes."""
         index = self._index
         found = lacking(index, call, other)
         found = (
@@ -139,8 +139,8 @@ class Needs:
         return Need([*says, *self._since_then(last)], Name(last.goroutine), how, Certainty.LIKELY, self._stopped(last))
 
     def _sibling_of(self, wrote: Call) -> Optional[Name]:
-        """A waiting goroutine that perhaps writes the answer: a goroutine that has ended wrote an earlier one, and the
-        reader of the requests started both by the same `go` statement."""
+        """A waiting goroutine that perhaps writes the answer. A goroutine that has ended wrote an earlier answer, and
+        the reader of the requests started both goroutines by the same `go` statement."""
         lines = self._recording.lines
         known = lines.goroutines.get(lines.goid_of(wrote.goroutine, wrote.first))
         if known is None or known.made is None or known.last < 0 or not known.maker:
@@ -157,9 +157,8 @@ class Needs:
         return first.name if first else None
 
     def _started_by(self, last: Call) -> Optional[Name]:
-        """The goroutine that should perhaps write at the other end of a read, if nothing was written there yet. The
-        other end's reader started this goroutine after the last request and now reads again, and the goroutine waits
-        elsewhere."""
+        """The goroutine that should perhaps write at the other end of a read, if nothing was written there yet. It
+        waits elsewhere; the other end's reader started it after the last request, and now reads again."""
         lines, reads = self._recording.lines, self._index.by_socket[last.socket]
         got = [
             one for one in reads if one.goroutine == last.goroutine and one.name == "Read" and one.moved and one.last
@@ -174,8 +173,8 @@ class Needs:
 
     def _relay_back(self, last: Call) -> Optional[Name]:
         """The goroutine that should perhaps write at the other end of a read, if nothing was written there and the
-        other end's reader passes on what it reads. It is the goroutine that waits to read from the socket to which that
-        reader writes, which is the other half of a relay."""
+        other end's reader passes on what it reads. It is the other half of a relay: it waits to read from the socket to
+        which that reader writes."""
         if last.name != "Read" or Name(last.goroutine) in self._waiters:
             return None
         wrote = {
@@ -188,7 +187,7 @@ class Needs:
         return found.name if found else None
 
     def _needed(self, call: Call, other: int, did: Optional[Call]) -> list[str]:
-        """Sentences about what a call needs from the other end. `did` is the last read or write there."""
+        """Sentences about what a call needs from the other end. `did` is the last read or write at that end."""
         if call.name in READING:
             return [f"It needs bytes from its other end, socket {other}."]
         is_read = did and self._is_under_way(did) and not did.is_asking
@@ -210,15 +209,15 @@ class Needs:
         return name_of_goid(lines, first.goid) if first else None
 
     def _stopped(self, last: Call) -> int:
-        """The last step of a goroutine that is no longer in a call; 0 if the goroutine is in a call or waits
-        elsewhere."""
+        """The first step of a goroutine's last call; 0 if the goroutine is in a call or waits elsewhere."""
         is_busy = self._index.inside(last.goroutine, self._position) or self._waits.at(
             Name(last.goroutine), self._position
         )
         return 0 if is_busy else last.first
 
     def _since_then(self, last: Call) -> list[str]:
-        """A sentence about the goroutine that last used the other end: that use, and what the goroutine does now."""
+        """A sentence about the goroutine that last used the other end. It names that use, and says what the goroutine
+        does now."""
         recording, now = self._recording, self._index.inside(last.goroutine, self._position)
         if now is last:
             return [f"There {told(recording, last)} is itself under way since step {last.first}."]

@@ -110,8 +110,9 @@ class NeedsElsewhere:
         return need
 
     def _reader_for(self, wait: Waiting) -> Optional[Name]:
-        """The goroutine that could give a value to a goroutine that wrote and now waits on a channel into which no
-        value was put yet. It is the goroutine that waits to read from that connection, as a client's reader does."""
+        """The goroutine that could give a value to a waiter, if the waiter wrote a request and no value was put into
+        its channel yet. It is the goroutine that waits to read from the waiter's connection, as a client's reader
+        does."""
         if wait.name.is_goid or not self._channels.is_new(wait) or not is_for_values(wait):
             return None
         wrote = next(back(self._index.by_goroutine[wait.name.number], wait.first), None)
@@ -136,8 +137,8 @@ class NeedsElsewhere:
         return found or dropped_request(self._recording, wait, self._waiters) or ended_hand(self._index, wait)
 
     def _closed_later(self, wait: Waiting) -> Optional[Need]:
-        """The need of a select whose channel or context another goroutine closes or cancels later, computed once for
-        the selects of a line."""
+        """The need of a select that another goroutine ends later, as it closes a channel or cancels a context. It is
+        computed once for all selects of a line."""
         key = "later", wait.stack.own()
         if key not in self._later:
             self._later[key] = closed_later(self._recording, wait._replace(name=NOBODY), self._stacks())
@@ -145,12 +146,12 @@ class NeedsElsewhere:
         return closed_later(self._recording, wait, self._stacks()) if need and need.by == wait.name else need
 
     def excess_of(self, names: set[Name]) -> list[str]:
-        """Sentences about the calls of these goroutines that gave something back to a channel more often than they took
-        from it."""
+        """Sentences about these goroutines' calls, if they gave values back to a channel more often than they took
+        values from it."""
         return self._channels.excess_of(names)
 
     def _of_close(self, waiter: Waiter) -> Need:
-        """The need of a Close that waits until no call uses the descriptor: the call that uses it."""
+        """The need of a Close that waits until no call uses the descriptor: the call that still uses it."""
         closes = None if waiter.name.is_goid else self._index.inside(waiter.name.number, self._position)
         if closes is None:
             return Need([])
@@ -164,8 +165,8 @@ class NeedsElsewhere:
         return Need([says], Name(users[-1].goroutine), "{by} uses the descriptor")
 
     def _of_condition(self, wait: Waiting) -> list[str]:
-        """Sentences about the need of a wait on a condition: the function that should have woken the goroutine, or all
-        waiters."""
+        """Sentences about the need of a wait on a condition. They name the function that should have woken the
+        goroutine, or all waiters."""
         key = wait.stack.own(), wait.objects
         if key not in self._conditions:
             alike = [one for one in self._waiters.values() if one.wait and one.wait.objects == wait.objects]
@@ -216,8 +217,8 @@ class NeedsElsewhere:
         return now is not None and now.is_of_go and now.call is not None and now.call.name in READING
 
     def _ended_before(self, wait: Waiting, elsewhere: bool = False) -> Optional[Name]:
-        """The goroutine that ended this goroutine's last wait at the same line and now waits itself. The last wait was
-        on the same channel or mutex, or, with `elsewhere`, on any."""
+        """The goroutine that ended this goroutine's last wait at the same line and now waits itself. Unless
+        `elsewhere`, only waits on the same channels or mutex count."""
         earlier = (
             one for one in reversed(self._waits.of[wait.name])
             if one.last is not None and one.by is not None and one.last <= wait.first
@@ -232,8 +233,8 @@ class NeedsElsewhere:
         return next((by for by in same if by in self._waiters), None)
 
     def _does(self, name: Name, stack: Optional[Stack] = None) -> str:
-        """Words for what a goroutine does now. If the goroutine has ended, they say so and name its last place, unless
-        that place is the known stack. Empty if unknown."""
+        """Words for what a goroutine does now. If the goroutine has ended, the words say so and name its last place,
+        unless that place is the known stack. Empty if unknown."""
         if wait := self._waits.at(name, self._position):
             return f"{waits_words(wait)} since step {wait.first}"
         lines = self._recording.lines

@@ -1,5 +1,5 @@
-"""What a goroutine that waits on a channel needs. The need is derived from how often each goroutine took and gave
-there, from the last goroutine that did the awaited operation, and from the goroutines that ended without it."""
+"""What a goroutine that waits on a channel needs. The need is derived from how often goroutines took and gave back
+values, from the last goroutine that did the awaited operation, and from goroutines that ended without it."""
 
 from itertools import islice
 from typing import Any, Callable, Hashable, Iterable, Iterator, Mapping, Optional, TypeVar
@@ -59,7 +59,7 @@ class NeedsOfChannels:
         return found
 
     def _balances(self, number: int) -> list[Balance]:
-        """The balances of a channel; none unless goroutines take from the channel and give back, as with a pool."""
+        """The balances of a channel; none unless goroutines take its values and give them back, as with a pool."""
 
         def find() -> list[Balance]:
             found = balances_of(self._recording, number, self._stacks)
@@ -68,7 +68,7 @@ class NeedsOfChannels:
         return self._once(("balances", number), find)
 
     def besides(self, wait: Waiting) -> list[str]:
-        """Further sentences about a channel: values that were perhaps lost there, or that a function kept."""
+        """Further sentences about a channel: values that were lost or kept, or loop variables that goroutines share."""
 
         def find() -> list[str]:
             is_pool = any(self._balances(at.object) for at in wait.objects if self.is_buffered(at))
@@ -80,8 +80,8 @@ class NeedsOfChannels:
         return self._once((wait.stack.own(), wait.objects, "besides"), find)
 
     def of_balance(self, wait: Waiting) -> Optional[Need]:
-        """The need at a channel from which goroutines take and give back: the calls that kept something or gave it back
-        twice; else a goroutine that has taken something and now waits. None if the channel isn't used this way."""
+        """The need at a channel whose values goroutines take and give back: calls that kept a value or gave it back
+        twice, and a waiting goroutine that has a value. None if the channel isn't used this way."""
         at, wanted = wait.objects[0], GIVES.get(wait.objects[0].use, "")
         balances = self._balances(at.object) if self.is_buffered(at) else []
         if not balances:
@@ -103,7 +103,7 @@ class NeedsOfChannels:
         )
 
     def _of_slots(self, wait: Waiting) -> Optional[Need]:
-        """The need at a semaphore to which no goroutine has given a slot back yet: a goroutine that has a slot."""
+        """The need at a semaphore, if no goroutine has given a slot back yet: a goroutine that has a slot."""
         key = "slots", wait.stack.own(), wait.objects
         need = self._once(
             key, lambda: of_slots(self._recording, wait._replace(name=NOBODY), self._stacks, self._waiters)
@@ -136,7 +136,7 @@ class NeedsOfChannels:
                 yield Need([], name, f"perhaps {how}", Certainty.PERHAPS)
 
     def excess_of(self, names: set[Name]) -> list[str]:
-        """Sentences about the calls of these goroutines that gave back to a channel more often than they took."""
+        """Sentences about these goroutines' calls, if they gave values back to a channel more often than they took."""
         for number in self._recording.lines.objects:
             if self.is_buffered(At(number, "")) and (balances := self._balances(number)):
                 mine = [one for one in balances if one.name in names and one.takes == TOOK]
@@ -149,7 +149,7 @@ class NeedsOfChannels:
         return known is not None and known.room > 0
 
     def _is_holder(self, balance: Balance, wait: Waiting) -> bool:
-        """Whether a goroutine has something that another goroutine waits for, and itself waits elsewhere."""
+        """Whether a goroutine has a value that another goroutine waits for, and waits itself."""
         return balance.name in self._waiters and balance.name != wait.name and balance.has_one
 
     def is_new(self, wait: Waiting) -> bool:
@@ -249,17 +249,17 @@ class NeedsOfChannels:
         return rule(self._recording, wait, self._stacks.items()) if need and need.by == wait.name else need
 
     def more_of(self, wait: Waiting, by: Name) -> list[str]:
-        """Further sentences about such a wait: a channel isn't closed, or an answer wasn't passed on."""
+        """Further sentences about a wait: a channel isn't closed, or an answer wasn't passed on."""
         closing = self._closing(wait)
         return [*(closing.more if closing else []), *perhaps_dropped(self._recording, wait, self._waiters[by])]
 
     def _of_siblings(self, wait: Waiting) -> list[str]:
-        """Sentences about goroutines of a `go` statement that ended without doing what others of them did."""
+        """Sentences about goroutines that ended without doing what others of the same `go` statement did."""
         what = GIVES.get(wait.objects[0].use, "")
         return [ended_words(self._recording, kind, DID[what]) for kind in self._kinds_of(wait)]
 
     def _ended_siblings(self, wait: Waiting) -> tuple[Name, ...]:
-        """The goroutines of that `go` statement that ended without doing the awaited operation."""
+        """The goroutines that ended without the awaited operation, although others of their `go` statement did it."""
         return tuple(name_of_goid(self._recording.lines, goid) for kind in self._kinds_of(wait) for goid in kind.ended)
 
     def _kinds_of(self, wait: Waiting) -> list[Kind]:
@@ -277,7 +277,7 @@ class NeedsOfChannels:
         return kinds_of(self._recording, did)
 
     def left_without(self, wait: Waiting) -> list[str]:
-        """A sentence about a goroutine that waited on a channel for a value, and went on without it."""
+        """A sentence about a goroutine that waited for a value from a channel, and went on without it."""
         if len(wait.objects) != 1 or not self.is_new(wait):
             return []
         return self._once(("gone", wait.objects), lambda: self._gone(wait))

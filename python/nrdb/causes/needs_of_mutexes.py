@@ -35,8 +35,8 @@ class Holder(NamedTuple):
 
 
 def of_once(stack: Stack) -> str:
-    """A sentence about a goroutine that waits in a sync.Once's Do: the goroutine itself already runs that Do. Empty if
-    it doesn't."""
+    """A sentence about a goroutine that waits in a sync.Once's Do because it already runs that Do itself; else
+    empty."""
     lines = [
         outer for inner, outer in zip(stack.calls, stack.calls[1:])
         if inner.function in DO and outer.function not in DO and outer.of == OF_THE_PROGRAM
@@ -85,9 +85,8 @@ class NeedsOfMutexes:
         return Need([f"{held} {first.name}, which {self._does(first.name)}."])
 
     def _crossed(self, waiter: Waiter, wait: Waiting) -> Optional[Need]:
-        """The need, if another goroutine waits for a different mutex in a function that both goroutines are in, and
-        both hold a mutex there. This happens if two goroutines call a function with the same mutexes in different
-        orders."""
+        """The need, if two goroutines are in the same function, hold a mutex there, and wait for different mutexes.
+        This happens if they call the function with the same mutexes in different orders."""
         objects = {at.object for at in wait.objects}
         mine = {call.function for call in waiter.stack.calls if self._held(call)}
         for name, other in self._waiters.items():
@@ -152,9 +151,9 @@ class NeedsOfMutexes:
         return {at.object for at in waiter.wait.objects} if waiter and waiter.wait else set()
 
     def _lock_of(self, call: Call, lock: Call, locks: set[Call]) -> Optional[int]:
-        """The line at which a goroutine in a call locked a mutex that may be the awaited one. Another goroutine waits
-        for that mutex in the call `lock`, or others wait for it in `locks`. 0 if the line isn't certain, None if the
-        goroutine holds no such mutex there."""
+        """The line at which a goroutine in a call locked a mutex that may be the awaited one: goroutines wait for that
+        mutex in the call `lock` or in `locks`. The result is 0 if the line isn't certain, and None if the goroutine
+        holds no such mutex there."""
         key = call, lock, frozenset(locks)
         if key not in self._locks:
             self._locks[key] = self._look_for_lock(call, lock, locks)

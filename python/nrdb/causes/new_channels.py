@@ -1,5 +1,5 @@
-"""Channels that a function makes for one request. Earlier uses at the same address concerned an older channel whose
-memory was reused. Derived from the program's source."""
+"""Channels that a function makes for one request, found in the program's source. Earlier uses at the same address
+concerned an older channel whose memory was reused."""
 
 import re
 
@@ -13,8 +13,8 @@ from .source_functions import range_of, source_of, text_at
 
 
 def made_since(recording: Recording, wait: Waiting) -> int:
-    """The step after which the channel that a goroutine waits on was made, if the waiting function makes it: the step
-    of the function's Write that follows, unless that Write is in a loop; else 0."""
+    """The step after which a goroutine's channel was made, if the waiting function makes the channel: the first step of
+    the function's next Write, unless that Write is in a loop; else 0."""
     own = wait.stack.own()
     if recording.lines.made or not own or own[0].of != OF_THE_PROGRAM or len(wait.objects) != 1 or wait.name.is_goid:
         return 0  # (if the recorder saw channels being made, a channel at a reused address is a new object)

@@ -21,8 +21,8 @@ MAKES = re.compile(r"\b(bufio\.NewReader|bufio\.NewReaderSize|bufio\.NewScanner|
 
 
 def thrown_away(index: Index, call: Call, other: int, position: int) -> list[str]:
-    """Sentences about a Read that waits: its goroutine left the function after the last Read, the function makes a new
-    reader, and the other end waits for more than one answer."""
+    """Sentences about a waiting Read whose goroutine has left its function since the last Read. The function makes a
+    new reader in each call, and the other end has got an answer and waits for more."""
     lines = index.recording.lines
     own = lines.of(call.first).own()
     made = maker_line(index, own[0]) if own else 0
@@ -46,8 +46,8 @@ def thrown_away(index: Index, call: Call, other: int, position: int) -> list[str
 
 
 def left_reader(index: Index, call: Call, other: int, position: int) -> list[str]:
-    """Sentences about a Read that waits: an earlier Read was by a buffered reader that a function made for itself and
-    has dropped, while the other end has written nothing more."""
+    """Sentences about a waiting Read, if a buffered reader made an earlier Read. The function that made that reader has
+    dropped it, and the other end has written nothing more."""
     stacks, calls = index.recording.lines, index.by_socket[call.socket]
     reads = [one for one in calls if one.name == "Read" and one.moved and 0 < one.last < call.first]
     wrote = index.last_use(other, position, ("Write",))
@@ -71,8 +71,8 @@ def left_reader(index: Index, call: Call, other: int, position: int) -> list[str
 
 
 def past_a_reader(index: Index, call: Call, other: int, read: Call, position: int) -> list[str]:
-    """Sentences about a Read without a buffer: the last Read there was by a buffered reader, which a function made that
-    the goroutine is still in or that started the goroutine; and the other end waits to read."""
+    """Sentences about a Read without a buffer, if a buffered reader made the last Read there and the other end waits to
+    read. The function that made the reader is one that the goroutine is still in, or that started the goroutine."""
     lines = index.recording.lines
     if is_buffered(lines.of(call.first)) or not is_buffered(lines.of(read.first)):
         return []
@@ -110,8 +110,8 @@ def lost_with(index: Index, file: str, line: int, read: Call, last: Call, why: s
 
 
 def may_have_more(index: Index, read: Call, other: int) -> bool:
-    """Whether a Read may have got more than one message: it got at least as many bytes as the recorder counts, or the
-    bytes of two Writes."""
+    """Whether a Read may have got more than one message: it got the bytes of two Writes, or at least as many bytes as
+    the recorder counts."""
     most, moved = index.recording.lines.bytes, read.moved or 0
     if most is not None and moved >= most:
         return True
@@ -124,7 +124,7 @@ def may_have_more(index: Index, read: Call, other: int) -> bool:
 
 
 def is_of_one_statement(index: Index, frame: LineCall) -> bool:
-    """Whether a reader is made and read from in one statement, so that nothing can read from it later."""
+    """Whether one statement makes a reader and reads from it, so that nothing can read from it later."""
     return AT_ONCE.search(text_at(index.recording, frame)) is not None
 
 
@@ -158,8 +158,8 @@ def functions_of(index: Index, call: Call) -> set[str]:
 
 
 def waits_on(index: Index, other: int, read: Call, answer: Call, position: int) -> bool:
-    """Whether a goroutine at the other end got the answer, waits to read more, and has written nothing since the bytes
-    that were read."""
+    """Whether a goroutine at the other end got the answer, waits to read more, and has written nothing since the
+    Read."""
     calls = list(back(index.by_socket.get(other, ()), position))
     now: Optional[Call] = next((one for one in calls if one.name == "Read"), None)
     wrote = next((one for one in calls if one.name == "Write" and one.moved), None)

@@ -1,5 +1,5 @@
-"""Goroutines that wait for bytes that only they would read. Such a goroutine is in the function that reads a
-connection, for example because it serves the requests itself, and the connection has unread bytes."""
+"""Goroutines that wait although only they could read what they wait for. Such a goroutine is in the function that reads
+a connection, for example because it serves the requests itself, and the connection has unread bytes."""
 
 from typing import Optional
 
@@ -14,8 +14,8 @@ from .words import place_in, short, told
 
 
 def of_own_reader(index: Index, wait: Waiting, position: int) -> Optional[Need]:
-    """The need of a goroutine that waits in a function that reads a connection; None if other goroutines read from it
-    too, or if it has no unread bytes."""
+    """The need of a goroutine that waits in a function that reads a connection. The result is None if other goroutines
+    read from the connection too, or if it has no unread bytes."""
     inside = {call.function for call in wait.stack.calls if call.of == OF_THE_PROGRAM}
     if wait.name.is_goid:
         return None

@@ -81,7 +81,7 @@ def fields_in(lines: Lines) -> dict[str, dict[str, str]]:
 
 
 def variables_of(recording: Recording, lines: Lines, call: Call) -> dict[str, str]:
-    """The types of the receiver, the parameters, and simple variables of the function of a call."""
+    """The types of the receiver, the parameters, and simple variables in the function of a call."""
     begin = next((number for number in range(min(call.line, len(lines)), 0, -1) if HEAD.match(lines[number - 1])), 0)
     head = HEAD.match(lines[begin - 1]) if begin else None
     if head is None:

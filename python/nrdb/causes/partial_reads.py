@@ -22,8 +22,8 @@ MOST = 2
 
 
 def partial_reads(index: Index, call: Call) -> list[str]:
-    """Sentences about a Read that waits: the lines of its functions that have read from the socket before, or that name
-    the length."""
+    """Sentences about a waiting Read. They name the lines of its functions that have read from the socket before, or
+    that name the length."""
     passed = {
         (one.function, one.line)
         for read in index.by_socket[call.socket]
@@ -49,8 +49,8 @@ def partial_reads(index: Index, call: Call) -> list[str]:
 
 
 def part_taken(index: Index, call: Call) -> list[str]:
-    """Sentences about a Read that waits: the last Read before it on the socket got fewer bytes than it asked for. None
-    unless that Read's line reads a length only once."""
+    """Sentences about a waiting Read, if the previous Read on the socket got fewer bytes than it asked for. The list is
+    empty unless the previous Read's line reads a length only once."""
     for read in reversed(
         [one for one in index.by_socket[call.socket] if one.name == "Read" and one.first < call.first]
     ):

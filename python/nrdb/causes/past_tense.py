@@ -1,4 +1,4 @@
-"""Turns sentences in the present tense into the past tense, for a state at an earlier step."""
+"""Puts sentences into the past tense, for a state at an earlier step."""
 
 import re
 

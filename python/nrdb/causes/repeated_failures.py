@@ -1,5 +1,5 @@
-"""Calls that fail repeatedly in a loop, and, from the program's source, the `break` that leaves a select or a switch
-instead of the loop."""
+"""Calls that fail repeatedly in a loop. The module finds, in the program's source, a `break` that leaves a select or a
+switch instead of the loop."""
 
 from ..one_call import Call
 from ..recording import Recording
@@ -11,7 +11,7 @@ FEWEST = 3  # the fewest failed calls that count as repeated
 
 
 def repeated_says(recording: Recording, calls: list[Call]) -> list[str]:
-    """Sentences about failed calls that are alike; none if the calls are few or if several goroutines made them."""
+    """Sentences about similar failed calls; none if the calls are few or if several goroutines made them."""
     own = recording.lines.of(calls[0].first).own()
     if len(calls) < FEWEST or len({call.goroutine for call in calls}) > 1 or not own or own[0].of != OF_THE_PROGRAM:
         return []

@@ -1,5 +1,5 @@
-"""Goroutines that may later do what a goroutine waits for on a channel, from the program's source. Such a goroutine is
-in a function before a line that puts a value there or takes one."""
+"""Goroutines that may later do what another goroutine waits for on a channel, by the program's source. Such a goroutine
+is in a function, before a line that puts a value into the channel or takes a value from it."""
 
 import re
 from typing import Iterable, NamedTuple, Optional
@@ -25,8 +25,8 @@ class Giving(NamedTuple):
 
 
 def later_giver(recording: Recording, wait: Waiting, stacks: Iterable[tuple[Name, Stack]]) -> Optional[Need]:
-    """The need, if another goroutine may do the awaited operation later; else, if no line of the file does the
-    operation, a need that says so. None if the source isn't available."""
+    """The need, if another goroutine may do the awaited operation later. If no line of the file does the operation, the
+    need says so. None if the source isn't available."""
     own = wait.stack.own()
     if not own or own[0].of != OF_THE_PROGRAM or len(wait.objects) != 1 or wait.objects[0].use not in WORDS:
         return None
@@ -74,7 +74,7 @@ def givings_at(recording: Recording, wait: Waiting) -> list[Giving]:
 
 
 def givings_of(source: Lines, call: Call, name: str, pattern: "re.Pattern[str]") -> list[Giving]:
-    """The lines that do an operation on a channel that may be the one of this name."""
+    """The lines that do an operation on a channel that may have this name."""
     found = []
     for number, text in enumerate(source, 1):
         gives = pattern.search(text.partition("//")[0])

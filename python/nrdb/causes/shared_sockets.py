@@ -10,8 +10,8 @@ MOST = 6
 
 
 def shared_says(index: Index, call: Call) -> list[str]:
-    """Sentences about a Read on such a socket, if each of its readers also writes there and so waits for an answer of
-    its own."""
+    """Sentences about a Read on a datagram socket, if several goroutines read and write there, so that each waits for
+    an answer of its own."""
     if not is_datagram(index, call.socket):
         return []
     calls = index.by_socket[call.socket]

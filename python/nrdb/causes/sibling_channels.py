@@ -1,5 +1,5 @@
-"""Channels that one line makes anew each time it runs. For a goroutine that waits on one of them, the module finds the
-goroutine that gave on earlier ones, from the recording."""
+"""Channels that one line makes anew each time it runs. For a goroutine that waits on such a channel, the module finds
+the goroutine that ended the waits on earlier channels of the line."""
 
 from typing import Container, Optional
 
@@ -14,8 +14,8 @@ DID = {PUT: "put a value into", TOOK: "took one from", CLOSED: "closed"}
 
 
 def giver_at_siblings(recording: Recording, wait: Waiting, waiters: Container[Name]) -> Optional[Need]:
-    """The need of a goroutine that waits on a channel on which no goroutine has given yet: another waiting goroutine
-    that gave on an earlier channel."""
+    """The need of a goroutine, if no goroutine has yet done the awaited operation on its channel: another waiting
+    goroutine that did it on an earlier channel of the same line."""
     for use in given_at_siblings(recording, wait):
         name, place = name_of_goid(recording.lines, use.goid), place_in(recording.lines.stacks[use.stack])
         if name != wait.name and name in waiters and place:

@@ -1,5 +1,5 @@
-"""Goroutines of the same `go` statement, of which only some did something. The module finds the lines of the program
-that only these goroutines, or only the others, passed."""
+"""Goroutines of the same `go` statement, if only some of them did something. The module finds the lines of the program
+that only these goroutines, or only the other goroutines, passed."""
 
 from collections import Counter, defaultdict
 from functools import cached_property, lru_cache
@@ -36,7 +36,7 @@ class Lines:
 
     @cached_property
     def _stacks(self) -> dict[Name, set[int]]:
-        """The stacks of each goroutine: those of its steps, waits and uses of channels."""
+        """The stacks of each goroutine at its steps, waits and uses of channels."""
         lines, found = self._recording.lines, defaultdict[Name, set[int]](set)
         for goroutine, stack in zip(book_of(self._recording).whose.goroutines, lines.steps):
             found[Name(goroutine)].add(stack)
@@ -65,7 +65,8 @@ def lines_of(recording: Recording) -> Lines:
 
 
 def kinds_of(recording: Recording, did: Collection[int]) -> list[Kind]:
-    """The `go` statements of which only some goroutines did something, ordered by the number of goroutines that did."""
+    """The `go` statements that started both goroutines which did something and goroutines which didn't. Statements with
+    the most goroutines that did it come first."""
     found: dict[Call, Kind] = {}
     for goid, known in recording.lines.goroutines.items():
         if known.made and known.made.of == OF_THE_PROGRAM:
@@ -76,7 +77,7 @@ def kinds_of(recording: Recording, did: Collection[int]) -> list[Kind]:
 
 
 def odd_ones(recording: Recording, goids: list[int]) -> Optional[tuple[list[int], Call]]:
-    """The goroutines that didn't pass a line that most of them passed, and the line."""
+    """The goroutines that didn't pass a line which at least half of `goids` passed, and the line."""
     passed = lines_of(recording)
     often = Counter(line for goid in goids for line in passed.of(goid))
     most = {line: count for line, count in often.items() if len(goids) <= 2 * count < 2 * len(goids)}
@@ -89,8 +90,8 @@ def odd_ones(recording: Recording, goids: list[int]) -> Optional[tuple[list[int]
 def lines_words(
     recording: Recording, odd: Iterable[int], others: Iterable[int], known: Collection[Call] = frozenset()
 ) -> str:
-    """Words for the lines that only the odd goroutines passed, and for those that only the others passed: `; only they
-    passed a.go:3 in ask`. Lines in `known` are left out. Empty if no such line exists."""
+    """Words for the lines that only the odd goroutines passed, and for the lines that only the others passed: `; only
+    they passed a.go:3 in ask`. Lines in `known` are left out. The result is empty if no such line exists."""
     passed = lines_of(recording)
     its, theirs = ([passed.of(goid) for goid in some] for some in (odd, others))
     if not its or not theirs:
@@ -116,7 +117,7 @@ def is_end(recording: Recording, line: Call) -> bool:
 
 
 def places(lines: set[Call]) -> str:
-    """The first few of some lines, as text."""
+    """The first few of these lines as text, ordered by file and line."""
     shown = sorted(lines, key=lambda line: (line.file, line.line))[:MOST_LINES]
     return " and ".join(f"{line.place()} in {short(line.function)}" for line in shown)
 

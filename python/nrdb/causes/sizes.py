@@ -1,4 +1,4 @@
-"""The number of bytes that calls moved, even if the recording counts fewer."""
+"""The number of bytes that calls moved, even if the recording's count is smaller."""
 
 from collections import defaultdict
 from functools import lru_cache

@@ -1,5 +1,6 @@
-"""Calls of Done that a loop skips: a goroutine calls Done of a WaitGroup once for each value that its loop takes from a
-channel. The sentences name the rounds without Done and, from the program's source, the paths that skip it."""
+"""Calls of Done that a loop skips. A goroutine should call a WaitGroup's Done once for each value that its loop takes
+from a channel. The sentences count the rounds without Done and, from the program's source, name the paths that skip
+it."""
 
 import re
 from collections import defaultdict
@@ -24,7 +25,7 @@ MOST_CALLS = 3  # the most lines between a loop and Done
 
 class Rounds(NamedTuple):
     """A loop that takes values from a channel at a line and calls Done at another line, directly or through a function.
-    The line that takes is 0 if the loop takes no values."""
+    `takes` is 0 if the loop takes no values."""
 
     line: Call
     head: int
@@ -33,8 +34,8 @@ class Rounds(NamedTuple):
 
 
 def skipped_done(recording: Recording, waits: Waits, count: Count, position: int) -> list[str]:
-    """Sentences about the rounds of a loop that ended without Done, if their number is the number of missing calls;
-    none if unknown."""
+    """Sentences about the rounds of a loop that ended without Done, if as many calls of Done are missing; none if
+    unknown."""
     lines = recording.lines
     loops: dict[tuple[str, int], set[Rounds]] = defaultdict(set)
     for use in count.done:
@@ -67,8 +68,8 @@ def perhaps_skipped(recording: Recording, count: Count, loops: dict[tuple[str, i
 
 
 def unput_says(recording: Recording, count: Count, puts: list[Use]) -> list[str]:
-    """Sentences for the case that each value had its Done: fewer values were put into the channel than were added to
-    the WaitGroup, and on these paths no value is put."""
+    """Sentences for a loop that called Done for each value. Fewer values were put into the channel than were added to
+    the WaitGroup, and the sentences name the paths that put no value."""
     owns = [own[0] for use in puts if (own := recording.lines.stacks[use.stack].own())]
     adders = {own[0].function for use in count.added if (own := recording.lines.stacks[use.stack].own())}
     line = next((own for own in owns if own.function in adders and own.of == OF_THE_PROGRAM), None)
@@ -113,8 +114,8 @@ def code(lines: Lines, number: int) -> str:
 
 
 def is_at(recording: Recording, use: Use, rounds: Rounds) -> bool:
-    """Whether a use is a value taken by a loop: at the line that takes it, or at the `select` of which that line is a
-    case."""
+    """Whether a use takes a value for a loop: it is at the line that takes values, or at the `select` of which that
+    line is a case."""
     own = recording.lines.stacks[use.stack].own()
     return own is not None and own[0].function == rounds.line.function and rounds.head <= own[0].line <= rounds.takes
 
@@ -137,8 +138,8 @@ def has_ended(recording: Recording, use: Use) -> bool:
 
 
 def rounds_say(recording: Recording, every: list[Rounds], took: list[Use], done: list[Use]) -> list[str]:
-    """Sentences about how often a loop took a value and how often it called Done, at one line or several, and about the
-    paths that skip Done."""
+    """Sentences that say how often a loop took a value and how often it called Done, and name the paths that skip
+    Done."""
     rounds = every[-1]
     file, place = rounds.line.file, " and ".join(dict.fromkeys(one.done.place() for one in every))
     many = f"{counted(total(took), 'value')} from a channel and called Done at {place} {counted(total(done), 'time')}"
@@ -148,7 +149,7 @@ def rounds_say(recording: Recording, every: list[Rounds], took: list[Use], done:
 
 
 def words_of_ways(recording: Recording, every: list[Rounds], has_left: bool) -> str:
-    """The paths of a loop, and of the function that it calls, that skip Done, as text; empty if no path does."""
+    """Text for the paths of a loop, and of the function that it calls, that skip Done; empty if no path does."""
     rounds = every[-1]
     lines, inner = source_of(recording, rounds.line.file), source_of(recording, rounds.done.file)
     within = range_of(lines, rounds.line) if lines else None

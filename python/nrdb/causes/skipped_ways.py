@@ -1,5 +1,5 @@
-"""Paths of a function that skip what it should do: they lead from a line that takes or begins something past the line
-that gives it back or finishes it, by a `return`, a `continue`, a `break` or the condition of a block."""
+"""Paths of a function that skip what it should do. They lead from a line that takes or begins something past the line
+that gives it back or finishes it. They do so by a `return`, a `continue`, a `break` or the condition of a block."""
 
 import re
 from typing import Callable, NamedTuple, Optional
@@ -24,27 +24,28 @@ def nothing(_: str) -> bool:
 
 
 def is_text(text: str) -> Test:
-    """Whether a statement equals this one."""
+    """A test whether a statement has this text."""
     return lambda other: other == text
 
 
 def has(pattern: str) -> Test:
-    """Whether a statement matches a pattern."""
+    """A test whether a statement matches a pattern."""
     found = re.compile(pattern)
     return lambda text: found.search(text) is not None
 
 
 class Way(NamedTuple):
-    """A path that leaves without doing what should be done: its line, and the verb for what the line does. For a
-    condition the verb is `passes by`."""
+    """A path that leaves without doing what should be done: its line, and a verb for what the line does. The verb for a
+    condition is `passes by`."""
 
     number: int
     does: str
 
 
 class State(NamedTuple):
-    """The possible states at a place: something is taken and not yet given back, or it is given back; the block whose
-    condition decides, 0 if none does; and whether it will be given back in any case when the function ends."""
+    """The possible states at a place. Something may be taken and not yet given back (`is_open`), and it may be given
+    back (`is_done`). `block` is the block that decides which (0: no block does). If `is_deferred`, it is given back in
+    any case when the function ends."""
 
     is_open: bool = False
     is_done: bool = False
@@ -53,7 +54,7 @@ class State(NamedTuple):
 
 
 class Exit(NamedTuple):
-    """A line that leaves a block, the way in which it leaves, and the state at the line."""
+    """A line that leaves a block, how it leaves the block, and the state at the line."""
 
     kind: str
     number: int
@@ -65,9 +66,9 @@ BEFORE, OPEN, DONE = State(), State(is_open=True), State(is_done=True)
 
 
 class Walk(NamedTuple):
-    """A walk through a function: from statements that take something to those that give it back. `keeps` finds
-    statements that pass on what was taken, after which other code is responsible for it. The walk fills `ways`, and
-    fills `given` with the statements that give back on a path that took something."""
+    """A walk through a function from statements that take something to statements that give it back. `keeps` finds
+    statements that pass on what was taken, so that other code must give it back. The walk fills `ways`, and fills
+    `given` with the statements that give back on a path that took something."""
 
     begins: Test
     ends: Test
@@ -76,8 +77,8 @@ class Walk(NamedTuple):
     given: list[str]
 
     def body(self, statements: list[Statement], state: State, got: str) -> Result:
-        """The state after some statements (None if no path passes all of them), and the exits. `got` is a variable that
-        says whether something was taken, empty if no variable does."""
+        """The state after some statements (None if no path passes all of them), and the exits. `got` is the variable
+        that says whether something was taken; empty if no variable does."""
         exits, now = list[Exit](), state
         for one in statements:
             after, left = self.block(one, now, got) if one.kind else self.simple(one, now)
@@ -138,8 +139,8 @@ class Walk(NamedTuple):
         return joined(afters, one.number), exits
 
     def is_taken(self, one: Statement, got: str) -> Optional[bool]:
-        """Whether the first branch of a block runs exactly if something was taken (True) or exactly if nothing was
-        (False); None if neither."""
+        """True if the first branch of a block runs exactly when something was taken, False if it runs exactly when
+        nothing was; else None."""
         head, _, condition = one.text.removesuffix(" {").removeprefix("if ").rpartition("; ")
         begins = self.does_begin(one.text)
         if one.kind != "if" or (head and not begins and name_of(head) == got):
@@ -153,7 +154,7 @@ class Walk(NamedTuple):
         return (condition in (name, f"{name} != nil")) is not is_error
 
     def loop(self, one: Statement, now: State, got: str) -> Result:
-        """The same as `body`, for a loop. A loop should give back, in each round, what it took in that round."""
+        """The same as `body`, for a loop. In each round, a loop should give back what it took in that round."""
         begins = self.does_begin(one.text) and not now.is_deferred
         after, left = self.body(one.branches[-1].body, OPEN if begins else now, got)
         left += [Exit("end", one.number, after)] if after is not None else []
@@ -181,7 +182,7 @@ def name_of(text: str) -> str:
 
 
 def is_missing(head: str, now: State) -> bool:
-    """Whether a block is skipped only if what should have been taken doesn't exist."""
+    """Whether a block is skipped only if nothing was taken, because there was nothing to take."""
     return now.is_open and IS_THERE.match(head) is not None
 
 
@@ -197,8 +198,8 @@ def joined(states: list[State], number: int) -> Optional[State]:
 
 
 def skipped_ways(lines: Lines, within: range, begins: Optional[Test], ends: Test, keeps: Test = nothing) -> list[Way]:
-    """The paths of a function that lead from what `begins` finds (None: from the beginning of the function) past what
-    `ends` finds; none if no path leads from one to the other."""
+    """The paths of a function that lead from a statement that `begins` finds (None: from the beginning of the function)
+    past the statements that `ends` finds. The list is empty if no path leads from the former to the latter."""
     if any(lines[number - 1].count("`") % 2 for number in within):
         return []
     walk = Walk(begins or nothing, ends, keeps, [], [])
@@ -214,7 +215,7 @@ def that_stay(ways: list[Way]) -> list[Way]:
 
 
 def ways_are(ways: list[Way]) -> str:
-    """The introduction of paths: `on this way`, or `on these ways`."""
+    """The words that introduce paths: `on this way`, or `on these ways`."""
     return "on these ways" if len(ways) > 1 else "on this way"
 
 

@@ -55,8 +55,7 @@ def has_more(recording: Recording, at: At, goid: int, enters: str) -> bool:
 
 
 def slots_in(recording: Recording, name: Name, use: Use, stack: Stack, leavings: list[Giving]) -> Iterator[Slot]:
-    """The slot that a goroutine took at an earlier line of a call that it is still in, and that the goroutine gives
-    back later."""
+    """The slot that a goroutine took at an earlier line of a call that it is still in, and that it gives back later."""
     taken = recording.lines.stacks[use.stack]
     own = taken.own()
     for call in stack.calls:
@@ -68,13 +67,13 @@ def slots_in(recording: Recording, name: Name, use: Use, stack: Stack, leavings:
 
 
 def is_behind(taken: Stack, call: Call) -> bool:
-    """Whether a call is in a function that took a slot, at a later line."""
+    """Whether a call is in a function that took a slot, after the line that took it."""
     return any(one.function == call.function and one.line < call.line for one in taken.calls)
 
 
 def leaving_line(lines: Lines, call: Call, leavings: list[Giving]) -> int:
-    """The line of a function, after a call or in a deferred one, that gives a slot back or calls a function that does;
-    0 if no line does."""
+    """The line of a function that gives a slot back, itself or by calling a function that does, after a call or in a
+    deferred function; 0 if no line does."""
     within = range_of(lines, call)
     helpers = {
         named[1]
@@ -94,7 +93,7 @@ def leaving_line(lines: Lines, call: Call, leavings: list[Giving]) -> int:
 def of_slots(
     recording: Recording, wait: Waiting, stacks: Mapping[Name, Stack], waiters: Mapping[Name, object]
 ) -> Optional[Need]:
-    """The need of a goroutine that waits for a slot; None if no goroutine is known to hold one."""
+    """The need of a goroutine that waits for a slot; None if no goroutine is known to hold a slot."""
     slots = [slot for slot in slot_holders(recording, wait, stacks.items()) if slot.name != wait.name]
     slot = next((slot for slot in slots if slot.name in waiters), None)
     if slot is None:

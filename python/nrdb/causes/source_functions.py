@@ -23,13 +23,13 @@ def source_of(recording: Recording, file: str) -> Optional[Lines]:
 
 @lru_cache(maxsize=64)
 def source(file: str, written: float) -> Optional[Lines]:
-    """The lines of a file, if it exists and was last changed before that time."""
+    """The lines of a file, if it exists and hasn't changed since the time `written`."""
     lines = lines_of(Path(file))
     return None if lines is None or os.stat(file).st_mtime > written else tuple(lines)
 
 
 def range_of(lines: Lines, call: Call) -> Optional[range]:
-    """The line numbers of the function of a call; for a function literal only its own."""
+    """The line numbers of the function of a call. For a function literal, only the literal's own lines."""
     if not 0 < call.line <= len(lines):
         return None
     if LITERAL.search(call.function) and is_literal_of_one_line(lines[call.line - 1]):
@@ -47,13 +47,13 @@ def range_of(lines: Lines, call: Call) -> Optional[range]:
 
 
 def is_inside(lines: Lines, call: Call, within: range) -> bool:
-    """Whether a call is in the function of these lines itself, and not in a function literal inside it or in a function
-    that only starts another."""
+    """Whether a call is in the function of these lines itself, rather than in a function literal inside it or in a
+    wrapper of Go's for a `go` or `defer` statement."""
     return WRAPPED not in call.function and range_of(lines, call) == within
 
 
 def is_last_line(recording: Recording, call: Call, number: int) -> bool:
-    """Whether a line is the last of the function of a call, or its only line."""
+    """Whether a line is the last line in the function of a call, or the function's only line."""
     lines = source_of(recording, call.file)
     within = range_of(lines, call) if lines else None
     return within is not None and (number == within[-1] - 1 or len(within) == 1)

@@ -11,8 +11,8 @@ LABEL = re.compile(r"\w+:$")
 
 
 class Statement(NamedTuple):
-    """A statement: its first line, its text (all its lines, if it isn't a block), its kind (`if`, `for`, `switch`,
-    `select`, or empty), its branches, and whether one of these always runs."""
+    """A statement. `number` is its first line, `text` its text (of all lines, if it isn't a block), and `kind` is `if`,
+    `for`, `switch`, `select` or empty. If `is_whole`, one of its branches always runs."""
 
     number: int
     text: str
@@ -35,7 +35,7 @@ def code_at(lines: Lines, number: int) -> str:
 
 
 def statements_of(lines: Lines, within: range) -> list[Statement]:
-    """The statements between the first and the last of these lines, which are the head and the end of a block."""
+    """The statements of a block. The first and the last of these lines are the block's head and end."""
     return list(read(lines, range(within.start + 1, within.stop - 1)))
 
 

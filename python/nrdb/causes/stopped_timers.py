@@ -22,7 +22,7 @@ LATE = 20_000_000  # nanoseconds by which a timer may go off late
 
 class Silent(NamedTuple):
     """A timer that will send nothing more: its name, where it was made, and where it was stopped (None: it went off).
-    `was_due` says whether the timer was due before the stop; then the stop had no effect."""
+    If `was_due`, the timer was due before the stop, so the stop had no effect."""
 
     name: str
     made: Timer
@@ -35,9 +35,9 @@ def is_by(stack: Stack, functions: tuple[str, ...]) -> bool:
 
 
 def silent_at(recording: Recording, number: int, begin: int = 0) -> Optional[Silent]:
-    """The timer of a channel, if the timer will send nothing more; None if it may, or if unknown. If a goroutine has
-    waited on the channel since `begin`, and the timer had gone off before, the goroutine found the channel empty, so
-    the value had been taken."""
+    """The timer of a channel, if it will send nothing more; None if it may send, or if unknown. If the timer went off
+    before `begin` and a goroutine has waited on the channel since `begin`, the channel was empty, so the value had been
+    taken."""
     lines = recording.lines
     timers = lines.timers.get(number, [])
     if not timers:
@@ -55,7 +55,7 @@ def silent_at(recording: Recording, number: int, begin: int = 0) -> Optional[Sil
 
 
 def silent_says(recording: Recording, silent: Silent) -> str:
-    """The sentence about such a timer."""
+    """The sentence about a timer that will send nothing more."""
     lines, name = recording.lines, silent.name
 
     def at(timer: Timer) -> str:
@@ -80,7 +80,7 @@ def of_timers(recording: Recording, wait: Waiting) -> Optional[Need]:
 
 
 def timers_of_select(recording: Recording, wait: Waiting) -> list[str]:
-    """Sentences about the timers among the cases of a select that will send nothing more."""
+    """Sentences about a select's timers that will send nothing more."""
     some = (silent_at(recording, at.object, wait.begin) for at in wait.objects) if len(wait.objects) > 1 else ()
     silent = next((one for one in some if one), None)
     if silent is None:
@@ -90,9 +90,9 @@ def timers_of_select(recording: Recording, wait: Waiting) -> list[str]:
 
 
 def ways_past_reset(recording: Recording, wait: Waiting) -> str:
-    """A sentence, from the program's source, about the path on which a timer that has gone off was perhaps not set
-    again: ` Perhaps on this way: after main.go:65, main.go:67 goes on without main.go:75, which sets it anew.`; empty
-    if no such path exists."""
+    """A sentence, from the program's source, about a timer that has gone off: the path on which it was perhaps not set
+    again, as ` Perhaps on this way: after main.go:65, main.go:67 goes on without main.go:75, which sets it anew.`;
+    empty if no such path exists."""
     own = wait.stack.own()
     lines = source_of(recording, own[0].file) if own and own[0].of == OF_THE_PROGRAM else None
     within = range_of(lines, own[0]) if lines and own else None

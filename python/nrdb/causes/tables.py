@@ -21,8 +21,8 @@ from .words import is_by_go, place_in
 
 def errors_table(recording: Recording, position: int, most: Optional[int]) -> Table:
     """The calls of the whole recording that ended with a timeout, a close, a broken pipe or an event error. Calls that
-    end after the position are marked. If the table would have more than `most` rows, it has the last calls up to the
-    position, and as many later ones as fit."""
+    end after the position are marked. The table has at most `most` calls: the last calls up to the position, and then
+    as many later calls as fit."""
     failed = [call for call in book_of(recording).calls if call.last and call.outcome.is_error]
     found = [call for call in failed if not is_by_go(recording, call)]
     past = [call for call in found if call.last <= position]
@@ -44,7 +44,7 @@ def errors_table(recording: Recording, position: int, most: Optional[int]) -> Ta
 
 
 def later_row(recording: Recording, call: Call) -> Row:
-    """The row of a call that ends after the position."""
+    """The row of a call that ends after the current position."""
     row = call_row(recording, call, recording.length)
     return Row(row.values | {"later": True}, f"{row.text}   (later)")
 
@@ -57,9 +57,9 @@ def error_rows(recording: Recording, call: Call, row: Row) -> list[Row]:
 
 
 def hangs_table(recording: Recording, position: int) -> Table:
-    """The roots of the waits at a position that don't end in the recording, each with the reason, the goroutines that
-    wait for the root, and the line to type next. At position 0, at which a session opens, the table shows the waits at
-    the end."""
+    """The roots of the waits at a position that don't end in the recording. Each has the reason, the goroutines that
+    wait for the root, and the line to type next. At position 0, where a session opens, the table shows the waits at the
+    end."""
     graph = graph_at(recording, position or recording.length)
     at = f"at position {position}" if position else "at the end"
     rest = [] if graph.shown else [f"no call hangs {at}, but for those that wait for connections"]
@@ -88,8 +88,8 @@ def rows_of(graph: WaitGraph, hang: Hang) -> list[Row]:
 
 
 def requests_table(recording: Recording) -> Table:
-    """The requests of net/http's client whose connection is certain, grouped by line, goroutine and connection,
-    followed by the requests that ended because their contexts ended."""
+    """The requests of net/http's client whose connection is certain, grouped by line, goroutine and connection. Each
+    group is followed by its requests that ended because their contexts ended."""
     index = index_of(recording)
     alike: dict[tuple[Name, int, str], list[Request]] = defaultdict(list)
     for request in requests_of(index):
@@ -107,7 +107,7 @@ def requests_table(recording: Recording) -> Table:
 
 
 def request_rows(recording: Recording, some: list[Request], ended: list[CancelledRequest]) -> list[Row]:
-    """The row for requests that are alike, followed by a sentence about what ended them."""
+    """The row for a group of requests, followed by sentences about what ended them."""
     last, many = some[-1], sum(request.often for request in some)
     place = place_in(last.stack).strip()
     steps = f"after step {last.last}" if many == 1 else f"the last after step {last.last}"

@@ -16,7 +16,7 @@ DATAGRAMS = ("dialUDP", "listenUDP", "DialUDP", "ListenUDP")
 
 
 class Listener(NamedTuple):
-    """An open listener, its last Accept, and whether that Accept was certainly for the connection."""
+    """A listener, its last Accept, and whether the connection was certainly made to this listener."""
 
     socket: int
     accept: Optional[Call]
@@ -25,7 +25,7 @@ class Listener(NamedTuple):
 
 def unaccepted(index: Index, call: Call, position: int) -> Optional[Need]:
     """The need of a call on a connection whose other end isn't known: what the goroutine that should accept the
-    connection does instead. None if the connection may have been accepted."""
+    connection does instead. The result is None if the connection may have been accepted."""
     if not is_dialed(index, call.socket):
         return None
     listener = listener_of(index, call.socket, position)
@@ -61,14 +61,14 @@ def is_datagram(index: Index, socket: int) -> bool:
 
 
 def has_opened(index: Index, socket: int, part: str) -> bool:
-    """Whether a function of this name, or with this part in its name, opened a socket."""
+    """Whether a function with `part` in its name opened a socket."""
     opened = next((one for one in index.by_socket.get(socket, ()) if one.name == OPEN), None)
     return opened is not None and any(part in one.function for one in index.recording.lines.of(opened.first).calls)
 
 
 def listener_of(index: Index, socket: int, position: int) -> Optional[Listener]:
-    """The listener that a socket was connected to: the listener with the name of the socket's other end, else the only
-    listener."""
+    """The listener to which a socket was connected: the listener with the address of the socket's other end, else the
+    only open listener."""
     found = {listener: calls for listener in index.by_socket if (calls := accepts_at(index, listener))}
     ends = index.recording.lines.ends
     if socket in ends:
@@ -90,7 +90,7 @@ def accepts_at(index: Index, socket: int) -> list[Call]:
 
 
 def accepted_at(index: Index, accepts: list[Call]) -> Iterator[int]:
-    """The sockets that Accepts returned."""
+    """The sockets that the Accepts returned."""
     for accept in accepts:
         opened = (
             one for one in index.by_goroutine[accept.goroutine]

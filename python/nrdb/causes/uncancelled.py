@@ -34,8 +34,8 @@ class Cancelling(NamedTuple):
 
 
 def uncancelled(recording: Recording, wait: Waiting, stacks: Iterable[tuple[Name, Stack]]) -> Optional[Need]:
-    """The need of a goroutine that waits only on a context; None if the goroutine waits on anything else, or if the
-    source has no such context."""
+    """The need of a goroutine that waits only on a context's Done. The result is None if it waits on anything else, or
+    if the source doesn't show the context."""
     own, lines = wait.stack.own(), recording.lines
     done = DONE.search(text_at(recording, own[0])) if own and own[0].of == OF_THE_PROGRAM else None
     if not own or not done or len(wait.objects) != 1:
@@ -57,8 +57,8 @@ def uncancelled(recording: Recording, wait: Waiting, stacks: Iterable[tuple[Name
 
 
 def cancels_of(source: Lines, call: Call, context: str) -> list[Cancelling]:
-    """The lines that cancel a context that the file makes. If the context is a variable of a call's function, only the
-    lines of that function."""
+    """The lines that cancel a context that the file makes. If the context is a variable of a call's function, the
+    result has only the lines of that function."""
     whole = range_of(source, call._replace(function=LITERAL.sub("", call.function).partition(".func")[0])) or range(0)
     head = source[whole.start - 1] if whole else ""
     is_local = "." not in context and re.search(rf"\b{re.escape(context)}\b", head) is None
@@ -83,8 +83,8 @@ def cancels_of(source: Lines, call: Call, context: str) -> list[Cancelling]:
 
 
 def cancel_in(source: Lines, stack: Stack, file: str, cancels: list[Cancelling]) -> Optional[Cancelling]:
-    """The line at which a goroutine cancels a context later: after the goroutine's current line, or when a function
-    that the goroutine is in returns."""
+    """The line at which a goroutine cancels a context later: a line after the goroutine's current line, or a deferred
+    line of a function that the goroutine is in."""
     for call in stack.calls:
         for cancel in cancels if call.file == file else ():
             is_there = call.line in cancel.within and is_inside(source, call, cancel.within)

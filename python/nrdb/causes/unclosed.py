@@ -1,4 +1,5 @@
-"""What should close a channel, from the program's source, for a goroutine that waits until the channel is closed."""
+"""For a goroutine that waits until a channel is closed, the module finds in the program's source what should close the
+channel."""
 
 import re
 from typing import Iterable, NamedTuple, Optional
@@ -28,8 +29,8 @@ class Closing(NamedTuple):
 
 
 def unclosed(recording: Recording, wait: Waiting, stacks: Iterable[tuple[Name, Stack]]) -> Optional[Need]:
-    """The need of a goroutine that waits for a value from a channel into which no value was ever put, or that ranges
-    over the channel: what should close the channel. None if the source isn't available."""
+    """The need of a goroutine that ranges over a channel, or that waits for a value from a channel into which no value
+    was ever put. It says what should close the channel. The result is None if the source isn't available."""
     own, lines = wait.stack.own(), recording.lines
     if not own or own[0].of != OF_THE_PROGRAM or len(wait.objects) != 1 or wait.objects[0].use != FOR_VALUE:
         return None
@@ -66,7 +67,7 @@ def unclosed(recording: Recording, wait: Waiting, stacks: Iterable[tuple[Name, S
 
 
 def ways_without(source: Lines, closing: Closing, name: str) -> list[Way]:
-    """The paths of a function that makes a channel and closes it at a line, on which the channel isn't closed."""
+    """The paths of a function on which it doesn't close a channel that it makes, although it has a line that does."""
     field = re.escape(name.rpartition(".")[2])
     makes, closes = rf"\b{field}\b(?::| :?=) *make\(chan\b", rf"\bclose\((?:[\w.]+\.)?{field}\)"
     if not any(re.search(makes, source[number - 1]) for number in closing.within if number < closing.number):
@@ -75,7 +76,7 @@ def ways_without(source: Lines, closing: Closing, name: str) -> list[Way]:
 
 
 def closings_of(source: Lines, call: Call, name: str) -> list[Closing]:
-    """The lines that close a channel that may be the one of this name."""
+    """The lines that close a channel that may have this name."""
     found = []
     for number, text in enumerate(source, 1):
         closes = CLOSE.search(text.partition("//")[0])
@@ -86,8 +87,8 @@ def closings_of(source: Lines, call: Call, name: str) -> list[Closing]:
 
 
 def inside(source: Lines, stack: Stack, file: str, closings: list[Closing]) -> Optional[Closing]:
-    """The line at which a goroutine closes a channel later: the goroutine is in that function before the line, or the
-    close is deferred."""
+    """The line at which a goroutine closes a channel later: the goroutine is in the line's function, before the line,
+    or the close is deferred."""
     for call in stack.calls:
         for closing in closings:
             if (
@@ -101,8 +102,8 @@ def inside(source: Lines, stack: Stack, file: str, closings: list[Closing]) -> O
 
 
 def closes_in_its_loop(source: Lines, stack: Stack, file: str, closings: list[Closing]) -> Optional[Closing]:
-    """The line at which a goroutine closes a channel later, if that line comes before the goroutine's own line in a
-    loop of a function that the goroutine is in."""
+    """The line in a loop at which a goroutine closes a channel later. The goroutine is in the line's function, and may
+    have passed the line already."""
     for call in stack.calls:
         for closing in closings:
             if call.file == file and call.line in closing.within and is_inside(source, call, closing.within):
@@ -112,7 +113,8 @@ def closes_in_its_loop(source: Lines, stack: Stack, file: str, closings: list[Cl
 
 
 def ended_in(recording: Recording, file: str, closing: Closing) -> str:
-    """Words for the goroutine that was started in that function and has ended, and for its last place."""
+    """Words for the last line that a goroutine passed in a function before the line that closes a channel; empty if
+    none did."""
     passed = {
         call
         for stack in recording.lines.stacks.values()

@@ -1,6 +1,6 @@
 """Replies that are perhaps incomplete: a Read got part of an answer and waits for more, while the goroutine that wrote
-the answer reads again. Derived from the program's source: the loop that writes the reply, and the loop's paths that
-write nothing."""
+the answer reads again. The module finds, in the program's source, the loop that writes the reply, and the loop's paths
+that write nothing."""
 
 import re
 from typing import Iterator, NamedTuple
@@ -20,8 +20,8 @@ LOOP = re.compile(r"for .*\{$")
 
 
 class Part(NamedTuple):
-    """A loop that writes: its line, the line that writes, the paths that don't write, and whether a call is inside the
-    loop."""
+    """A loop that writes a reply: its line, the line that writes, the paths that don't write, and whether the last
+    Write was in the loop."""
 
     file: str
     loop: int
@@ -31,7 +31,7 @@ class Part(NamedTuple):
 
 
 def unfinished_reply(index: Index, call: Call, other: int, position: int) -> list[str]:
-    """Sentences about a Read that waits; none if unknown."""
+    """Sentences about a waiting Read whose reply is perhaps incomplete; none if that is unknown."""
     wrote, asked = (index.last_use(socket, position, ("Write",)) for socket in (other, call.socket))
     if (
         not wrote
@@ -57,7 +57,8 @@ def unfinished_reply(index: Index, call: Call, other: int, position: int) -> lis
 
 
 def has_part(index: Index, call: Call, wrote: Call) -> bool:
-    """Whether a goroutine that waits to read got part of what another goroutine wrote last, in the same function."""
+    """Whether a waiting goroutine has read, in the function that it is still in, part of what another goroutine wrote
+    last."""
     reads = [one for one in index.by_socket[call.socket] if one.name == "Read" and one.moved and one.last]
     last = reads[-1] if reads else None
     if last is None or last.goroutine != call.goroutine or not wrote.first < last.last < call.first:
@@ -66,7 +67,7 @@ def has_part(index: Index, call: Call, wrote: Call) -> bool:
 
 
 def parts_of(index: Index, wrote: Call, now: Call) -> Iterator[Part]:
-    """The loops of the functions that made a Write, without the loops that still run."""
+    """The loops in the functions that made a Write, except loops that still run."""
     lines = index.recording.lines
     running = {call.function for call in lines.of(now.first).calls}
     for call in lines.of(wrote.first).calls:
@@ -76,8 +77,8 @@ def parts_of(index: Index, wrote: Call, now: Call) -> Iterator[Part]:
 
 
 def loops_of(lines: Lines, call: LineCall) -> Iterator[Part]:
-    """The loops of a function, up to a line, that write only on some of their paths, if no later line writes the end of
-    the reply."""
+    """The loops of a function, up to a line, that write only on some of their paths; none if a later line writes the
+    end of the reply."""
     within = range_of(lines, call) or range(0)
     for head in (number for number in within if number < call.line and LOOP.match(code(lines, number))):
         body = list(body_of(lines, head))

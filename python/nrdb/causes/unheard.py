@@ -1,5 +1,5 @@
-"""Datagrams that a connected socket never gets, because they came from an address other than the one to which the
-socket is connected."""
+"""Datagrams that a connected socket never gets, because the socket is connected to an address other than their source
+address."""
 
 from typing import Iterator, NamedTuple, Optional
 
@@ -20,8 +20,7 @@ class Sent(NamedTuple):
 
 
 def unheard(index: Index, call: Call, position: int) -> Optional[Need]:
-    """The need of a Read on a connected socket to which a datagram came from another address; None if no such datagram
-    came."""
+    """The need of a Read on a connected socket, if a datagram came to it from another address; else None."""
     own, peer = index.recording.lines.addresses.get(call.socket, ("", ""))
     if not own or not peer:
         return None
@@ -64,8 +63,8 @@ def is_same(one: str, other: str) -> bool:
 
 
 def sent_at(index: Index) -> Iterator[Sent]:
-    """The datagrams whose two addresses are known: those from connected sockets, and those of Writes that name the
-    address."""
+    """The datagrams whose source and destination addresses are known: their socket is connected, or their Write names
+    the address."""
     lines = index.recording.lines
     for socket, (own, peer) in lines.addresses.items():
         for call in index.by_socket.get(socket, ()) if peer else ():

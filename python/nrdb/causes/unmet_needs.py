@@ -1,5 +1,5 @@
-"""What a failed call lacked, besides the cause of its end: a call whose descriptor was closed, a Read under a deadline
-that other calls had met, and a Read that met no end of the stream."""
+"""What a failed call lacked, besides the cause of its end. The module covers calls whose descriptor was closed, Reads
+under a deadline that other calls had met, and Reads that met no end of the stream."""
 
 import re
 from typing import Optional
@@ -16,8 +16,8 @@ DUPLICATES = re.compile(r"\.File\(\)|\bsyscall\.Dup")
 
 
 def given_up_says(index: Index, call: Call, by: Optional[Call]) -> list[str]:
-    """Sentences about what a call waited for when Go's own code closed its descriptor, as Go does with a connection
-    whose context has ended."""
+    """Sentences about what a call waited for when Go's own code closed its descriptor, as Go does if a connection's
+    context has ended."""
     if by is None or not call.first < call.cause or not is_of_go(index.recording, by) or by.goroutine == call.goroutine:
         return []
     need = Needs(index, {}, call.cause).of_call(call)
@@ -25,8 +25,8 @@ def given_up_says(index: Index, call: Call, by: Optional[Call]) -> list[str]:
 
 
 def found_says(index: Index, call: Call) -> list[str]:
-    """Further sentences about a Read or a Write whose deadline other calls had met: why the bytes or the room that it
-    waited for didn't come."""
+    """Further sentences about a Read or a Write whose deadline other calls had met. They say why the bytes, or the
+    room, that it waited for didn't come."""
     if index.is_listening(call) or not call.first < call.last:
         return []
     need = Needs(index, {}, call.last).of_call(call)
@@ -34,8 +34,8 @@ def found_says(index: Index, call: Call) -> list[str]:
 
 
 def endless_says(index: Index, call: Call) -> list[str]:
-    """Sentences about a Read whose other end was closed before the Read ended, and that met no end of the stream:
-    another descriptor has the connection."""
+    """Sentences about a Read that met no end of the stream although its other end was closed before the Read ended:
+    another descriptor still has the connection."""
     other = index.other_end(call.socket)
     by = index.closing(other, call.last, whole=True) if other is not None and call.name in READING else None
     if by is None or by.last >= call.last:

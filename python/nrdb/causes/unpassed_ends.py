@@ -16,8 +16,8 @@ SETTLED = 16  # steps after the end of the stream within which a relay would hav
 
 
 class UnpassedEnd(NamedTuple):
-    """The Read that met the end of a stream, the relay's last Write, and the Read that hangs at the other end of that
-    Write's socket."""
+    """A relay's Read that met the end of a stream, the relay's last Write, and the Read that hangs at the other end of
+    that Write's socket."""
 
     met: Call
     wrote: Call
@@ -48,7 +48,8 @@ def unpassed_ends(index: Index) -> Iterator[UnpassedEnd]:
 
 def last_write_of_relay(index: Index, met: Call) -> Optional[Call]:
     """The last Write of a relay after the last Read that got something. The relay's Reads are all on one socket, its
-    Writes are all on another, and its last call is this Read. None if the goroutine isn't such a relay."""
+    Writes are all on another, and its last call is this Read. The result is None if the goroutine isn't such a
+    relay."""
     calls = [one for one in index.by_goroutine[met.goroutine] if one.name in MOVING]
     reads, writes = ([one for one in calls if one.name == name] for name in MOVING)
     if not writes or calls[-1] is not met or len({one.socket for one in reads}) > 1 or not is_over(index, met):
@@ -60,7 +61,7 @@ def last_write_of_relay(index: Index, met: Call) -> Optional[Call]:
 
 
 def is_over(index: Index, met: Call) -> bool:
-    """Whether a goroutine had a chance to close the other socket: the goroutine has ended, or enough steps have passed
+    """Whether a goroutine has had a chance to close the other socket: it has ended, or enough steps have passed
     since."""
     return index.recording.length - met.last >= SETTLED or has_ended(index.recording, Name(met.goroutine))
 

@@ -1,5 +1,5 @@
-"""Bytes that were written and that no goroutine reads: the socket that has them is open at the other end, and no Read
-is in progress."""
+"""Bytes that were written and that no goroutine reads: the socket that has them is open, and no Read on it is in
+progress."""
 
 from typing import Iterable, Iterator, NamedTuple
 

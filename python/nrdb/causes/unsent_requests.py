@@ -1,5 +1,6 @@
-"""Requests of net/http's client that were never written, because the goroutine that writes closed its connection first.
-It does so if a request's body gives an error, ends before its ContentLength, or was read by an earlier request."""
+"""Requests of net/http's client that were never written, because the goroutine that writes requests closed its
+connection first. It closes the connection if a request's body returns an error, ends before its ContentLength, or was
+read by an earlier request."""
 
 import re
 from typing import Iterator, NamedTuple, Optional
@@ -24,8 +25,8 @@ READS = re.compile(
 
 
 class Unsent(NamedTuple):
-    """A request that wasn't written: its goroutine, its stack, and the step after which it was handed over; the Close;
-    and the step after which the same goroutine last handed over an earlier request from the same line (0: none)."""
+    """A request that wasn't written: how it was handed over, its goroutine, and the Close of its connection. `before`
+    is the step after which the goroutine last handed over an earlier request from the same line (0: none)."""
 
     use: Use
     name: Name
@@ -71,7 +72,7 @@ def unsent_requests(index: Index) -> Iterator[Unsent]:
 
 
 def request_of(index: Index, closed: Call) -> Optional[Use]:
-    """The last request that the goroutine which closed a connection had taken."""
+    """The last request that a goroutine took before it closed a connection."""
     lines, goid = index.recording.lines, index.recording.lines.goid_of(closed.goroutine, closed.first)
     found = list[Use]()
     for uses in lines.uses.values():
@@ -81,7 +82,7 @@ def request_of(index: Index, closed: Call) -> Optional[Use]:
 
 
 def has_written(index: Index, closed: Call, use: Use) -> bool:
-    """Whether the goroutine that closed a connection wrote to it after the goroutine took a request."""
+    """Whether the goroutine that closed a connection had written to it since it took a request."""
     calls = index.by_goroutine[closed.goroutine]
     return any(one.name == "Write" and use.last <= one.first <= closed.first for one in calls)
 
@@ -92,8 +93,8 @@ def is_of_program(recording: Recording, use: Use) -> bool:
 
 
 def step_before(recording: Recording, last: Use) -> int:
-    """The step after which the same goroutine last handed over an earlier request from the same line; 0 if it handed
-    over none."""
+    """The step after which the same goroutine last handed over an earlier request from the same line; 0 if it never
+    did."""
     lines, own = recording.lines, recording.lines.stacks[last.stack].own()
     steps = [
         step
@@ -108,7 +109,7 @@ def step_before(recording: Recording, last: Use) -> int:
 
 
 def causes_of_unsent(index: Index) -> list[Cause]:
-    """The requests that were never written, as causes."""
+    """Causes for the requests that were never written."""
     return [
         Cause(
             one.closed,

@@ -1,5 +1,5 @@
-"""Connections that no goroutine uses: sockets that were dialed and then neither written, read nor closed, and sockets
-opened by goroutines whose results no goroutine took from a channel."""
+"""Connections that no goroutine uses: sockets that were dialed but never written, read or closed, and sockets of
+goroutines whose results no goroutine took from a channel."""
 
 from collections import defaultdict
 from typing import Iterator
@@ -18,8 +18,8 @@ from .words import place_in, short
 
 
 def unused_since(index: Index, call: Call, step: int) -> list[str]:
-    """Sentences about a call that failed on a connection whose other end was closed: the call's goroutine has dialed
-    since, and uses none of the new connections."""
+    """Sentences about a call that failed on a connection whose other end was closed, if the call's goroutine has dialed
+    since and never used the new connections."""
     opened: dict[str, list[int]] = defaultdict(list)
     for one in index.by_goroutine[call.goroutine]:
         if one.name == OPEN and one.first > step and is_dialed(index, one.socket) and not is_used(index, one.socket):
@@ -37,7 +37,7 @@ def is_used(index: Index, socket: int) -> bool:
 
 
 def untaken_results(index: Index) -> Iterator[Cause]:
-    """Channels that still have values from goroutines whose sockets are still open, although the function that made the
+    """Causes for channels that still have values from goroutines whose sockets are open. The function that made the
     channel has returned."""
     lines, found = index.recording.lines, dict[LineCall, list[Call]]()
     for number, made in lines.made.items():

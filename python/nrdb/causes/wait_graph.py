@@ -1,6 +1,6 @@
-"""The wait-for graph at the end of a recording, and its roots: each goroutine that waits, the goroutine that it waits
-for, and what all of them finally wait for. If several goroutines could give what a goroutine needs, the graph has only
-one of them."""
+"""The wait-for graph at the end of a recording: each waiting goroutine, the goroutine for which it waits, and the
+roots, for which all of them finally wait. If several goroutines could give what a goroutine needs, the graph has only
+one of these."""
 
 from collections import defaultdict
 from functools import lru_cache
@@ -34,8 +34,8 @@ class Edge(NamedTuple):
 
 
 class Branch(NamedTuple):
-    """Goroutines that wait alike for others: these goroutines, the need of the first, the goroutines that they wait
-    for, and the branches that wait for them."""
+    """Goroutines that wait in the same way: the goroutines, the need of the first, the goroutines for which they wait,
+    and the branches that wait for them."""
 
     waiters: list[Waiter]
     need: Need
@@ -44,11 +44,11 @@ class Branch(NamedTuple):
 
 
 class Hang(NamedTuple):
-    """A root of the graph: a goroutine that others wait for, or goroutines that wait for one another. `needs` has the
-    need of each, `waiting` is the number of goroutines that wait for the root, and `perhaps` is the number of
-    goroutines for which that is uncertain. `alike` are similar roots, and `beside` are other roots that wait for the
-    same ended goroutine. `is_loose` means that it isn't known which root waits for which. `until` is a call of the
-    roots whose deadline will end the wait."""
+    """A root of the graph: a goroutine for which others wait, or goroutines that wait for one another. `needs` has
+    their needs, `waiting` is the number of goroutines that wait for the root, and `perhaps` is how many of these waits
+    are uncertain. `alike` are similar roots, and `beside` are other roots that wait for the same ended goroutine.
+    `is_loose` means that it isn't known which root waits for which. `until` is a call of the roots whose deadline will
+    end the wait."""
 
     roots: list[Waiter]
     needs: list[Need]
@@ -68,7 +68,7 @@ class Hang(NamedTuple):
 
     @property
     def every_root(self) -> list[Waiter]:
-        """All roots: these, the similar roots, and those in `beside`."""
+        """The roots of this hang, with those in `alike` and `beside`."""
         return [*self.roots, *self.alike, *self.beside]
 
     @property
@@ -83,9 +83,8 @@ class Hang(NamedTuple):
 
     @property
     def has_reason(self) -> bool:
-        """Whether more is known than what the hang's roots wait for: that they hold mutexes, or why what they wait for
-        doesn't come. A channel that isn't closed isn't a reason, because a goroutine that takes values may have nothing
-        to do."""
+        """Whether it is known why the hang's roots wait: they hold mutexes, or it is known why what they need doesn't
+        come. An unclosed channel isn't a reason, because a goroutine that takes values may have nothing to do."""
         need, wait = self.needs[0], self.root.wait
         if self.is_deadlock:
             return self.is_of_mutexes or any(one.more and not one.is_plain for one in self.needs)
@@ -94,13 +93,13 @@ class Hang(NamedTuple):
 
     @property
     def is_of_go(self) -> bool:
-        """Whether only Go's own code waits there, as in idle connections of net/http."""
+        """Whether only Go's own code waits in this hang, as in idle connections of net/http."""
         return all(waiter.is_of_go for waiter in waiters_of(self))
 
     @property
     def is_quiet(self) -> bool:
-        """Whether no goroutine waits for this hang, and its goroutine may have nothing to do: it waits in a read, in a
-        select, or for a value from a channel."""
+        """Whether no goroutine waits for this hang, and its goroutine may have nothing to do because it is in a read or
+        a select, or waits for a value from a channel."""
         call, wait = self.root.call, self.root.wait
         reads = call is not None and call.name in READING and not call.is_asking
         idles = wait is not None and wait.kind in QUIET
@@ -131,12 +130,12 @@ class WaitGraph:
 
     @property
     def shown(self) -> list[Hang]:
-        """The hangs, except those of Go's own code alone."""
+        """The hangs, except hangs of Go's own code alone."""
         return [hang for hang in self.hangs if not hang.is_of_go]
 
     @property
     def count(self) -> int:
-        """The number of goroutines that hang, without the goroutines that may have nothing to do."""
+        """The number of goroutines that hang. Goroutines that may have nothing to do don't count."""
         return sum(len(hang.every_root) + hang.waiting for hang in self.shown if not hang.is_quiet)
 
     @property
@@ -154,8 +153,8 @@ class WaitGraph:
 
     def _is_idle(self, name: Name, by: Name) -> bool:
         """Whether a goroutine that has answered the last request reads from a connection that the other end perhaps no
-        longer uses: the goroutine that wrote last at the other end waits for a connection, because finished calls have
-        kept their connections."""
+        longer uses. The goroutine that wrote last there waits for a connection, because finished calls have kept
+        theirs."""
         call = self.waiters[name].call
         if call is None or call.name not in READING or not self.needs[by].is_kept:
             return False
@@ -176,8 +175,8 @@ class WaitGraph:
         return sorted(found, key=order)
 
     def _cause_of_root(self, waiter: Waiter) -> Hashable:
-        """The key under which roots form one hang: the ended goroutine for which they wait, else what they wait for and
-        the line."""
+        """The key by which roots form one hang: the ended goroutine for which they wait, else the line and what they
+        wait for."""
         need = self.needs[waiter.name]
         if need.gone:
             return need.gone
@@ -268,7 +267,7 @@ def mutex_of(waiter: Waiter) -> int:
 
 
 def count_of(branches: Iterable[Branch], is_meant: Callable[[Branch], bool]) -> int:
-    """The number of goroutines that wait in the branches that a test accepts. Branches below a rejected one don't
+    """The number of goroutines that wait in the branches that a test accepts. Branches below a rejected branch don't
     count."""
     return sum(len(one.waiters) + count_of(one.branches, is_meant) for one in branches if is_meant(one))
 
@@ -284,9 +283,10 @@ def waiters_of(hang: Hang) -> Iterator[Waiter]:
 
 
 def order(hang: Hang) -> tuple[bool, bool, int, int, int]:
-    """The sort key of hangs: first certain deadlocks, then hangs that others wait for and whose reason is known, then
-    hangs that the most goroutines wait for, and last hangs of goroutines that may have nothing to do. Reads that wait
-    for one another are a deadlock without a known reason."""
+    """The sort key of hangs. Hangs of Go's own code come last, and before them the hangs of goroutines that may have
+    nothing to do. The others are ordered by rank: certain deadlocks, but for Reads that wait for one another without a
+    reason; hangs with a known reason; all other hangs. Equal ranks are ordered by the number of goroutines that
+    wait."""
     is_certain = hang.is_deadlock and hang.certainty > Certainty.PERHAPS and not hang.until
     are_reads = all(root.call and root.call.name in READING for root in hang.roots)
     has_reason = hang.has_reason and (hang.is_deadlock or hang.waiting > 0 or hang.needs[0].is_odd)

@@ -1,5 +1,5 @@
-"""The goroutines that wait at the end of a recording and don't go on: each in a call on a socket, or outside the
-poller."""
+"""The goroutines that wait at the end of a recording and don't go on. Each is in a call on a socket, or waits outside
+the poller."""
 
 from functools import lru_cache
 from typing import NamedTuple, Optional
@@ -15,8 +15,8 @@ TICKERS = ("time.NewTicker", "time.Tick", "time.(*Ticker).Reset")
 
 
 class Waiter(NamedTuple):
-    """A goroutine that waits and doesn't go on: the step at which its wait began, its stack, and its call on a socket
-    or its other wait."""
+    """A goroutine that waits: the step at which its wait began, its stack, and its call on a socket or its wait outside
+    the poller."""
 
     name: Name
     since: int
@@ -37,7 +37,7 @@ def is_waiting(index: Index, call: Call) -> bool:
 
 
 def waiters_at(index: Index, position: int) -> dict[Name, Waiter]:
-    """The goroutines that wait at a position and don't go on in the recording, without listeners, sleepers, and
+    """The goroutines that wait at a position and don't go on in the recording. Listeners and sleepers are left out, and
     goroutines outside the poller that run only Go's own code."""
     recording, found = index.recording, dict[Name, Waiter]()
     for wait in waits_of(recording).left(position):
@@ -56,7 +56,7 @@ def waiters_at(index: Index, position: int) -> dict[Name, Waiter]:
 
 
 def waiters_during(index: Index, position: int) -> dict[Name, Waiter]:
-    """The goroutines that wait at a position, whether or not they go on later, without listeners, sleepers, and
+    """The goroutines that wait at a position, whether or not they go on later. Listeners and sleepers are left out, and
     goroutines outside the poller that run only Go's own code."""
     recording, found = index.recording, dict[Name, Waiter]()
     for wait in waits_of(recording).all_at(position):
@@ -84,7 +84,7 @@ def is_timed(recording: Recording, wait: Waiting) -> bool:
 
 @lru_cache(maxsize=2)
 def last_time_of(recording: Recording) -> int:
-    """The latest timestamp in the lines of a recording."""
+    """The latest timestamp in a recording's NAME.where."""
     lines = recording.lines
     of_uses = max((use.end for uses in lines.uses.values() for use in uses), default=0)
     of_parks = max((max(park.begin, park.end) for parks in lines.parks.values() for park in parks), default=0)

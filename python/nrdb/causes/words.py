@@ -21,7 +21,7 @@ ENDED = {
     Outcome.EOF: "met the end of the stream",
 }
 POLL = "internal/poll.(*FD)."
-# The names that programs use for Go's own functions, if these differ from the names in internal/poll.
+# The names that programs use for calls, by the names of functions of internal/poll.
 NAMES = {
     "Accept": "Accept",
     "ReadFrom": "Read",
@@ -36,7 +36,7 @@ BELOW = ("internal/poll.", "net.", "os.", "syscall.", "crypto/tls.", "bufio.", "
 
 
 def capital(words: str) -> str:
-    """A text with a capital first letter."""
+    """A text with its first letter as a capital."""
     return words[0].upper() + words[1:]
 
 
@@ -60,7 +60,8 @@ def short(function: str) -> str:
 
 
 def place_of(recording: Recording, step: int) -> str:
-    """The program's place at a step: ` at pool.go:31 in query`; in Go's own code the function; empty if unknown."""
+    """The program's place at a step: ` at pool.go:31 in query`. In Go's own code, only the function is named. The text
+    is empty if the place is unknown."""
     return place_in(recording.lines.of(step))
 
 
@@ -75,8 +76,7 @@ def place_in(stack: Stack) -> str:
 
 
 def caller_of(stack: Stack, own: LineCall) -> str:
-    """The line at which the program called its current function, if that function is the program's own and the program
-    called it."""
+    """The line at which the program called the function of `own`, except in `main.main`; empty if unknown."""
     own_calls = [call for call in stack.calls if call.of == OF_THE_PROGRAM and call.file != OF_TESTS]
     behind = own_calls[own_calls.index(own) + 1 :] if own in own_calls else []
     is_main = bool(behind) and behind[0].function == "main.main"
@@ -100,7 +100,7 @@ def is_of_the_program(stack: Stack) -> bool:
 
 
 def is_of_go(recording: Recording, call: Call) -> bool:
-    """Whether only Go's own code certainly made a call, as net/http does between two requests."""
+    """Whether Go's own code alone is known to have made a call, as net/http does between two requests."""
     stack = recording.lines.of(call.first)
     return bool(stack.calls) and all(one.of == OF_GO for one in stack.calls)
 
@@ -120,8 +120,7 @@ def told(recording: Recording, call: Call) -> str:
 
 def place_of_step(recording: Recording, step: int, goroutine: Optional[int] = None) -> str:
     """The place of a step, its goroutine if given, and its number: ` at pool.go:20 in ping (goroutine 0, step 8)`. A
-    step that leads to the beginning of the recording has neither place nor goroutine, because its number names no
-    goroutine."""
+    step that only leads to the recording's first state has neither a place nor a goroutine."""
     if 0 < step <= begins_at(recording):
         return " before the recording begins"
     whose = "" if goroutine is None else f"goroutine {goroutine}, "
@@ -129,8 +128,8 @@ def place_of_step(recording: Recording, step: int, goroutine: Optional[int] = No
 
 
 def since_begin(recording: Recording, opened: int = 0) -> str:
-    """Words to add to a sentence about everything since a step: ` since the recording begins`, if the object existed
-    before."""
+    """Words to add to a sentence about what happened to an object so far: ` since the recording begins`, if the object
+    existed before that."""
     return " since the recording begins" if opened <= begins_at(recording) > 0 else ""
 
 
