@@ -1,5 +1,5 @@
-"""All goroutines of a log, including those without sockets, as NAME.where has them (docs/reference/RECORDING.md has the
-format): Go's numbers, each wait outside the poller, and the objects on which goroutines wait."""
+"""All goroutines of a log, including goroutines without sockets. NAME.where has Go's numbers for them, each wait
+outside the poller, and the objects on which goroutines wait (docs/reference/RECORDING.md has the format)."""
 
 from typing import TYPE_CHECKING, Any, Container, Iterator, NamedTuple, Optional, Sequence
 
@@ -27,9 +27,10 @@ ADDED, DONE = "added", "done"  # what goroutines do on a WaitGroup
 
 
 class GoGoroutine(NamedTuple):
-    """A goroutine by Go's own number, as in a stack dump: its number in the recording (-1: it made no step), the call
-    of the `go` statement that started it, the goroutine that called `go` (0 if unknown), and the steps after which it
-    started and ended, with the times of both. An unknown start or end is -1."""
+    """A goroutine. `goid` is Go's own number for it, as in a stack dump; `number` is its number in the recording (-1:
+    it made no step). `made` is the call of the `go` statement that started it, and `maker` the goroutine that made this
+    call (0 if unknown). It started after step `first` at the time `begin`, and ended after step `last` at the time
+    `end`; -1 if unknown."""
 
     goid: int
     number: int
@@ -50,9 +51,9 @@ class At(NamedTuple):
 
 
 class Park(NamedTuple):
-    """A wait outside the poller of a goroutine, by Go's number: the steps after which the wait begins and ends, with
-    the times of both (-1: the goroutine still waits), the reason in words, the stack, the goroutine that ended the wait
-    (0 if unknown), the objects (one for each case of a select), and the end of a sleep (0 if unknown)."""
+    """A wait of a goroutine outside the poller. It begins after step `first` at the time `begin`, and ends after step
+    `last` at the time `end` (-1: the goroutine still waits). `reason` is in words, and `by` is the goroutine that ended
+    the wait (0 if unknown). A select has an object for each case. `due` is the end of a sleep (0 if unknown)."""
 
     goid: int
     first: int
@@ -71,7 +72,7 @@ class Park(NamedTuple):
 
 
 class Object(NamedTuple):
-    """An object on which goroutines wait: its number, its kind, and, for a channel, its capacity (-1: unknown)."""
+    """An object on which goroutines wait: its number, its kind, and the capacity of a channel (-1: unknown)."""
 
     object: int
     sort: str
@@ -79,8 +80,8 @@ class Object(NamedTuple):
 
 
 class Use(NamedTuple):
-    """The uses of an object by a goroutine from one stack: their number, and the steps and times of the first and the
-    last. A use of a channel is PUT, TOOK, CLOSED or ENDED; a use of a WaitGroup is ADDED or DONE."""
+    """A goroutine's uses of an object from one stack: their number, and the steps and times of the first and the last
+    use. A use of a channel is PUT, TOOK, CLOSED or ENDED; a use of a WaitGroup is ADDED or DONE."""
 
     object: int
     goid: int
@@ -94,9 +95,9 @@ class Use(NamedTuple):
 
 
 class Timer(NamedTuple):
-    """A timer that a goroutine made, reset or stopped: its channel (0 if the timer calls a function), the stack, the
-    step before, the time, and the time at which the timer was due (-1 if it was stopped). For a timer without a
-    channel, the recording has only the call that made it."""
+    """A timer that a goroutine made, reset or stopped. `object` is its channel (0 if the timer calls a function), and
+    `step` is the last step before. `due` is the time at which the timer goes off (-1 if it was stopped). For a timer
+    without a channel, the recording has only the call that made it."""
 
     object: int
     goid: int
@@ -112,8 +113,7 @@ class Timer(NamedTuple):
 
 
 class Making(NamedTuple):
-    """The making of a channel: the goroutine that made the channel, the stack, the step after which it did so, and the
-    time."""
+    """How a channel was made: by which goroutine, from which stack, after which step and at what time."""
 
     object: int
     goid: int
@@ -123,9 +123,9 @@ class Making(NamedTuple):
 
 
 class FailedDial(NamedTuple):
-    """A dial of a goroutine that failed: the stack, the step before the dial, the time, the reason (the system's error,
-    `timeout`, `cancelled`, or empty), the address (empty if unknown), and the channel of the dial's context (0 if it
-    has none)."""
+    """A failed dial of a goroutine. `step` is the last step before the dial. `why` is the system's error, `timeout`,
+    `cancelled`, or empty; the address is empty if unknown. `context` is the channel of the dial's context (0 if it has
+    none)."""
 
     goid: int
     stack: int
@@ -137,8 +137,8 @@ class FailedDial(NamedTuple):
 
 
 class Held(NamedTuple):
-    """A mutex that is locked at the end of the recording: the goroutine that locked it, the way it is held (READ: for
-    reading), the stack, and the step before."""
+    """A mutex that is locked at the end of the recording: the goroutine that locked it, how it is held (READ: for
+    reading), the stack that locked it, and the last step before."""
 
     object: int
     goid: int
@@ -151,8 +151,8 @@ READ = "read"  # how an RWMutex is held
 
 
 class LeftOut(NamedTuple):
-    """The numbers of waits with a reason and a stack that didn't fit into the file: those that last until the end, and
-    the others."""
+    """Waits with a reason and a stack that didn't fit into the file: the number that last until the end, and the number
+    that ended."""
 
     reason: str
     stack: int
@@ -198,7 +198,7 @@ class AllGoroutines:
         """Adds a line about all goroutines, or about the objects on which they wait."""
 
         def known(numbers: Sequence[int]) -> Iterator[int]:
-            """These numbers of stacks, with 0 in place of a stack that isn't in the file."""
+            """The numbers of these stacks, with 0 for a stack that isn't in the file."""
             return (number if number in stacks else 0 for number in numbers)
 
         if "goroutines" in line:
@@ -239,49 +239,49 @@ class AllGoroutines:
             self.left_out += map(LeftOut._make, zip(reasons, known(of_stacks), *rest))
 
     def add_owners(self, rows: Any) -> None:
-        """Adds the goroutines that took over a number, each with the step after which it took the number over."""
+        """Adds goroutines that took over the number of another goroutine, each with the step after which it did so."""
         for number, step, goid in zip(*columns(rows, OF_OWNER)):
             self.owners.setdefault(number, []).append((step, goid))
             self._owned[goid] = number
 
     def goid_of(self, number: int, step: Optional[int] = None) -> int:
-        """Go's number of the goroutine that has a number of the recording at a step, or of the last goroutine that had
-        it; 0 if unknown."""
+        """Go's number for the goroutine that has `number` in the recording at a step. Without a step, for the last
+        goroutine that had it. 0 if unknown."""
         if step is None or number not in self.owners:
             return self._goids.get(number, 0)
         return next((goid for taken, goid in reversed(self.owners[number]) if taken < max(step, 1)), 0)
 
     def reused_goid(self, number: int, step: int) -> int:
-        """Go's number of the goroutine that has a number of the recording at a step, if several goroutines had that
-        number; 0 if only one had it, or if the goroutine is unknown."""
+        """Go's number for the goroutine that has `number` in the recording at a step, if several goroutines have had
+        that number; 0 if only one goroutine has had it, or if the goroutine is unknown."""
         return self.goid_of(number, step) if number in self.owners else 0
 
     def number_of(self, goid: int, step: Optional[int] = None) -> int:
-        """The number in the recording that the goroutine with this goid has at a step, or else at the end; -1 if the
-        goroutine has no number."""
+        """The number in the recording that the goroutine with this goid has at a step, by default at the end; -1 if it
+        has no number then."""
         known = self.goroutines.get(goid)
         number = self._owned.get(goid, known.number if known else -1)
         return -1 if number in self.owners and self.goid_of(number, step) != goid else number
 
     def has_step(self, goid: int, number: int, step: int) -> bool:
-        """Whether the goroutine with this goid made a step which the recording gives to a goroutine of this number."""
+        """Whether the goroutine with this goid made a step that the recording attributes to this number."""
         return number not in self.owners or self.goid_of(number, step) == goid
 
     def park_of(self, goid: int, position: int) -> Optional[Park]:
-        """The wait outside the poller in which the goroutine with this goid is at a position."""
+        """The wait outside the poller that the goroutine with this goid is in at a position."""
         return next((one for one in self.parks.get(goid, ()) if one.is_at(position)), None)
 
 
 def typed(value: Any, sort: type) -> Any:
-    """A value of a known type; raises a TypeError if the value has another type."""
+    """Returns a value of this type; raises a TypeError if the value has another type."""
     if type(value) is not sort:
         raise TypeError
     return value
 
 
 def columns(rows: Any, sorts: Sequence[type]) -> list[Any]:
-    """The columns of some rows, of these types; raises a TypeError or a ValueError if a value has another type. There
-    may be 65,536 rows, so no Python loop visits all values."""
+    """The columns of rows whose values have these types; raises a TypeError or a ValueError if they don't. There may be
+    65,536 rows, so no Python loop visits all values."""
     if set(map(len, rows)) - {len(sorts)}:
         raise ValueError
     found = list(zip(*rows)) or [()] * len(sorts)

@@ -1,5 +1,5 @@
-"""The changes of a recording, which a thread reads from netrev while the session goes on. A caller that needs changes that haven't
-arrived waits for them."""
+"""The changes of a recording, which a thread reads from netrev while the session goes on. A caller waits if it needs
+changes that haven't arrived."""
 
 import subprocess
 import time
@@ -20,8 +20,8 @@ PIPE = 2**20  # bytes
 
 
 class ArrivingChanges(RecordedChanges):
-    """The output of `netrev changes FILE`, which the first request starts. If that run fails, the request raises Lost,
-    and the next request starts another run."""
+    """The output of `netrev changes FILE`. The first request starts this command. If that run fails, the request raises
+    Lost, and the next request starts another run."""
 
     def __init__(self, program: str, path: str, interrupts: Interrupts, tell: Callable[[str], None]) -> None:
         super().__init__()
@@ -56,7 +56,8 @@ class ArrivingChanges(RecordedChanges):
             self._reader.join(SILENCE)
 
     def _is_begun(self) -> bool:
-        """Whether a thread is reading. If Ctrl-C prevented it from starting, another thread takes its place."""
+        """Whether a thread has started to read. If Ctrl-C prevented it from starting, the next request starts another
+        thread."""
         return self._reader is not None and self._reader.ident is not None
 
     def _wait(self, position: Optional[int]) -> None:
@@ -114,7 +115,7 @@ class ArrivingChanges(RecordedChanges):
         return bool(self._failure) or (self.has(position) and not self._fault)
 
     def _read(self, process: "subprocess.Popen[bytes]") -> None:
-        """Reads netrev's output in the thread, unless another thread reads instead."""
+        """Reads netrev's output in this thread, until another thread takes its place."""
         assert process.stdout
         failure = ""
         try:

@@ -9,14 +9,14 @@ END = "end"
 
 @dataclass
 class Attached:
-    """The lines of each mark, the mark whose lines are being typed, and the lines to run next."""
+    """The lines attached to each mark, the mark whose lines are being typed, and the lines to run next."""
 
     lines: dict[str, list[str]] = field(default_factory=dict)
     taking: Optional[str] = None
     pending: deque[str] = field(default_factory=deque)
 
     def begin(self, mark: str) -> None:
-        """Replaces the lines of this mark by those that follow."""
+        """Replaces the lines of this mark by the lines typed next."""
         self.lines[mark], self.taking = [], mark
 
     def takes(self, line: str) -> bool:
@@ -30,7 +30,7 @@ class Attached:
         return True
 
     def hits(self, marks: Sequence[str]) -> None:
-        """Queues the lines of these marks, which hit after a move. Lines left from an earlier stop are dropped."""
+        """Queues the lines of the marks that hit after a move. Lines left from an earlier stop are dropped."""
         self.pending = deque(line for mark in marks for line in self.lines.get(mark, ()))
 
     def listed(self, entries: Sequence[str]) -> Iterator[str]:

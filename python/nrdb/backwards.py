@@ -1,5 +1,5 @@
-"""Facts about the steps before a position. One backward search of the recording's text finds them for all requested
-objects."""
+"""Facts about the steps before a position. One backward search of the recording's text finds the facts for all
+requested objects."""
 
 import re
 from itertools import islice
@@ -16,7 +16,7 @@ GOROUTINES = rb'\[\s*"(?:%s)"\s*,\s*(\d+)\b' % "|".join(OF_A_GOROUTINE).encode()
 
 
 def takings(recording: Recording, until: int, locks: Collection[Lock]) -> dict[Lock, Step]:
-    """The steps that took these locks, each of which is held after this many steps: the first `rwlock` after the last
+    """The steps that took these locks, each held at a position. The step is the first `rwlock` after the last
     `rwunlock`."""
     sought, taking = set(locks), dict[Lock, int]()
     if sought:
@@ -44,8 +44,7 @@ def locks_back(recording: Recording, until: int, sockets: set[int]) -> Iterator[
 
 
 def last_steps(recording: Recording, until: int, goroutines: Collection[int]) -> dict[int, int]:
-    """The last step of each of these goroutines among the first steps, up to a position; 0 for a goroutine without
-    steps."""
+    """The last step of each of these goroutines up to a position; 0 for a goroutine that has made no step."""
     last = dict.fromkeys(goroutines, 0)
     if recording.has_escapes:
         for number, (kind, *arguments) in enumerate(islice(recording.arrays(), until), 1):

@@ -11,7 +11,7 @@ from .shapes import go_to, position_of
 
 
 class Standing(Protocol):
-    """The parts of a session that this module needs: its netrev, its recording, its position, and its printer."""
+    """The parts of a session that this module needs."""
 
     netrev: Netrev
     recording: Optional[Recording]
@@ -39,8 +39,8 @@ def begin_words(recording: Recording) -> str:
 
 
 def tell_begin(session: Standing, reply: str) -> None:
-    """Goes to the beginning of the recording and prints the position; `reply` is netrev's reply to `info position`. A
-    shared session keeps its position."""
+    """Goes to the beginning of the recording, and prints the position. A shared session keeps its position. `reply` is
+    netrev's reply to `info position`."""
     recording = session.recording
     if recording and begins_at(recording) and session.stood == 0 and isinstance(session.netrev, Own):
         go_to(begins_at(recording), session.ask)

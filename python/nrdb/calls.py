@@ -1,5 +1,5 @@
-"""Go's calls instead of steps: the `Read`, `Write`, `SetDeadline` or `Close` that each step belongs to, how long the
-call waited, and how it ended. nrdb finds the calls in one pass over the recording's steps."""
+"""Go's calls: the `Read`, `Write`, `SetDeadline` or `Close` to which each step belongs, how long the call waited, and
+how it ended. nrdb finds the calls in one pass over the recording's steps."""
 
 from collections import defaultdict
 from functools import cached_property, lru_cache, partial
@@ -14,7 +14,7 @@ from .notes import CLOSED, Look, Looks, Notes
 from .recording import Recording
 from .whose import NONE, Whose
 
-# called with the book, the notes, and the step's arguments; the first argument is the step's goroutine
+# A Maker is called with the book, the notes and the step's arguments, the first of which is the step's goroutine.
 Maker = Callable[..., Look]
 SETTING = {"r": "SetReadDeadline", "w": "SetWriteDeadline", "rw": "SetDeadline"}
 LOCKING = {"r": "Read", "w": "Write"}
@@ -30,7 +30,7 @@ class Book:
         self._recording, self._errors = recording, recording.lines.errors
         self.error = ""  # the system's name for the step's error, until it is stored in a call
         self.open: dict[int, list[Call]] = defaultdict(list)  # the calls that each goroutine is in, the innermost last
-        # the step since which each goroutine has slept, and the clock at that step
+        # for each sleeping goroutine, the step since which it has slept, and the clock at that step
         self.asleep: dict[int, tuple[int, int]] = {}
         self.descriptor_of: dict[int, int] = {}  # for each open socket, its descriptor
         self.notes = Notes(recording, self._looks())
@@ -52,8 +52,8 @@ class Book:
         return {kind: partial(self._seeing_errors, LOOKS.get(kind)) for kind in OF_A_GOROUTINE}
 
     def _seeing_errors(self, maker: Optional[Maker], notes: Notes, g: int, *arguments: Any) -> Look:
-        """Stores the step's error in the innermost call, if the recording contains errors of system calls. The call may
-        end with this step."""
+        """Stores the step's error in the innermost call. Only a recording with errors of system calls needs this. The
+        call may end with this step."""
         made, goroutine, calls = maker and maker(self, notes, g, *arguments), notes.goroutine(g), self.open[g]
 
         def look(step: int) -> None:
@@ -160,7 +160,7 @@ def locks(book: Book, notes: Notes, g: int, s: int, side: str) -> Look:
 
 
 def gives(book: Book, notes: Notes, g: int, s: int, side: str = "") -> Look:
-    """Handles a step by which a call gives up its reference, with the lock of a side or without it."""
+    """Handles a step by which a call gives up its reference, perhaps with the lock of a side."""
     goroutine, calls, locked, holds, settle = notes.goroutine(g), book.open[g], notes.locks, notes.holds[s], book.settle
 
     def look(step: int) -> None:
@@ -223,7 +223,7 @@ def checks(book: Book, notes: Notes, g: int, d: int, side: str) -> Look:
 
 
 def checks_again(book: Book, notes: Notes, g: int) -> Look:
-    """Handles `waitcheck`, which ends a wait. Its side is that of the wait."""
+    """Handles `waitcheck`, which ends a wait on its side."""
     goroutine, calls = notes.goroutine(g), book.open[g]
 
     def look(step: int) -> None:

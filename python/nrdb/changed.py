@@ -19,8 +19,8 @@ NOTHING = "changed: nothing that a cell shows"
 def tables_beside(
     changes: RecordedChanges, recording: Recording, position: int, hit: Sequence[Listed]
 ) -> Iterator[Table]:
-    """The tables after a move to a position: the owners of the timers in the steps there, the marks that hit, and the
-    changes made by the last step."""
+    """The tables after a move to a position: the owners of the timers of the steps next to it, the marks that hit, and
+    the changes made by the last step."""
     if (timers := timers_beside(recording, position)).rows:
         yield timers
     if hit:
@@ -31,8 +31,8 @@ def tables_beside(
 
 
 def changed_table(changes: RecordedChanges, position: int, told: Collection[str] = ()) -> Optional[Table]:
-    """The changes made by the step that led to the position, in one line, without the changes printed already; None at
-    the start."""
+    """One line with the changes made by the step that led to the position, without the changes that were printed
+    already; None at the start."""
     if not position:
         return None
     cells = sorted((cell for cell, _ in changes.at(position)), key=_order)
@@ -52,7 +52,7 @@ def _order(cell: str) -> tuple[int, int, int]:
 
 
 def _spelled(cell: str, old: str, new: str) -> str:
-    """A change in words. For a new object, only its new value."""
+    """A change in words. For a new object, only the new value is named."""
     name, *number = cell.split()
     if number and old == "absent":
         return f"{CELLS[name].of.value} {number[0]} is made"

@@ -13,7 +13,7 @@ WINDOW = 2**14  # the number of bytes of lines that are parsed at once; they fit
 
 
 def next_step(text: str, place: int) -> int:
-    """The place after a given place at which the lines of the next step begin; -1 if the text ends first."""
+    """The place at which the lines of the next step after a place begin; -1 if the text ends first."""
     line = text.find("\n", place)
     step = text[line + 1 : text.find(" ", line) + 1]
     while step and text.startswith(step, line + 1):
@@ -26,7 +26,7 @@ class NoChanges(ValueError):
 
 
 class ChangedLines:
-    """Lines of changes, in pieces of whole lines. One thread may add lines while another reads."""
+    """Lines of changes, in pieces of whole lines. One thread may add lines while another thread reads."""
 
     def __init__(self) -> None:
         self.pieces: list[bytes] = []
@@ -46,8 +46,8 @@ class ChangedLines:
         return self._lasts[-1] if self._lasts else 0
 
     def texts(self, first: int, end: int) -> Iterator[tuple[str, str, str]]:
-        """The step, the cell and the value of each line of these pieces, as texts; raises NoChanges if a line lacks any
-        of these."""
+        """The step, the cell and the value of each line of these pieces, as texts; raises NoChanges if a line lacks one
+        of them."""
         for piece in self.pieces[first:end]:
             found = LINES.findall(piece.decode("latin-1"))
             if len(found) != piece.count(b"\n"):
@@ -55,7 +55,7 @@ class ChangedLines:
             yield from found
 
     def between(self, first: int, last: int) -> Iterator[tuple[str, str, str]]:
-        """The changes, in the form of `texts`, at the steps that lead from one position to another."""
+        """The changes made by the steps that lead from one position to another, in the form of `texts`."""
         begin, end = (bisect_right(self._lasts, position) for position in (first, last))
         for step, cell, value in self.texts(begin, end + 1):
             if first < int(step) <= last:
@@ -90,8 +90,8 @@ class ChangedLines:
         return found
 
     def changes_of(self, cell: str, until: Optional[int] = None) -> Iterator[tuple[int, str]]:
-        """The steps that changed a cell, in rising order, with the new values; only up to a position, if one is
-        given."""
+        """The steps that changed a cell, in rising order, with the new values. If `until` is given, only steps up to
+        that position."""
         named = b" %s = " % cell.encode()
         end = len(self._lasts) if until is None else bisect_right(self._lasts, until) + 1
         for piece in self.pieces[:end]:
@@ -104,7 +104,7 @@ class ChangedLines:
                 before = part
 
     def back(self, cell: str, position: int) -> Iterator[tuple[int, str]]:
-        """The steps that changed a cell, from a position backwards, with the new values."""
+        """The steps up to a position that changed a cell, latest first, with the new values."""
         named = b" %s = " % cell.encode()
         for place in range(min(bisect_right(self._lasts, position), len(self._lasts) - 1), -1, -1):
             piece = self.pieces[place]

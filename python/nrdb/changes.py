@@ -16,7 +16,7 @@ MOST = 40
 def history_table(
     changes: RecordedChanges, recording: Recording, cell: str, position: int, most: Optional[int] = MOST
 ) -> Table:
-    """The last changes of the cell up to the position: at most `most` of them, or all if `most` is None."""
+    """The last changes of the cell up to the position: at most `most` changes, or all if `most` is None."""
     found = list(islice(changes.back(cell, position), None if most is None else most + 1))
     before = [value for _, value in found[1:]] + [value_at_start(cell)]
     shown = [(step, old, new) for (step, new), old in zip(found, before)][:most]
@@ -38,7 +38,8 @@ def _row(recording: Recording, cell: str, number: int, old: str, new: str) -> Ro
 
 
 def marks_table(changes: RecordedChanges, marks: Sequence[Listed], position: int) -> Table:
-    """The table of these marks: what each mark is at, and, for a watch, the change made by the last step."""
+    """The table of these marks. Each row has the place of a break, or the change that the last step made to a watched
+    cell."""
     watched = [mark.what for mark in marks if mark.sort == "watch"]
     before = dict(zip(watched, changes.values(position - 1, watched))) if position else {}
     now = dict(zip(watched, changes.values(position, watched)))

@@ -1,7 +1,6 @@
-"""The command line of nrdb, and its exit status, which is netrev's: 0 done, 1 the recording was refused, 2 usage error,
-3 the file, the program or the connection failed; nrdb adds 4 for findings of --suspects, --explore or
---explore-failures. Modules that most sessions don't need are imported on first use, so that the prompt appears
-sooner."""
+"""The command line of nrdb. Its exit statuses are netrev's: 0 done, 1 the recording was refused, 2 usage error, 3 the
+file, the program or the connection failed. nrdb adds 4 for findings of --suspects, --explore or --explore-failures.
+Modules that few sessions need are imported on first use, so that the prompt appears sooner."""
 
 import argparse
 import gc
@@ -36,7 +35,7 @@ DONE, REFUSED, USAGE, FAILED, SUSPECTS = range(5)
 
 
 def main(words: Optional[Sequence[str]] = None) -> int:
-    """Runs nrdb with these words, and returns the exit status."""
+    """Runs nrdb with these arguments, and returns the exit status."""
     gc.set_threshold(200_000)  # (a recording of a million steps makes millions of objects, few of them in cycles)
     wanted = parsed(sys.argv[1:] if words is None else words)
     if wanted.dap or wanted.dap_port is not None:
@@ -127,18 +126,18 @@ def begun(wanted: argparse.Namespace, netrev: Netrev, interrupts: Interrupts, pr
 
 
 def has_prompt(wanted: argparse.Namespace) -> bool:
-    """Whether a user types at a terminal. Ctrl-C may then be meant for something other than the session."""
+    """Whether a user types at a terminal, where Ctrl-C may be meant for something other than the session."""
     ends = wanted.batch or wanted.suspects or wanted.explore or wanted.explore_failures or wanted.web is not None
     return sys.stdin.isatty() and not ends and all(getattr(wanted, name) is None for name in WRITERS)
 
 
 def is_of_all(wanted: argparse.Namespace) -> bool:
-    """Whether the output covers all steps, whatever the position is."""
+    """Whether the output covers all steps, regardless of the position."""
     return bool(wanted.suspects or wanted.trace or wanted.timeline)
 
 
 def session_of(wanted: argparse.Namespace, netrev: Netrev, interrupts: Interrupts, printer: Printer) -> Session:
-    """The requested session, before it has begun."""
+    """The requested session, which hasn't begun yet."""
     recording = Recording.read(wanted.file) if wanted.file else None
     if wanted.join and wanted.file and (fault := fault_of(wanted.netrev, wanted.file)):
         raise NoRecording(messages.NOT_A_RECORDING.format(path=wanted.file, fault=fault))
@@ -227,7 +226,7 @@ def schedules_tried(session: Session, is_of_failures: bool) -> int:
 
 
 def made(session: Session, path: str, write: Callable[..., str], part: Sequence[int]) -> int:
-    """Writes a file (a timeline perhaps for a part of the recording), reports the file, and returns the exit status."""
+    """Writes a file, reports it, and returns the exit status. A timeline may show only a part of the recording."""
     session.printer.note(write(session, path, *part))
     return DONE
 

@@ -1,4 +1,4 @@
-"""A session's output, kept as text for an editor's console or a page."""
+"""A session's output, collected as text for an editor's console or a page."""
 
 import io
 

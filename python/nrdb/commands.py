@@ -1,4 +1,5 @@
-"""The commands of netrev and nrdb in one table, and the reading of abbreviations and of other debuggers' names."""
+"""The commands of netrev and nrdb in one table. The module also reads abbreviations and other debuggers' names of
+commands."""
 
 import re
 from dataclasses import dataclass
@@ -140,7 +141,7 @@ TOPICS = {
         Topic(Origin.NRDB, "holders S", "which goroutines hold references of socket S, and since which step"),
     )
 }
-# Forms of netrev's commands that nrdb answers itself.
+# The forms of netrev's commands that nrdb answers itself.
 FORMS = {
     "break": command(
         "break FILE:LINE | FUNCTION", "stops before each step at which a goroutine reaches a line or a function"
@@ -203,8 +204,8 @@ class Ambiguous(Exception):
 
 
 def whole(word: str, known: Collection[str], spellings: Mapping[str, str] = {}) -> str:
-    """The known word for a word: the word itself, the same word in another debugger's spelling, or the only known word
-    that begins with it. Otherwise the word unchanged."""
+    """The known word for a word: the word itself, nrdb's word for another debugger's, or the only known word that
+    begins with it. An unknown word is returned unchanged."""
     if word in known:
         return word
     if word in spellings:
@@ -221,13 +222,13 @@ ALL_SPELLINGS = {**SPELLINGS, **SHORT}
 
 @lru_cache(maxsize=1_024)
 def whole_command(word: str) -> str:
-    """The command for a word, which may be abbreviated or in another debugger's spelling. Otherwise the word
+    """The command for a word, which may be abbreviated or in another debugger's spelling. An unknown word is returned
     unchanged."""
     return whole(word, COMMANDS, ALL_SPELLINGS)
 
 
 def whole_words(words: list[str]) -> list[str]:
-    """The words of a line with all abbreviations expanded: of the command, a topic, a direction, a dump."""
+    """The words of a line, with abbreviations of a command, a topic, a direction or a dump expanded."""
     if words[0] in TABLES_OF_OTHERS:
         return ["info", TABLES_OF_OTHERS[words[0]], *words[1:]]
     first = whole_command(words[0])
@@ -248,8 +249,8 @@ def whole_words(words: list[str]) -> list[str]:
 
 
 def parts_of(line: str) -> list[str]:
-    """The commands of a line. A file's name may contain a `;`, so a command that takes a file takes the rest of the
-    line."""
+    """The commands of a line. Since a file's name may contain a `;`, the rest of the line belongs to a command that
+    takes a file."""
     parts = []
     rest = line
     while rest:
@@ -273,7 +274,7 @@ def takes_a_file(part: str) -> bool:
 
 
 def is_answered_here(words: list[str]) -> bool:
-    """Whether nrdb answers a line of these words itself."""
+    """Whether nrdb itself answers a line of these words."""
     first, *rest = words
     if first == "info":
         return not rest or (rest[0] in TOPICS and TOPICS[rest[0]].origin is Origin.NRDB)

@@ -9,14 +9,15 @@ from .messages import session as messages
 
 
 class Condition(NamedTuple):
-    """A cell, and the value that it must have, as printed or in words; `*` matches any text."""
+    """A cell, and the value that it must have, as a printed value or as its meaning in words. `*` matches any text."""
 
     cell: str
     value: str
 
     @classmethod
     def of(cls, words: Sequence[str]) -> Optional["Condition"]:
-        """The condition that words form, as in `until`: gor 3 parked*, rg 0 = ready; None if they form none."""
+        """The condition that words form, as in `until gor 3 parked*` or `until rg 0 = ready`; None if they form no
+        condition."""
         words = [word for word in words if word not in ("=", "==")]
         for length in (2, 1):
             if (cell := cell_of(words[:length])) and words[length:]:

@@ -22,7 +22,7 @@ Part = TypeVar("Part")
 
 
 def needed(part: Optional[Part]) -> Part:
-    """A part of a session that exists only with a recording; raises Misused if a session was joined without a
+    """Returns a part of a session that exists only with a recording; raises Misused if a session was joined without a
     recording."""
     if part is None:
         raise Misused(messages.NEEDS_RECORDING)

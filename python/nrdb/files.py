@@ -20,7 +20,7 @@ def spare(path: str, recording: str) -> None:
 
 @contextmanager
 def writing(path: str, recording: str, mode: str = "w") -> Iterator[IO[Any]]:
-    """A file to be written; raises Misused if that fails."""
+    """Opens a file for writing; raises Misused if that fails."""
     spare(path, recording)
     try:
         with whole(Path(path), mode) as file:

@@ -1,5 +1,5 @@
-"""`steps` and `calls`: what a goroutine did, what happened to a socket or a descriptor, and all steps of a kind. Also
-the destinations of `next` and `finish`."""
+"""`steps` and `calls`: what a goroutine did, what happened to a socket or a descriptor, and all steps of a kind. The
+module also finds the destinations of `next` and `finish`."""
 
 from itertools import chain
 from typing import Callable, Iterator, NamedTuple, Optional
@@ -35,7 +35,7 @@ class Subject(NamedTuple):
 
     @classmethod
     def of(cls, words: list[str]) -> Optional[tuple["Subject", list[str]]]:
-        """The subject at the beginning of these words, and the words after the subject; None if the words begin with no
+        """The subject at the beginning of these words, and the words after it; None if the words don't begin with a
         subject."""
         number = number_of(words[1]) if len(words) > 1 else None
         if words[:1] and words[0] in SUBJECTS:
@@ -49,7 +49,7 @@ class Subject(NamedTuple):
 
 
 def steps_table(recording: Recording, subject: Subject, position: int, most: Optional[int]) -> Table:
-    """The last steps of the subject up to the position: at most `most` of them, or all if `most` is None."""
+    """The last steps of the subject up to the position: at most `most` steps, or all if `most` is None."""
     found = list(_numbers(recording, subject, position))
     shown = found if most is None else found[-most:]
     rows = [_step_row(recording, recording.step(number)) for number in shown]
@@ -73,7 +73,8 @@ def _typed(subject: Subject) -> str:
 
 
 def _step_row(recording: Recording, step: Step) -> Row:
-    """The row of a step: the step, its answer, if any, the owner of its timer, and the program's line."""
+    """The row of a step: the step, its answer (if any), and the program's line or else the owner of the step's
+    timer."""
     timer, at = timer_of(recording, step), recording.lines.words(step.number)
     values = {"step": step.number, "line": step.line, "does": str(step), "timer": timer and timer._asdict()}
     answered = f", answered {answer_text(step.answer)}" if step.answer not in (None, "done") else ""
@@ -84,7 +85,7 @@ def _step_row(recording: Recording, step: Step) -> Row:
 
 
 def _rest(count: int, shown: int, name: str, line: str, subject: Subject, position: int) -> str:
-    """The line that says how many rows are omitted, or that none was found."""
+    """The line that says how many rows are omitted, or that there are none."""
     if shown < count:
         return f"{count - shown} earlier ones: {line} all"
     return "" if count else f"no {name} of {subject} up to position {position}"
@@ -131,7 +132,7 @@ class Goal(NamedTuple):
 
 
 def goroutine_at(recording: Recording, position: int) -> int:
-    """The goroutine that made the last step up to the position; at the start, the goroutine that makes the next step.
+    """The goroutine that made the last step up to the position. At the start, the goroutine that makes the next step.
     Steps that no goroutine made don't count."""
     whose = book_of(recording).whose.goroutines
     for at in chain(range(position - 1, -1, -1), range(position, len(whose))):
@@ -157,7 +158,7 @@ def previous_goal(recording: Recording, goroutine: int, position: int) -> Goal:
 
 
 def finish_goal(recording: Recording, goroutine: int, position: int) -> Goal:
-    """The position after the call that the goroutine is in. Between two calls: the position before the goroutine's
+    """The position after the call that the goroutine is in. Between two calls, the position before the goroutine's
     first step outside the program's function."""
     inside = calls_at(book_of(recording), goroutine, position)
     if not inside:
@@ -169,8 +170,7 @@ def finish_goal(recording: Recording, goroutine: int, position: int) -> Goal:
 
 
 def return_goal(recording: Recording, goroutine: int, position: int) -> Goal:
-    """The position before the first step that the goroutine makes after it has left its current function of the
-    program."""
+    """The position before the goroutine's first step after it has left its current function of the program."""
     found = position_of_return(recording, goroutine, position)
     if found is not None:
         return Goal(found)

@@ -1,4 +1,4 @@
-"""The place of a goroutine at a position: its stack, the step since which it has been there, and what it does."""
+"""The place of a goroutine at a position: its stack, since which step it has had this stack, and what it does."""
 
 from typing import NamedTuple, Optional
 
@@ -11,8 +11,8 @@ from .where import Stack
 
 
 class GoroutineStack(NamedTuple):
-    """The stack of a goroutine at a position, the step since which the goroutine has been there, and what it does, as
-    text. `is_past` means that the goroutine has gone on since without a step, so the stack is that of its last step."""
+    """The stack of a goroutine at a position, since which step it has had this stack, and text about what it does. If
+    `is_past`, the goroutine has gone on since then without making a step, so this is the stack of its last step."""
 
     name: Name
     stack: Stack

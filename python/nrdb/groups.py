@@ -23,19 +23,18 @@ def grouped(rows: list[Row], who_has: Callable[[int, str], str]) -> list[Row]:
 
 
 def _likeness(values: dict[str, Any]) -> Optional[Hashable]:
-    """The key that a goroutine shares with the goroutines that wait for the same lock or event; None if it doesn't
-    sleep."""
+    """A key that all goroutines have which wait for the same lock or event; None if the goroutine doesn't sleep."""
     if values.get("elsewhere"):
         return (values["waits_for"], *_place(values))
     name, *rest = values["status"].split()
     if name == "queued":
         return values["status"]
-    # (each goroutine is parked at its own descriptor, and has its own deadline and step)
+    # (goroutines are parked at different descriptors, with different deadlines and steps)
     return (name, rest[1], *_common(values)) if name == "parked" else None
 
 
 def _common(values: dict[str, Any]) -> tuple[str, ...]:
-    """The text that the parked goroutines of a group share: the unread bytes, the deadline, the line of the program."""
+    """The text for the parked goroutines of a group: the unread bytes, the deadline, and the line of the program."""
     known = values["waits_for"].split("; ")[1:]
     unread = "bytes are unread" if "unread" in known[0] else ""
     rest = ["deadlines to come" if words.startswith("deadline at ") else words for words in known[1:]]
@@ -43,7 +42,7 @@ def _common(values: dict[str, Any]) -> tuple[str, ...]:
 
 
 def _place(values: dict[str, Any]) -> tuple[str, str]:
-    """The program's line of a goroutine, and the line that started it; empty if unknown."""
+    """The program's line at which a goroutine is, and the line that started it; empty if unknown."""
     at = values["at"].split(" since step ") if "at" in values else ["", ""]
     return at[0], at[1].partition("; ")[2] if at[1:] else ""
 

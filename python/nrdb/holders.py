@@ -33,8 +33,8 @@ class Holding(NamedTuple):
 
 
 def holders_of(recording: Recording, changes: RecordedChanges, socket: int, position: int) -> list[Reference]:
-    """The references to the socket at the position, oldest first. A step that raised the number of references added
-    one, and a step that lowered the number removed one."""
+    """The references to the socket at the position, oldest first. A step that raised the count of references added a
+    reference, and a step that lowered the count removed a reference."""
     counts = {step: LockWord.of(int(word)).references for step, word in changes.changes_of(f"lock {socket}", position)}
     held: list[Holding] = []
     end = -1 if recording.has_answers else None

@@ -1,5 +1,5 @@
-"""Ctrl-C. During a query, nrdb stops only after it has read the whole reply. A long search checks for Ctrl-C between
-two queries. A second Ctrl-C while netrev doesn't answer ends the session."""
+"""Ctrl-C. Ctrl-C during a query takes effect only after nrdb has read the whole reply. A long search checks for it
+between two queries. A second Ctrl-C while netrev doesn't answer ends the session."""
 
 import signal
 from contextlib import contextmanager
@@ -11,8 +11,8 @@ class Interrupted(Exception):
 
 
 class GivenUp(Exception):
-    """Raised if Ctrl-C was pressed again while netrev didn't answer. A reply is half read, so the session can't
-    continue."""
+    """Raised if Ctrl-C was pressed again while netrev didn't answer. The session can't continue, because a reply has
+    been read only in part."""
 
 
 class Interrupts:
@@ -38,7 +38,7 @@ class Interrupts:
 
     @contextmanager
     def at_once(self) -> Iterator[None]:
-        """Context in which netrev isn't asked. Ctrl-C raises Interrupted at once, except inside `shielded`."""
+        """Context for work without queries, in which Ctrl-C raises Interrupted at once, except inside `shielded`."""
         self.check()
         before, self._stops_at_once = self._stops_at_once, True
         try:
@@ -49,8 +49,8 @@ class Interrupts:
 
     @contextmanager
     def shielded(self) -> Iterator[None]:
-        """Context in which Ctrl-C is remembered, so that no work is left half done. A second Ctrl-C gives the session
-        up."""
+        """Context for work that must not be left half done, in which Ctrl-C is only remembered. A second Ctrl-C gives
+        the session up."""
         self._shields += 1
         try:
             yield

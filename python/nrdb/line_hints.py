@@ -48,7 +48,7 @@ def unknown(words: list[str]) -> str:
 
 
 def of_cell(words: list[str], command: str) -> str:
-    """The hint for words that should name a cell."""
+    """The hint for words that should name a cell but don't."""
     if not words:
         return messages.WHICH_CELL.format(command=command, cells=" ".join(CELLS))
     name = words[0].lstrip("*&$")
@@ -110,8 +110,8 @@ def of_steps(words: list[str], command: str) -> str:
 
 
 def spelled_number(word: str) -> Optional[int]:
-    """The number that a word is in another notation; None if the word isn't a number, or if netrev accepts that number
-    nowhere."""
+    """The number that a word gives in another notation; None if the word isn't a number, or if netrev never accepts
+    that number."""
     try:
         number = int(word, 0)
     except ValueError:
@@ -141,7 +141,7 @@ def of_break(words: list[str], command: str = "break") -> str:
 
 
 def kind_hint(word: str) -> str:
-    """The hint with the kind of step that a word may mean."""
+    """A hint that names the kind of step that a word may mean."""
     plain = re.sub(r"^(runtime|internal/poll|poll)[._]", "", word).lower()
     if plain.replace("_", "") in KINDS:
         return messages.DID_YOU_MEAN.format(names=plain.replace("_", ""))

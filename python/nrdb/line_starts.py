@@ -1,5 +1,5 @@
 """The places at which the lines of a text begin. A text may have a million lines, so the lines are counted by block.
-The places within a block are found only when a caller needs one of its lines."""
+The places within a block are found only when a caller needs a line of the block."""
 
 from bisect import bisect_left
 from itertools import accumulate
@@ -15,8 +15,8 @@ class LineStarts:
         self._data = data
         counts = (data.count(b"\n", begin, begin + BLOCK) for begin in range(0, len(data), BLOCK))
         self._before = list(accumulate(counts, initial=0))  # how many line feeds precede each block
-        # the number of line feeds before the block used last, their number up to its end, and their places in it; then
-        # the places of a few blocks
+        # for the block used last: the number of line feeds before it, their number up to its end, and their places in
+        # it; then the places of a few blocks
         self._first = self._last = 0
         self._behind = [0]
         self._kept: dict[int, list[int]] = {}
@@ -44,7 +44,7 @@ class LineStarts:
         return self._kept[block]
 
     def _at_an_end(self, line: int) -> int:
-        """The place of the first line, or the place after the last one."""
+        """The place of the first line, or the place after the last line."""
         if line not in (0, self._before[-1] + 1):
             raise IndexError(line)
         return len(self._data) + 1 if line else 0

@@ -24,7 +24,7 @@ def width_of(out: TextIO) -> int:
 
 
 def wrapped(text: str, width: int) -> list[str]:
-    """A line broken between words into lines of at most that width; unbroken if the line fits or the width is too
+    """A line, broken between words into lines of at most that width; unbroken if it fits or if the width is too
     small."""
     if width < LEAST or len(text) <= width:
         return [text]

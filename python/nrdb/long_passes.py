@@ -1,4 +1,4 @@
-"""Turns garbage collection off during passes over up to a million steps."""
+"""Turns garbage collection off during a pass over as many as a million steps."""
 
 import gc
 from contextlib import contextmanager
@@ -7,8 +7,8 @@ from typing import Iterator
 
 @contextmanager
 def without_collections() -> Iterator[None]:
-    """Context in which Python doesn't search for cycles of objects. A long pass keeps nearly everything that it makes,
-    and repeated searches would take as long as the pass."""
+    """Context in which Python doesn't search for cycles of objects. A long pass keeps nearly everything that it
+    allocates, so repeated searches would find nothing and take as long as the pass."""
     was_on = gc.isenabled()
     gc.disable()
     try:
@@ -19,6 +19,6 @@ def without_collections() -> Iterator[None]:
 
 
 def take_all_as_kept() -> None:
-    """Marks all existing objects as old, so that the next garbage collection skips what a long pass has made."""
+    """Marks all existing objects as old, so that the next garbage collection skips the objects of a long pass."""
     gc.freeze()
     gc.unfreeze()

@@ -32,7 +32,7 @@ class PlayedSteps(Recording):
 
 
 def changes_of(recording: Recording) -> RecordedChanges:
-    """The changes of a recording's steps, from netrev if it is available, otherwise from the model."""
+    """The changes of a recording's steps, from netrev if it is available, else from the model."""
     if recording.changes is None:
         recording.changes = RecordedChanges.read(["\n".join((*_lines(recording), "")).encode()])
     return recording.changes

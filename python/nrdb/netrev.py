@@ -23,7 +23,7 @@ SILENCE = 1  # after this many seconds without a first reply, the caller is noti
 
 
 def bytes_of(text: str) -> bytes:
-    """Lines as bytes. Bytes that aren't UTF-8 are sent unchanged. So is half a surrogate pair, which an editor's JSON
+    """Lines as bytes. Bytes that aren't UTF-8 are sent unchanged, as is half a surrogate pair, which an editor's JSON
     can contain."""
     try:
         return text.encode("utf-8", "surrogateescape")
@@ -53,8 +53,8 @@ class Reply:
 
 
 def is_kept(reply: Reply) -> bool:
-    """Whether a repeated query would get this reply again: the reply isn't an error, such as a lack of memory. A long
-    reply isn't kept."""
+    """Whether the reply may be stored: a repeated query would get it again, since it isn't an error (such as a lack of
+    memory), and it isn't long."""
     return len(reply.first) <= LONGEST_KEPT and not reply.first.startswith("fault")
 
 
@@ -94,8 +94,8 @@ class Lines:
 
 
 class Netrev:
-    """Sends lines, and reads a reply to each line: one line, or, for the two lists, one more line for each entry. No
-    line is sent while a reply is unread, so each reply belongs to its line."""
+    """Sends lines, and reads a reply to each line. A reply has one line; each of the two lists has one more line for
+    each entry. No line is sent while a reply is unread, so each reply belongs to its line."""
 
     asks_ahead = True  # whether no other user of the session can change the reply to a query
 
@@ -108,7 +108,7 @@ class Netrev:
         ] = {}  # replies to queries since the last other line, if no other user of the session can change them
 
     def ask(self, line: str) -> Reply:
-        """The reply to this line: netrev's, or the stored reply to the same query, if no other line was sent since."""
+        """The reply to this line: a stored reply to the same query if no other line was sent since, else netrev's."""
         if self._ahead and self._ahead[0][0] == line:
             self._interrupts.check_given_up()
             _, came = self._ahead.popleft()
@@ -118,8 +118,8 @@ class Netrev:
         return self._answers([line])[0]
 
     def ask_ahead(self, queries: Sequence[str]) -> None:
-        """Sends several queries at once, each with a reply of one line. The queries change nothing. `ask` returns their
-        replies as long as no other line is sent. If a query failed, `ask` raises the error when its reply is
+        """Sends several queries at once. The queries change nothing, and each has a reply of one line. `ask` returns
+        the replies as long as no other line is sent. If a query failed, `ask` raises the error when that reply is
         requested."""
         self._begin(list(queries))
         for query in queries:
@@ -197,7 +197,7 @@ class Netrev:
         return line
 
     def _send(self, text: bytes) -> None:
-        """Sends these lines. If netrev has ended, its remaining output is still read, and reading then reports the
+        """Sends these lines. If netrev has ended, its remaining output can still be read; reading then reports the
         end."""
         raise NotImplementedError
 

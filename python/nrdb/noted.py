@@ -1,11 +1,11 @@
-"""The notes of a recording: a class for each kind of note, and a class for uses of descriptors, which have most of the
+"""The notes of a recording: a class for each kind of note, and a class for uses of descriptors, which contain most
 notes. (`noted_goroutines.py` has the classes for goroutines.)"""
 
 from bisect import bisect_left
 from typing import NamedTuple, Optional
 
 CLOSING, TIMED_OUT, EVENT_ERROR = 1, 2, 3  # the codes of a side
-# (a million steps make some 100,000 notes, and the constructor of a NamedTuple takes three times as long)
+# (a million steps make some 100,000 notes, and a NamedTuple's own constructor takes three times as long)
 new = tuple.__new__
 
 
@@ -35,7 +35,7 @@ class Passing(NamedTuple):
 
 
 class Taking(NamedTuple):
-    """A goroutine's taking of a readiness: the step, the goroutine, and the step of the event that brought the
+    """A step by which a goroutine took a readiness: the step, the goroutine, and the step of the event that brought the
     readiness."""
 
     step: int
@@ -44,7 +44,7 @@ class Taking(NamedTuple):
 
 
 class Wait(NamedTuple):
-    """The beginning of a wait on a side: its step, its goroutine, and the step at which that goroutine last read or
+    """The beginning of a wait on a side: the step, the goroutine, and the step at which the goroutine last read or
     wrote."""
 
     step: int
@@ -71,8 +71,8 @@ class Timeout(NamedTuple):
 
 
 class Hold(NamedTuple):
-    """A reference to a socket: the goroutine that holds it, the step that took it, the kind of that step, and the side
-    of the lock that the step took too, if any."""
+    """A reference to a socket: the goroutine that holds it, the step that took it, and that step's kind. If the step
+    also took a lock, `side` is the lock's."""
 
     goroutine: int
     step: int
@@ -128,7 +128,7 @@ class Use:
 
 
 def code_of(info: int, side: str) -> int:
-    """The code of a side, from a descriptor's `info`: the code of the first condition that holds, or 0."""
+    """The code of a side, from a descriptor's `info`: the code of the first condition that is true, or 0."""
     if info & 1:
         return CLOSING
     if info & (4 if side == "r" else 8):

@@ -7,8 +7,8 @@ MANY = 3  # the number of pauses at a place that must have ended before the long
 
 
 class Pauses:
-    """The number of reported pauses that ended in a status, and the longest of these. A pause longer than `enough` must
-    be reported."""
+    """The number of pauses in a status that were reported, and the longest of these. A pause is reported only if it is
+    longer than `enough`."""
 
     __slots__ = ("count", "longest", "enough")
 
@@ -34,8 +34,8 @@ class NoPauses(Pauses):
 
 
 class Status(str):
-    """A status as netrev prints it, with what each step needs: the number and the side of the status's socket or
-    descriptor, the pauses in this status, and the goroutines that sleep in it, in order."""
+    """A status as netrev prints it. For quick access, it has the number and the side of its socket or descriptor, the
+    pauses in this status, and the goroutines that sleep in it, in order."""
 
     __slots__ = ("number", "side", "pauses", "sleepers", "is_idle", "is_acquiring", "is_asleep")
 
@@ -61,8 +61,8 @@ class Statuses(dict[str, Status]):
 
     def __init__(self) -> None:
         super().__init__()
-        # an idle goroutine pauses while it holds a reference; the pause is recorded at the goroutine's steps rather
-        # than when the goroutine leaves the status
+        # an idle goroutine pauses while it holds a reference; the pause is recorded at the goroutine's steps, not when
+        # the goroutine leaves the status
         self.pauses: dict[str, Pauses] = {IDLE: Pauses()}
         self[IDLE] = Status(IDLE, NoPauses())
 

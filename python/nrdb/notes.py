@@ -1,7 +1,7 @@
-"""Facts that no cell shows, gathered in one pass over a recording's steps and their changes: which goroutine has held
-which reference since when, which goroutine set which deadline or took which event, and how long each paused. This is
-nrdb's own analysis. A recording may have a million steps, so the work for a step is prepared once for all similar lines
-nearby, as two functions: one notes the step, the other inspects the state."""
+"""Facts that no cell shows, gathered in one pass over a recording's steps and their changes. They say which goroutine
+has held which reference since when, which goroutine set which deadline or took which event, and how long goroutines
+paused. This is nrdb's own analysis. A recording may have a million steps, so two functions are prepared once for all
+similar lines nearby: one notes a step, the other inspects the state."""
 
 from collections import deque
 from types import MappingProxyType
@@ -37,7 +37,7 @@ class Now(dict[str, str]):
 
 
 class Notes:
-    """The notes after the steps so far, and, at the end, after all steps."""
+    """The notes of the steps so far; at the end, of all steps."""
 
     def __init__(self, recording: Recording, looks: Looks = MappingProxyType({})) -> None:
         self.recording, self.changes, self._looks = recording, changes_of(recording), looks
@@ -53,10 +53,10 @@ class Notes:
         self.made = 1  # the number of goroutines
         self._turn = NOBODY  # the goroutine that made the last step
         self.wakers: dict[int, Note] = {}  # for descriptors, the functions that note that a goroutine is woken there
-        # for events on descriptors, with their modes and errors, the functions that note them
+        # the functions that note events, keyed by the event's descriptor, mode and error
         self.comings: dict[tuple[int, str, int], Note] = {}
-        # for sockets: their lock words, the contents of their buffers, the holders, the steps that closed them or their
-        # write sides, and the steps at which bytes came, the peer closed, and an evict happened
+        # for sockets: the lock words, the bytes in the buffers, the holders, the steps that closed the socket or its
+        # write side, and the steps at which bytes came, the peer closed, and an evict happened
         self.locks: dict[int, int] = {}
         self.inputs: dict[int, int] = {}
         self.outputs: dict[int, int] = {}
@@ -102,7 +102,7 @@ class Notes:
         self._lines = ""
 
     def _note_steps(self, steps: range) -> None:
-        """Notes these steps. After enough pauses, two consecutive steps of a goroutine no longer report a pause."""
+        """Notes these steps. Once enough pauses have been reported, consecutive steps of a goroutine report none."""
         turn, is_enough = self._turn, self.pauses[IDLE].count >= MANY
         for step, number, (goroutine, note, look) in zip(steps, map(str, steps), self._rows):
             if goroutine is not turn:
@@ -118,21 +118,21 @@ class Notes:
         self.step, self._turn = steps.stop - 1, turn
 
     def _pauses(self, goroutine: Goroutine, step: int) -> None:
-        """Records the pause of an idle goroutine that holds a reference before a step, if the pause is long enough to
+        """Records the pause before a step of an idle goroutine that holds a reference, if the pause is long enough to
         count."""
         idle, pause = self.pauses[IDLE], step - max(goroutine.last, goroutine.since)
         if pause > idle.enough:
             idle.ends(pause)
 
     def _holds(self, told: Told) -> None:
-        """Stores the changes made by the next steps. It fills the same dictionary, because callers keep a reference to
-        it."""
+        """Stores the changes made by the next steps in the same dictionary as before, because callers keep a reference
+        to it."""
         self.told.clear()
         self.told.update(told.cells())
         self._lines, self._fired_at = told.text, 0
 
     def _row(self, values: list[Any]) -> Row:
-        """The parts of a step's array: the step's goroutine, if any, the function that notes the step, and the function
+        """A row for a step's array: the step's goroutine, if any, the function that notes the step, and the function
         that inspects the state."""
         kind, *arguments = values[:-1] if self._has_answers else values
         goroutine = self.goroutine(arguments[0]) if kind in OF_A_GOROUTINE else NOBODY
@@ -147,7 +147,7 @@ class Notes:
         return found
 
     def fired(self, number: str) -> list[str]:
-        """The lines of a firing's changes, each without the step's number. netrev's first line, by which the number of
+        """The lines of a firing's changes, each without the step's number. The first line, in which the number of
         firings falls by one, is left out."""
         before = f"\n{number} "
         at = self._fired_at = self._lines.index(f"{before}firings", self._fired_at)

@@ -1,7 +1,7 @@
-"""The functions that note the steps of each kind: each gets the notes and a step's arguments, and returns a function
-that is called at each step with the same line. Its arguments are the step's number as an integer and as text.
-Goroutines, sockets and descriptors have a module each. Each function reads the cells that it needs by the step and the
-cell (`12 lock 0`). `changed_aspects` in crates/nr_rev/specs/Aspect.antt says which cells a kind may change.
+"""The functions that note the steps of each kind. Each of them gets the notes and a step's arguments, and returns a
+function that is called at each step with the same line. That function's arguments are the step's number as an integer
+and as text. Goroutines, sockets and descriptors have their own modules. Each function looks up the cells that it needs
+by step and cell (`12 lock 0`). `changed_aspects` in crates/nr_rev/specs/Aspect.antt says which cells a kind may change.
 `parkcommit`, a deadline and an evict neither make a word ready nor take a readiness."""
 
 from typing import Callable

@@ -13,7 +13,7 @@ if TYPE_CHECKING:
 
 
 def opened(notes: Notes, g: int, s: int) -> Note:
-    """Notes a new descriptor. It is the descriptor freed last, or has a new number."""
+    """Notes a new descriptor. Its number is that of the descriptor freed last, or a new number."""
     told = notes.told.get
 
     def note(step: int, number: str) -> None:
@@ -78,7 +78,7 @@ def began_to_wait(notes: Notes, g: int, d: int, side: str) -> Note:
 
 
 def took(notes: Notes, g: int) -> Note:
-    """Notes that a goroutine arms its wait or wakes. If the goroutine's word was ready, it takes the readiness."""
+    """Notes that a goroutine arms its wait or wakes. If its wait word was ready, the goroutine takes the readiness."""
     goroutine, told, own, moves, ready = notes.goroutine(g), notes.told.get, f" gor {g}", notes.moves, notes.ready
 
     def note(step: int, number: str) -> None:
@@ -148,7 +148,7 @@ def evicted(notes: Notes, g: int, d: int) -> Note:
 
 
 def came(notes: Notes, d: int, tag: int, mode: str, error: int) -> Note:
-    """Notes an event. (Little is prepared for an event, because each use of a descriptor has its own tag.)"""
+    """Notes an event. (Little can be prepared for an event, because each use of a descriptor has its own tag.)"""
     comes, open_tags = coming(notes, d, mode, error), notes.open_tags
 
     def note(step: int, number: str) -> None:
@@ -195,7 +195,7 @@ def cell_and_value(line: str) -> tuple[str, int, str]:
 
 
 def fired(notes: Notes, i: int) -> Note:
-    """Notes that a deadline passes. The changed cell shows whose deadline it is."""
+    """Notes that a deadline passes. The changed cell shows which deadline it is."""
 
     def note(step: int, number: str) -> None:
         for line in notes.fired(number):

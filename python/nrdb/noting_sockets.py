@@ -10,7 +10,7 @@ from .noting_goroutines import Note
 if TYPE_CHECKING:
     from .notes import Notes
 
-# the fields of a lock word: the lowest bits are the two locks; the higher bits count the waiting readers and writers
+# the fields of a lock word: low bits are the two locks, high bits count the waiting readers and writers
 REFERENCES = (2**20 - 1) << 3
 WAITING = 1 << 23
 
@@ -85,8 +85,8 @@ def shut(notes: Notes, g: int, s: int) -> Note:
 
 
 def referred(kind: str) -> Callable[..., Note]:
-    """Makes the function that notes a step of a kind that may take a reference: whether the lock word counts one
-    reference more, and, for a side, whether the step also took the lock."""
+    """Makes the function that notes a step that may take a reference. It notes whether the lock word counts one more
+    reference, and, for a side, whether the step also took the lock."""
 
     def of(notes: Notes, g: int, s: int, side: str = "") -> Note:
         goroutine, locks, told, cell = notes.goroutine(g), notes.locks, notes.told.get, f" lock {s}"
@@ -136,8 +136,8 @@ def given(notes: Notes, g: int, s: int, side: str = "") -> Note:
 
 
 def fitting(holds: list[Hold], g: int, side: str) -> Hold:
-    """The reference that a goroutine gives up: its own last reference of this kind, or else another goroutine's,
-    because Go only counts references."""
+    """The reference that a goroutine gives up: its own last reference of this kind. If it has none, another
+    goroutine's, because Go only counts references."""
     of_the_sort = [one for one in holds if one.side == side]
     mine = [one for one in of_the_sort if one.goroutine == g]
     return (mine or of_the_sort or holds)[-1]

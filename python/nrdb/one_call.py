@@ -20,7 +20,7 @@ class Outcome(Enum):
     BROKEN_PIPE = "broken pipe"
     SYSTEM_ERROR = "system error"  # an error that NAME.where has and no step shows
 
-    # whether the program gets an error. The end of a file isn't an error, because every reader expects it.
+    # whether the program gets an error. The end of a stream isn't an error, because every reader expects it.
     is_error: bool
 
     def __init__(self, words: str) -> None:
@@ -73,7 +73,7 @@ class Call:
         return f"{moved}, {ended}" if self.moved else ended
 
     def as_begun(self) -> "Call":
-        """The call as it is known before its end, with only its beginning."""
+        """The call as it is known before its end."""
         return Call(self.goroutine, self.name, self.socket, self.descriptor, self.first)
 
     def words(self) -> str:

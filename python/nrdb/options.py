@@ -35,7 +35,7 @@ class Words(argparse.ArgumentParser):
 
 
 class Version(argparse.Action):
-    """Prints nrdb's version and the netrev that it would run, and exits."""
+    """Prints nrdb's version and the path of the netrev that it would run, and exits."""
 
     def __call__(self, parser: argparse.ArgumentParser, space: argparse.Namespace, *_: object) -> NoReturn:
         print("\n".join([f"nrdb {VERSION}", *program_lines(space.netrev)]))
@@ -101,8 +101,8 @@ def parser() -> Words:
 
 
 def parsed(words: Sequence[str]) -> argparse.Namespace:
-    """The parsed command line. Two numbers after the file of --timeline are the beginning and the end of the part that
-    it shows."""
+    """The parsed command line. Two numbers after the file of --timeline are the beginning and the end of the part to
+    show."""
     at = words.index("--timeline") + 2 if "--timeline" in words else len(words)
     part = [number for word in words[at : at + 2] if (number := number_of(word)) is not None]
     if len(part) < 2:

@@ -55,8 +55,8 @@ class Style(Enum):
 
 @dataclass(frozen=True)
 class Row:
-    """A row of a table: its values by name, and its line. A row without a line belongs to the line before it. A row
-    without values is a further line of the row before it."""
+    """A row of a table: its values by name, and its line. A row without a line shares the line of the previous row. A
+    row without values is a further line of the previous row."""
 
     values: Values
     text: str
@@ -64,7 +64,7 @@ class Row:
 
 @dataclass(frozen=True)
 class Table:
-    """Rows about a topic, with a line that says how much was omitted or that the table is empty."""
+    """Rows about a topic, and a line that says how much was omitted or that the table is empty."""
 
     topic: str
     rows: list[Row]
@@ -82,8 +82,9 @@ def displays_table(cells: Sequence[str], values: Sequence[str], words_of: Callab
 
 
 class Printer(ABC):
-    """Prints each event before the next line is read. All text goes through `plain`, so that a terminal doesn't execute
-    escape sequences from a recording or a server. `is_paged` says whether output pauses when the screen is full."""
+    """Prints each event before the next line is read. All text passes through `plain`, so that a terminal doesn't
+    execute escape sequences from a recording or a server. `is_paged` says whether output pauses when the screen is
+    full."""
 
     def __init__(self, out: Optional[TextIO] = None):
         self.out = out if out is not None else sys.stdout
@@ -100,7 +101,7 @@ class Printer(ABC):
 
     @contextmanager
     def joined(self) -> Iterator[None]:
-        """Context in which no line is read. The output is written together at the end."""
+        """Context in which no line is read. All output is written at the end."""
         self._flushes = False
         try:
             yield
@@ -110,7 +111,7 @@ class Printer(ABC):
 
     @abstractmethod
     def echo(self, line: str) -> None:
-        """Prints a line that wasn't typed as the prompt would show it."""
+        """Prints a line that wasn't typed, in the way in which the prompt would show it."""
 
     @abstractmethod
     def reply(self, line: str, reply: Reply, words: str) -> None:
@@ -185,7 +186,7 @@ class JsonPrinter(Printer):
         self.write(text.replace("\x7f", "\\u007f"))  # the only control character that JSON leaves unescaped
 
     def echo(self, line: str) -> None:
-        """Does nothing, because the reply contains its line."""
+        """Does nothing, because the event of the reply contains the line."""
 
     def reply(self, line: str, reply: Reply, words: str) -> None:
         self._event("reply", line=line, reply=reply.lines, words=words or None)

@@ -14,7 +14,7 @@ DESCRIPTOR_CELLS = ("info", "rg", "wg", "rd", "wd", "fdseq")
 
 
 def sockets_table(world: World, numbers: Optional[Iterable[int]] = None, is_all: bool = False) -> Table:
-    """The table of the sockets that aren't at rest, of all sockets, or of those with these numbers."""
+    """The table of the sockets that aren't at rest, of all sockets, or of the sockets with these numbers."""
     every = list(range(world.made(Of.SOCKET)) if numbers is None else numbers)
     cells = world.of_each(every, *SOCKET_CELLS)
     owners = {socket: descriptor for descriptor, socket in world.sockets_of_open().items()}
@@ -28,8 +28,8 @@ def sockets_table(world: World, numbers: Optional[Iterable[int]] = None, is_all:
 
 
 def _says_something(values: list[str], queues: list[list[int]]) -> bool:
-    """Whether a socket isn't at rest. A socket is at rest if no goroutine holds it or waits for it, and if its input is
-    empty or the socket is closed."""
+    """Whether a socket isn't at rest. A socket is at rest if no goroutine holds it or waits for it, and if it is closed
+    or its input is empty."""
     if values[0] == "absent":
         return False
     word = LockWord.of(int(values[0]))
@@ -52,7 +52,7 @@ def _socket_row(number: int, values: list[str], queues: list[list[int]], descrip
 
 
 def descriptors_table(world: World, numbers: Optional[Iterable[int]] = None, is_all: bool = False) -> Table:
-    """The table of the open descriptors, of all descriptors, or of those with these numbers."""
+    """The table of the open descriptors, of all descriptors, or of the descriptors with these numbers."""
     sockets = world.sockets_of_open()
     every = list(range(world.made(Of.DESCRIPTOR)) if numbers is None else numbers)
     shown = [number for number in every if is_all or numbers is not None or number in sockets]
@@ -63,7 +63,7 @@ def descriptors_table(world: World, numbers: Optional[Iterable[int]] = None, is_
 
 
 def rest_words(every: list[int], left: int, name: str, all_of_them: str) -> str:
-    """The message with the number of rows that aren't shown, or that there are no rows; empty if all rows are shown."""
+    """The message that says how many rows aren't shown, or that there are no rows; empty if all rows are shown."""
     if not every:
         return f"no {name} exists yet"
     return f"{left} {all_of_them}" if left else ""
@@ -87,7 +87,7 @@ def _descriptor_row(number: int, values: list[str], socket: Optional[int]) -> Ro
 
 
 def timers_table(world: World) -> Table:
-    """The clock, and the deadlines of open descriptors that haven't passed yet, in order of time."""
+    """The clock, and the deadlines of open descriptors that haven't passed yet, earliest first."""
     names = ("clock", "timers", "least", "firings")
     values = dict(zip(names, world.values(list(names))))
     clock = int(values["clock"])

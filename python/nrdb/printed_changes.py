@@ -1,5 +1,5 @@
 """The changes of a recording from one run of `netrev changes`, for callers without a session. The Python model of the
-machine takes many times as long."""
+machine would take many times as long."""
 
 import subprocess
 from typing import Optional
@@ -10,13 +10,13 @@ from .changed_lines import NoChanges
 from .recorded_changes import RecordedChanges
 from .recording import Recording
 
-# the seconds that netrev may take, and the additional seconds for each step: about as long as the model takes
+# the seconds that netrev may take, and the additional seconds for each step; the model takes about as long
 AT_LEAST, A_STEP = 5, 0.00005
 
 
 def printed_changes(netrev: str, path: str, recording: Recording) -> Optional[RecordedChanges]:
-    """The changes of a recording in a file, as netrev lists them. None if netrev can't be started, takes longer than
-    the model would, or refuses the recording."""
+    """The changes of a recording in a file, as netrev lists them. The result is None if netrev can't be started, takes
+    longer than the model would, or refuses the recording."""
     words, seconds = [netrev, "changes", file_word(path)], AT_LEAST + A_STEP * recording.length
     try:
         run = subprocess.run(words, stdin=subprocess.DEVNULL, capture_output=True, timeout=seconds, check=False)

@@ -26,7 +26,7 @@ class Answering(Protocol):
 
 @lru_cache(maxsize=1_024)
 def query_of(line: str) -> str:
-    """The form in which a line is sent to netrev, if the line is only a `print`; otherwise empty."""
+    """The form in which a line is sent to netrev, if the line is only a `print`; else empty."""
     try:
         parts = parts_of(line)
         words = whole_words(parts[0].split()) if len(parts) == 1 else [""]
@@ -36,8 +36,8 @@ def query_of(line: str) -> str:
 
 
 def runs_of(session: Answering, lines: Sequence[str]) -> Iterator[Sequence[str]]:
-    """The lines in runs. A run is a sequence of consecutive queries that may be sent together, or any other line alone.
-    Each run is determined after the lines before it have been answered."""
+    """Splits lines into runs. A run is a sequence of queries that may be sent together, or a single other line. Each
+    run is determined after the lines before it have been answered."""
     first = 0
     while first < len(lines):
         end = first + 1
@@ -48,7 +48,7 @@ def runs_of(session: Answering, lines: Sequence[str]) -> Iterator[Sequence[str]]
 
 
 def end_of_queries(lines: Sequence[str], first: int) -> int:
-    """The end of the consecutive queries that begin at a line, counting at most as many as are sent together."""
+    """The end of the queries that begin at a line, limited to as many as are sent together."""
     size = 0
     for at in range(first, min(first + MOST, len(lines))):
         query = query_of(lines[at])
@@ -68,7 +68,7 @@ def answer_run(session: Answering, run: Sequence[str]) -> bool:
 
 
 def lines_together(stream: TextIO) -> Iterator[list[str]]:
-    """The lines of a stream without trailing blanks, in lists of those that arrived together."""
+    """The lines of a stream without trailing blanks, in a list for all lines that arrived together."""
     raw = getattr(stream, "buffer", None)
     if not isinstance(raw, io.BufferedReader) or stream.errors is None:
         yield from ([line.rstrip()] for line in stream)

@@ -1,5 +1,5 @@
-"""Recorded answers as text: the answers that a step of each kind can have, their meanings, and hints about a program's
-answer that differs from the machine's answer."""
+"""Recorded answers as text: the answers that a step of each kind can have, and their meanings. Hints explain why a
+program's answer may differ from the machine's."""
 
 import json
 from typing import Any, Optional
@@ -96,7 +96,7 @@ def spelled(kind: str) -> str:
 
 
 def meaning(kind: str, recorded: Any) -> Optional[str]:
-    """The meaning of a difference between the program's answer and the machine's answer."""
+    """What a difference between the program's answer and the machine's answer means."""
     if name_of(recorded) not in KINDS[kind].answers:
         return messages.ONLY_ANSWERS.format(kind=kind, answers=spelled(kind))
     return MEANS.get(kind)

@@ -1,6 +1,6 @@
 """The output of `netrev changes` for a recording: the cells that each step changed, with their new values. At first the
-lines are kept as text. For a caller with many queries they become arrays of numbers, two for each cell, with each value
-stored once, because a million steps change several million cells."""
+lines are kept as text. After many queries they become arrays of numbers, two for each cell. Each value is stored once,
+because a million steps change several million cells."""
 
 from array import array
 from bisect import bisect_left, bisect_right
@@ -24,7 +24,7 @@ class Change(NamedTuple):
 
 
 class Told(NamedTuple):
-    """The changes of a range of steps. Their lines are in one text, with a line feed before each line."""
+    """The changes of a range of steps. The lines are in one text, with a line feed before each line."""
 
     first: int
     end: int
@@ -63,7 +63,8 @@ def value_at_start(cell: str) -> str:
 
 
 class RecordedChanges:
-    """The changes of a recording's steps. They may still be arriving; a caller waits for the changes that it needs."""
+    """The changes of a recording's steps. The changes may still be arriving; a caller waits for the changes that it
+    needs."""
 
     def __init__(self) -> None:
         # for each cell, the numbers of its changes
@@ -114,7 +115,7 @@ class RecordedChanges:
         return next((value for _, value in self.back(cell, position)), value_at_start(cell))
 
     def back(self, cell: str, position: int) -> Iterator[tuple[int, str]]:
-        """The steps that changed a cell, from a position backwards, with the new values."""
+        """The steps up to a position that changed a cell, latest first, with the new values."""
         self._wait(position)
         if self._is_asked_little():
             return self._lines.back(cell, position)
@@ -126,20 +127,20 @@ class RecordedChanges:
         return [self.value(cell, position) for cell in cells]
 
     def steps_of(self, cell: str, until: Optional[int] = None) -> "array[int]":
-        """The steps that changed a cell, in rising order; only up to a position, if one is given."""
+        """The steps that changed a cell, in rising order. If `until` is given, only steps up to that position."""
         return array("I", (step for step, _ in self.changes_of(cell, until)))
 
     def nearest(
         self, cells: Sequence[str], are_wanted: Callable[[list[str]], bool], position: int, backwards: bool
     ) -> Optional[int]:
-        """The nearest position, in a direction, after a step that changed one of the cells and gave the cells wanted
-        values; None if no such position exists."""
+        """The nearest position in a direction at which a step has just changed one of the cells and the cells have
+        wanted values; None if no such position exists."""
         steps = sorted({step for cell in cells for step in self.steps_of(cell, position if backwards else None)})
         ways = reversed(steps[: bisect_left(steps, position)]) if backwards else steps[bisect_right(steps, position) :]
         return next((step for step in ways if are_wanted(self.values(step, cells))), None)
 
     def changes_of(self, cell: str, until: Optional[int] = None) -> list[tuple[int, str]]:
-        """The steps that changed a cell, with the new values; only up to a position, if one is given."""
+        """The steps that changed a cell, with the new values. If `until` is given, only steps up to that position."""
         self._wait(until)
         if self._is_asked_little():
             return list(self._lines.changes_of(cell, until))
@@ -166,7 +167,7 @@ class RecordedChanges:
         return (Change(int(step), cell, value) for step, cell, value in self.texts())
 
     def told(self) -> Iterator[Told]:
-        """All changes, some thousands of steps at a time, for a caller that needs few of the changes. Lines aren't
+        """All changes, some thousands of steps at a time, for a caller that needs few of the changes. The lines aren't
         parsed one by one."""
         self._wait(None)
         first = 1
@@ -175,8 +176,8 @@ class RecordedChanges:
             first = end
 
     def _is_asked_little(self) -> bool:
-        """Whether so few queries came that searching the lines is fast enough. If not, puts the changes so far into the
-        arrays."""
+        """Whether searching the lines is fast enough for the number of queries so far. If not, puts the changes so far
+        into the arrays."""
         self._asked += 1
         if self._asked > FEW:
             self._hold()
@@ -196,7 +197,7 @@ class RecordedChanges:
         self._held += 1
 
     def _wait(self, position: Optional[int]) -> None:
-        """Waits until the changes up to a position, or else all changes, have arrived."""
+        """Waits until the changes up to a position have arrived (None: all changes)."""
 
     # ---- reading the changes
 
@@ -212,11 +213,11 @@ class RecordedChanges:
         return self._is_whole
 
     def has(self, position: Optional[int]) -> bool:
-        """Whether the changes up to a position, or else all changes, have been read."""
+        """Whether the changes up to a position have been read (None: all changes)."""
         return self._is_whole or (position is not None and position < self._lines.last)
 
     def take(self, piece: bytes) -> None:
-        """Takes a piece of the output, which may end within a line."""
+        """Adds a piece of the output, which may end within a line."""
         text = self._rest + piece
         end = text.rfind(b"\n") + 1
         self._rest = text[end:]

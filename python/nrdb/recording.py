@@ -1,4 +1,4 @@
-"""The text of a recording: its steps by number, each with its line. netrev decides whether the text is a recording and
+"""The text of a recording, with its steps and their lines by number. netrev decides whether the text is a recording and
 whether its steps apply."""
 
 import json
@@ -30,8 +30,8 @@ Row = TypeVar("Row")
 
 
 class Step(NamedTuple):
-    """A step: its number from 1, its line, its kind, its arguments, and, in version 2, the recorded answer as JSON,
-    which is a string or a list of a string and a number."""
+    """A step: its number (from 1), its line, its kind and its arguments. In version 2, a step also has its recorded
+    answer as JSON: a string, or a list of a string and a number."""
 
     number: int
     line: int
@@ -40,7 +40,7 @@ class Step(NamedTuple):
     answer: Any = None
 
     def argument(self, name: str) -> Any:
-        """The argument with this name; None if the kind has none."""
+        """The argument with this name; None if steps of this kind have no such argument."""
         kind = KINDS.get(self.kind)
         if kind is None or name not in kind.arguments:
             return None
@@ -52,7 +52,7 @@ class Step(NamedTuple):
 
 
 class NoRecording(Exception):
-    """Raised for a text that isn't a recording: netrev didn't read the text, or read a different one."""
+    """Raised for a text that isn't a recording: netrev didn't accept it, or read a different text."""
 
 
 def parsed(text: bytes) -> Any:
@@ -99,7 +99,8 @@ class Recording:
         self.suspects: Optional[SuspectList] = None  # the output of `netrev suspects`, for a recording in a file
 
     def _are_arrays(self, end: int) -> bool:
-        """Whether each line before that place, except the first, begins as an array does. Then no line is blank."""
+        """Whether each line before that place, except the first line, begins as an array does, so that no line is
+        blank."""
         return self.data.count(b"\n[", 0, end) == self._starts.line_at(end) - 1
 
     @classmethod
@@ -136,7 +137,7 @@ class Recording:
         return self.data[: self._starts[number - 1]]
 
     def before_step(self, number: int) -> bytes:
-        """The text before the line of step `number`. The number may be that of the last step plus one."""
+        """The text before the line of step `number`, which may be one more than the last step's number."""
         return self.before_line(self._numbers[number]) if number <= self.length else self.data
 
     def between(self, first: int, last: int) -> bytes:
@@ -178,8 +179,8 @@ class Recording:
         return Step(number, self._numbers[number], kind, tuple(arguments), answer)
 
     def found_back(self, spelled: re.Pattern[bytes], until: int) -> Iterator[re.Match[bytes]]:
-        """The matches of a pattern in the lines of the first steps, latest first. The text is searched backwards in
-        pieces, each twice as long as the previous one."""
+        """The matches of a pattern in the lines of the steps up to a position, latest first. The text is searched
+        backwards in pieces, each twice as long as the previous one."""
         end, size = min(until, self.length), PIECE
         while end > 0:
             first = max(end - size, 0) + 1
@@ -217,7 +218,7 @@ class Recording:
             yield map(rows.__getitem__, lines)
 
     def steps_of(self, kinds: tuple[str, ...], until: int, socket: Optional[int] = None) -> Iterator[Step]:
-        """The steps of these kinds up to a position; only the steps at this socket, if one is given."""
+        """The steps of these kinds up to a position. If a socket is given, only the steps at that socket."""
         for number, values in self.arrays_like(kinds, until, socket):
             step = self._made(number, values)
             if step.kind in kinds and socket in (None, step.argument("s")):
@@ -226,7 +227,7 @@ class Recording:
     def arrays_like(
         self, kinds: tuple[str, ...], until: int, socket: Optional[int] = None
     ) -> Iterator[tuple[int, list[Any]]]:
-        """The arrays of steps of these kinds, with their numbers. Other steps may be among them."""
+        """The arrays of the steps of these kinds, with the steps' numbers. The result may have other steps too."""
         numbers = list(self._numbers_of(kinds, until, socket))
         lines = [self.line(self._numbers[number]) for number in numbers]
         yield from zip(numbers, parsed(b"[%s]" % b",".join(lines)))
@@ -238,8 +239,8 @@ class Recording:
         return b"\\" in self.data
 
     def _numbers_of(self, kinds: tuple[str, ...], until: int, socket: Optional[int]) -> Iterable[int]:
-        """The numbers of steps of these kinds, from a search of the text if that finds all of them. Other steps may be
-        among them."""
+        """The numbers of the steps of these kinds, from a search of the text if that finds all of them. The result may
+        have other steps too."""
         until = min(until, self.length)
         if not until or self.has_escapes:
             return range(1, until + 1)
@@ -252,8 +253,7 @@ class Recording:
         return self._numbers_at(places, self._numbers[1], begin)
 
     def _numbers_at(self, places: Iterable[int], line: int, begin: int) -> Iterator[int]:
-        """The numbers of the steps at these places of the text, in rising order. The search starts at a line's
-        beginning."""
+        """The numbers of the steps at these places of the text, which rise and begin at the beginning of a line."""
         for place in places:
             line += self.data.count(b"\n", begin, place)
             begin = place

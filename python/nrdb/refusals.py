@@ -1,5 +1,5 @@
-"""Explains why netrev refuses a recording: names the line and what to correct in it. For a step that doesn't apply, or
-whose recorded answer differs from the machine's, also the values just before the step."""
+"""Explains why netrev refuses a recording: names the line and what to correct in it. If a step doesn't apply, or its
+recorded answer differs from the machine's, the module also shows the values just before the step."""
 
 import json
 import os
@@ -94,7 +94,7 @@ def with_meaning(kind: str, answer: Any) -> str:
 
 def likely(recording: Recording, step: Step, shown: list[str]) -> Iterator[Any]:
     """The answers that the machine may give to a step, derived from the values just before the step. netrev then
-    decides which of them is right."""
+    decides which answer is right."""
     for name in KINDS[step.kind].answers:
         if name == "code":
             yield from (["code", code] for code in range(4))
@@ -105,8 +105,7 @@ def likely(recording: Recording, step: Step, shown: list[str]) -> Iterator[Any]:
 
 
 def count_of(recording: Recording, step: Step, shown: list[str]) -> int:
-    """The number in the machine's answer to a step: the number of the new object, or the number of bytes that the step
-    moves."""
+    """The number in the machine's answer to a step: a new object's number, or how many bytes the step moves."""
     earlier = step.number - 1
     if step.kind == "pollopen":
         return opened_by(recording, earlier)[1]
@@ -124,7 +123,7 @@ def held(shown: list[str], cell: str) -> int:
 
 
 def is_taken(program: str, recording: Recording, step: Step, answer: Any) -> bool:
-    """Whether netrev accepts the recording up to this step, with this answer for the step."""
+    """Whether netrev accepts the recording up to this step, if the step has this answer."""
     line = json.dumps([step.kind, *step.arguments, answer]).encode()
     with tempfile.TemporaryDirectory(prefix="nrdb-") as folder:
         cut = os.path.join(folder, "cut.jsonl")

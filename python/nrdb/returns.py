@@ -15,8 +15,9 @@ def function_at(recording: Recording, goroutine: int, position: int) -> str:
 
 
 def position_of_return(recording: Recording, goroutine: int, position: int) -> Optional[int]:
-    """The position before the goroutine's first step outside the function that it is in. None if no such step exists or
-    the function isn't known. A call of the function from another line or from another function counts as outside."""
+    """The position before the goroutine's first step outside the function that it is in; None if no such step exists,
+    or if the function isn't known. A call of the function from another line or from another function counts as
+    outside."""
     frames = frames_from_own(stack_at(recording, goroutine, position))
     whose = book_of(recording).whose.goroutines
     later = (number for number in range(position + 1, recording.length + 1) if whose[number - 1] == goroutine)
@@ -34,7 +35,7 @@ def stack_at(recording: Recording, goroutine: int, position: int) -> Stack:
 
 
 def frames_from_own(stack: Stack) -> tuple[Call, ...]:
-    """The calls of a stack, from the program's innermost call outwards."""
+    """The calls of a stack, beginning with the program's innermost call."""
     found = stack.own()
     return stack.calls[stack.calls.index(found[0]) :] if found else ()
 

@@ -1,8 +1,6 @@
-"""A second netrev on the same recording for queries at other positions, so that the session's position, marks and
-checkpoints stay as they are.
-
-An interrupted query may leave unread replies. The scout therefore ends that netrev, and the next query starts another.
-If netrev ended by itself, the scout repeats the query once."""
+"""A second netrev on the same recording, for queries at other positions. The session's position, marks and checkpoints
+stay as they are. Since an interrupted query may leave unread replies, the scout then ends that netrev, and the next
+query starts another. If netrev ended by itself, the scout repeats the query once."""
 
 from typing import Callable, Optional, Sequence, TypeVar
 
@@ -21,9 +19,9 @@ class Lost(Exception):
 
 
 class Scout:
-    """Answers queries at any position. The first query starts netrev, and a later query starts it again when its
-    journal is nearly full. A session in which nothing moves may lend its own netrev for the first queries; that session
-    ends the lent netrev itself."""
+    """Answers queries at any position. The first query starts netrev. A later query starts it again when its journal is
+    nearly full. A session that never moves may lend its own netrev for the first queries, and ends that netrev
+    itself."""
 
     def __init__(self, opened: Callable[[], Netrev], lent: Optional[Netrev] = None):
         self._opened = opened
@@ -40,13 +38,13 @@ class Scout:
                 raise Lost(f"{error.filename}: {error.strerror}") from None
 
     def drop(self) -> None:
-        """Ends netrev, whatever netrev is doing. A lent netrev is given back instead."""
+        """Ends netrev, even in the middle of a query. A lent netrev is given back instead."""
         dropped, self._netrev = self._netrev, None
         if dropped is not None and dropped is not self._lent:
             dropped.drop()
 
     def look(self, position: int, looks: Callable[[Netrev], Seen]) -> Seen:
-        """The result of a query at the position, from the second netrev."""
+        """The second netrev's result of a query at the position."""
         return self._anew(lambda: looks(self._at(position)))
 
     def values(self, position: int, cells: Sequence[str]) -> list[str]:

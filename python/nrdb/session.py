@@ -1,4 +1,4 @@
-"""A session. Each line goes to netrev, or the session answers it. Each move prints the new position."""
+"""A session. A session answers a line itself, or sends it to netrev. Each move prints the new position."""
 
 from dataclasses import dataclass, field
 from typing import Callable, Mapping, Optional, Sequence
@@ -35,7 +35,7 @@ Answering = Callable[["Session", list[str]], Optional[bool]]  # False if the ses
 
 @dataclass
 class Session:
-    """The state of a session: netrev, the recording and the second netrev if they exist, and the printer."""
+    """The state of a session."""
 
     netrev: Netrev
     recording: Optional[Recording]
@@ -163,7 +163,7 @@ class Session:
     def pass_on(self, line: str, words: list[str]) -> bool:
         """Sends a line to netrev, and shows netrev's reply. A line that netrev knows is sent as it was typed."""
         sent = " ".join(words) if words[0] in COMMANDS else line
-        # (a stop deletes the temporary breaks that it names, so the marks are listed before it)
+        # (a stop deletes the temporary breaks that hit, so the marks are listed before the move)
         stood = self.netrev.marks() if words[0] in STOPPING and self.recorded else []
         reply = self.stop_of(sent) if words[0] in STOPPING else self.netrev.ask(sent)
         self.show(line, reply, words[0] == "dump")
@@ -189,7 +189,7 @@ class Session:
             self.printer.note(line)
 
     def stop_of(self, sent: str) -> Reply:
-        """The reply to a move that ends at a stop. The move continues past marks whose conditions don't hold."""
+        """The reply to a move that ends at a stop. The move continues past marks with conditions that aren't true."""
         while True:
             reply = self.back_to_a_break(sent, self.netrev.ask(sent))
             move = move_of(sent, reply.first) if MOVED.fullmatch(reply.first) and sent != "resume" else None
@@ -201,17 +201,18 @@ class Session:
             self.interrupts.check()
 
     def holding(self, marks: Sequence[str]) -> list[str]:
-        """Those of the marks that hit which have no condition or a condition that holds at the session's position."""
+        """The marks that hit, except marks with a condition that isn't true at the session's position."""
         return [mark for mark in marks if mark not in self.conditions or self.holds(self.conditions[mark])]
 
     def holds(self, condition: Condition, position: Optional[int] = None) -> bool:
-        """Whether a condition holds at a position. The default is the session's position."""
+        """Whether a condition is true at a position, by default at the session's."""
         cell = condition.cell
         value = self.netrev.values([cell])[0] if position is None else self.changes().value(cell, position)
         return condition.is_met(value, self.words_of(cell, value))
 
     def back_to_a_break(self, sent: str, reply: Reply) -> Reply:
-        """The reply to a move. If the move passed a break of the program, the reply to the move back to that break."""
+        """The reply to a move. If the move passed a break at a place of the program, the session moves back to that
+        break, and the result is the reply to that."""
         if not self.breaks.standing or not MOVED.fullmatch(reply.first):
             return reply
         position = move_of(sent, reply.first).position
@@ -270,7 +271,7 @@ class Session:
             self.stood = now
 
     def go(self, position: int) -> str:
-        """Goes to the position, whatever the session's direction is, and returns the reply to the last command."""
+        """Goes to the position in either direction, and returns the reply to the last command."""
         return go_to(position, self.ask)
 
     def source(self, path: str) -> bool:

@@ -1,5 +1,5 @@
-"""The forms of netrev's replies, as docs/reference/COMMANDS.md gives them. Each reply must have the form for its line,
-so that nrdb doesn't mistake it for the reply to another line. A reply in another form isn't netrev's."""
+"""The forms of netrev's replies, which docs/reference/COMMANDS.md describes. Each reply must have the form for its
+line, so that nrdb doesn't mistake it for the reply to another line. A reply in another form isn't netrev's."""
 
 import re
 from typing import Callable, Match, NamedTuple
@@ -53,8 +53,8 @@ class Position(NamedTuple):
 
 
 class Move(NamedTuple):
-    """The result of a move: the new position, whether the position is an end of the recording, and the numbers of the
-    marks that hit."""
+    """The result of a move: the new position, whether it is an end of the recording, and the numbers of the marks that
+    hit."""
 
     position: int
     is_end: bool
@@ -73,8 +73,8 @@ class Listed(NamedTuple):
 
 
 def matched(shape: re.Pattern[str], line: str, reply: str) -> Match[str]:
-    """The parts of a reply to this line. The reply must have this form; otherwise raises Refused for a fault, and
-    Strange for anything else."""
+    """The parts of a reply to this line. If the reply doesn't have this form, raises Refused for a fault, and Strange
+    for anything else."""
     found = shape.fullmatch(reply)
     if found is None:
         raise Refused(reply) if reply.startswith("fault ") else Strange(line, reply)
@@ -125,8 +125,8 @@ def is_shaped(what: str, value: str, is_dump: bool) -> bool:
 
 
 def go_to(position: int, ask: Callable[[str], str]) -> str:
-    """Goes to a position, whatever the direction is, through the function that asks netrev, and returns the reply to
-    the last command."""
+    """Goes to a position in either direction, and returns the reply to the last command. `ask` sends a line to
+    netrev."""
     now, _, direction = position_of(ask("info position"))
     if position == now:
         return f"at {now}"

@@ -23,8 +23,8 @@ LAST = re.compile(r"ok (\d+) steps")
 
 
 class LostWakeUp(NamedTuple):
-    """A goroutine that is parked at a side. The readiness of the side's last event was taken, and no try on the side
-    has been answered EAGAIN since."""
+    """A goroutine that is parked at a side, although the readiness of the side's last event was taken, and no try on
+    the side has been answered EAGAIN since."""
 
     line: str
     goroutine: int
@@ -49,8 +49,8 @@ class HeldReference(NamedTuple):
 
 class OfDeadline(NamedTuple):
     """The effect of a side's deadline at a step: the deadline passed, a goroutine's call ended with it, or it was
-    withdrawn before that goroutine checked. Also the step that set the deadline, the sides for which that step set it,
-    and the first later setting of the other side alone."""
+    withdrawn before that goroutine checked. `setting` is the step that set the deadline, for the sides `sides`; `moved`
+    is the first later setting of the other side alone."""
 
     line: str
     step: int
@@ -63,9 +63,9 @@ class OfDeadline(NamedTuple):
 
 
 class Listed:
-    """The entries of a list of suspects: lost wake-ups, in order; goroutines that sleep although their side must be
-    answered, by goroutine, descriptor and side; held references, by socket and goroutine; deadlines that passed, in
-    order; deadlines that ended calls, by step; and deadlines that were withdrawn, by step, descriptor and side."""
+    """The entries of a list of suspects. Lost wake-ups and passed deadlines are in order. Sleeping goroutines whose
+    side must be answered are keyed by goroutine, descriptor and side. Held references are keyed by socket and
+    goroutine, and timeouts by step. Withdrawn deadlines are keyed by step, descriptor and side."""
 
     def __init__(self, lines: Iterable[str] = ()) -> None:
         self.lost_wake_ups: list[LostWakeUp] = []
@@ -78,7 +78,7 @@ class Listed:
             self._take(line)
 
     def _take(self, line: str) -> None:
-        """Adds a line. The rules ignore a line of an unknown form."""
+        """Adds a line. A line of an unknown form is ignored."""
         if found := OF_A_DEADLINE.fullmatch(line):
             self._take_deadline(line, *found.groups())
         elif found := HELD_REFERENCE.fullmatch(line):

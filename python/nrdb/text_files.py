@@ -11,8 +11,8 @@ MOST_BYTES = 2**20
 
 
 def lines_of_script(path: str) -> list[str]:
-    """The lines of a file of commands; raises an OSError if the file can't be read. Bytes that aren't UTF-8 are passed
-    on unchanged."""
+    """The lines of a file of commands; raises an OSError if the file can't be read. Bytes that aren't UTF-8 are kept
+    unchanged."""
     check_name(path)
     return Path(path).read_text(encoding="utf-8", errors="surrogateescape").splitlines()
 

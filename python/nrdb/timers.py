@@ -67,7 +67,7 @@ class Following:
 
 
 def _timer(armed: Optional[Armed], is_stale: bool) -> Timer:
-    """A timer in the form for printing."""
+    """A timer of the machine, in the form that is printed."""
     assert armed  # (netrev has popped one)
     socket, step, g = armed.setter
     return Timer(armed.covers, armed.descriptor, socket, armed.due, step, g, is_stale)

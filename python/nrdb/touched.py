@@ -10,7 +10,8 @@ from .whose import AS_BEFORE, NONE, OF_A_DESCRIPTOR, OF_A_SOCKET, Place, row_of
 
 
 class Touched(Counter[Place]):
-    """How many of the steps from `first` to `last` each goroutine made on each socket."""
+    """For each goroutine and socket, the number of steps from `first` to `last` that the goroutine made on the
+    socket."""
 
     def __init__(self, notes: Notes, first: int, last: int) -> None:
         super().__init__()
@@ -43,8 +44,8 @@ class Touched(Counter[Place]):
             self[g, named[g]] += 1
 
     def _named_before(self, g: int) -> int:
-        """The socket that a goroutine last named before these steps. The goroutine continues a call that it began then,
-        so its status belongs to that socket."""
+        """The socket that a goroutine named last before these steps. The goroutine is still in a call on that socket,
+        so its status shows it."""
         begun, words = 0, [""]
         for step, status in self._notes.changes.back(f"gor {g}", self._begin):
             if status == "idle":

@@ -1,6 +1,6 @@
-"""`info goroutines`: for each goroutine that is neither idle nor gone, what it does and what it waits for, in the
-poller or elsewhere. This is usually the first query when a program hangs, so the lock for which a thousand goroutines
-wait is read only once."""
+"""`info goroutines`: what each goroutine that is neither idle nor gone does, and what it waits for in the poller or
+elsewhere. This is usually the first query when a program hangs, so a lock is read only once even if a thousand
+goroutines wait for it."""
 
 from functools import cached_property
 from typing import Iterable, Mapping, Optional
@@ -57,7 +57,8 @@ def lock_of(status: str) -> Optional[Lock]:
 
 
 def queues_of(world: World, statuses: Iterable[str]) -> dict[Lock, Queue]:
-    """The queues in which goroutines with these statuses wait, keyed by lock, each with the step that took the lock."""
+    """The queues in which goroutines with these statuses wait, keyed by lock. Each queue has the step that took the
+    lock."""
     queues = {lock: Queue(world, *lock) for lock in map(lock_of, statuses) if lock}
     taken = [lock for lock, queue in queues.items() if queue.is_taken]
     found = takings(world.recording, world.position, taken)
@@ -108,7 +109,7 @@ class Waits:
         )
 
     def _owed(self, socket: int, queue: Queue) -> str:
-        """The goroutines that owe releases on a socket, and whether the socket is closed."""
+        """Words that name the goroutines that owe releases on a socket, and say whether the socket is closed."""
         owed = "".join(f"; goroutine {number} owes a release there" for number in self._owing.get(socket, ()))
         return owed + ("; the socket is closed" if queue.word.closed else "")
 
@@ -139,8 +140,8 @@ class Waits:
 
 
 def goroutines_table(world: World, numbers: Optional[Iterable[int]] = None, is_all: bool = False) -> Table:
-    """The table of the goroutines that do something or wait, of all goroutines, or of those with these numbers. Waiting
-    goroutines without a step in the recording come last."""
+    """The table of the goroutines that do something or wait, of all goroutines, or of the goroutines with these
+    numbers. Waiting goroutines without a step in the recording come last."""
     every = list(range(world.made(Of.GOROUTINE)) if numbers is None else numbers)
     statuses = {number: status for number, (status,) in world.of_each(every, "gor").items()}
     elsewhere = {wait.name: wait for wait in waits_of(world.recording).all_at(world.position)}
@@ -169,13 +170,14 @@ def goroutines_table(world: World, numbers: Optional[Iterable[int]] = None, is_a
 
 
 def _row(number: int, goid: int, status: str, why: str) -> Row:
-    """The row of a goroutine; `goid` is Go's own number if several goroutines had the recording's number, else 0."""
+    """The row of a goroutine. `goid` is Go's own number for it if several goroutines had its number in the recording,
+    else 0."""
     values = {"goroutine": number, **({"goid": goid} if goid else {}), "status": status, "waits_for": why}
     return Row(values, f"gor {number:<4} {f'(goid {goid}) ' if goid else ''}{status:<16} {why}".rstrip())
 
 
 def _with_wait(row: Row, wait: Waiting) -> Row:
-    """The row of a goroutine that is idle for netrev and waits outside the poller."""
+    """The row of a goroutine that waits outside the poller, and is idle by its status."""
     values = row.values | {"waits_for": wait.does, "elsewhere": True}
     return _with_line(Row(values, f"{row.text:<25} {wait.does}"), wait.stack, wait.first)
 
@@ -187,8 +189,7 @@ def row_of_wait(wait: Waiting) -> Row:
 
 
 def _with_line(row: Row, stack: Stack, step: int) -> Row:
-    """The row with the program's line, the step since which the goroutine has been at that line, and the line that
-    started it."""
+    """The row with the program's line, since which step the goroutine has been there, and the line that started it."""
     if not stack.calls:
         return row
     started = f"; started at {stack.made.place()}" if stack.made else ""

@@ -1,4 +1,4 @@
-"""The waits of goroutines outside the poller, as NAME.where has them, and the goroutines by name."""
+"""The waits of goroutines outside the poller, from NAME.where, and the names of goroutines."""
 
 from bisect import bisect_right
 from collections import defaultdict
@@ -51,8 +51,8 @@ class Name(NamedTuple):
 
 
 class Waiting(NamedTuple):
-    """A wait outside the poller: the steps after which it began and ended (None: it doesn't end), the reason, its
-    stack, the goroutine that ended it, if known, and the objects, each with the operation that the goroutine waits
+    """A wait outside the poller: the steps after which it began and ended (None: it doesn't end), the reason, the
+    stack, and the goroutine that ended it, if known. Each of its objects has the operation that the goroutine waits
     for."""
 
     name: Name
@@ -91,8 +91,8 @@ class Waiting(NamedTuple):
 
 
 class Waits:
-    """The waits outside the poller of a recording, keyed by goroutine, each list in the order of the waits'
-    beginnings."""
+    """A recording's waits outside the poller, keyed by goroutine. Each list is in the order in which the waits
+    began."""
 
     def __init__(self, waits: Iterable[Waiting]) -> None:
         self.of: dict[Name, list[Waiting]] = defaultdict(list)
@@ -118,8 +118,7 @@ class Waits:
 
 @lru_cache(maxsize=2)
 def waits_of(recording: Recording) -> Waits:
-    """The waits outside the poller in NAME.where: the waits of all goroutines, or, in the first format, of goroutines
-    with steps."""
+    """The waits outside the poller in NAME.where. The first format has only the waits of goroutines with steps."""
     lines = recording.lines
     if lines.parks:
         return Waits(of_park(lines, park) for parks in lines.parks.values() for park in parks)
@@ -143,15 +142,15 @@ def of_park(lines: Lines, park: Park) -> Waiting:
 
 
 def name_of_goid(lines: Lines, goid: int, step: Optional[int] = None) -> Name:
-    """The name of the goroutine with this goid: its number in the recording at the step, if it has a number then, or
-    else its number at the end."""
+    """The name of the goroutine with this goid: its number in the recording at the step (by default at the end), or
+    else the goid."""
     number = lines.number_of(goid, step)
     return Name(number) if number >= 0 else Name(goid, True)
 
 
 def of_names(names: Iterable[Name]) -> str:
-    """Goroutines by their names: `goroutine 3`, `goroutines 3 and 5, goid 41`. If there are many, the first ones, and
-    the number of the others."""
+    """Goroutines by their names: `goroutine 3`, `goroutines 3 and 5, goid 41`. If there are many, only the first are
+    named, with the number of the others."""
     every = set(names)
     numbers, goids = (sorted(name.number for name in every if name.is_goid is is_goid) for is_goid in (False, True))
     named = [f"goroutine{'s' if numbers[1:] else ''} {listed(numbers)}"] if numbers else []

@@ -21,7 +21,7 @@ FORMS = (1, 2)  # formats of the file; the second has all goroutines
 
 
 class Call(NamedTuple):
-    """A call: its function, file and line, and whose code the function is."""
+    """A call: its function, file and line, and whether the code is Go's, a library's or the program's."""
 
     function: str
     file: str
@@ -39,7 +39,7 @@ class Stack(NamedTuple):
     made: Optional[Call]
 
     def own(self) -> Optional[tuple[Call, str]]:
-        """The innermost call of the program, or else of a library, with the function that this call calls."""
+        """The innermost call of the program, or else of a library, and the function that it calls."""
         for wanted in ((OF_THE_PROGRAM,), (OF_THE_PROGRAM, OF_A_LIBRARY)):
             inner = ""
             for call in self.calls:
@@ -49,12 +49,12 @@ class Stack(NamedTuple):
         return None
 
     def place(self) -> str:
-        """The program's line; only `in` and the innermost function if no line is known."""
+        """The program's line; if no line is known, only `in` and the innermost function."""
         found = self.own()
         return found[0].place() if found else self.words()
 
     def words(self) -> str:
-        """The program's line, and the function that it calls."""
+        """The program's line, and the function that the line calls."""
         found = self.own()
         if not found:
             return f"in {self.calls[0].function}" if self.calls else ""
@@ -63,9 +63,9 @@ class Stack(NamedTuple):
 
 
 class Wait(NamedTuple):
-    """A wait outside the poller: the steps after which the wait begins and ends (0: it doesn't end in the recording),
-    the goroutine, the reason in words (empty if only the stack shows the reason), the stack, and the goroutine that
-    ended the wait (-1: unknown)."""
+    """A goroutine's wait outside the poller: the steps after which it begins and ends (0: it doesn't end in the
+    recording), the reason in words (empty if only the stack shows it), the stack, and the goroutine that ended it (-1:
+    unknown)."""
 
     first: int
     last: int
@@ -80,7 +80,7 @@ class Unusable(Exception):
 
 
 class Lines(AllGoroutines):
-    """The source lines of a recording's steps, and the reason if NAME.where can't be used. A missing file isn't a
+    """The source lines of a recording's steps. If NAME.where can't be used, the reason is kept; a missing file isn't a
     fault."""
 
     def __init__(self, text: str = "", steps: int = 0) -> None:
@@ -119,7 +119,7 @@ class Lines(AllGoroutines):
         """Starts without any line."""
         self.steps = array("l")
         self.stacks: dict[int, Stack] = {0: Stack((), None)}
-        # the pairs of steps that the program orders; None if the recorder saw none
+        # the pairs of steps that the program orders; None if the recorder saw no order
         self.orders: Optional[list[tuple[int, int]]] = None
         self.bytes: Optional[
             int
@@ -144,7 +144,7 @@ class Lines(AllGoroutines):
         self.begin_goroutines()
 
     def _take(self, lines: Iterable[str], steps: int) -> None:
-        """Reads all lines of the file. If a line is wrong, none of them counts."""
+        """Reads all lines of the file. If one of them is wrong, none counts."""
         number = 0
         try:
             for number, line in enumerate(lines, 1):
@@ -234,7 +234,7 @@ class Lines(AllGoroutines):
         return [name for first, last, name in self.tests if first <= step <= last]
 
     def wait_of(self, goroutine: int, position: int) -> Optional[Wait]:
-        """The wait outside the poller in which a goroutine is at a position."""
+        """The wait outside the poller that a goroutine is in at a position."""
         waits = self.waits.get(goroutine, ())
         return next((one for one in waits if one.first <= position and (not one.last or position < one.last)), None)
 
@@ -252,8 +252,8 @@ def of_steps(first: Any, steps: int) -> None:
 
 
 def _later(values: Any) -> Any:
-    """The differences between times, as given; raises a TypeError or a ValueError if a value is invalid. A recording
-    may have a million of them."""
+    """Returns the given differences between times; raises a TypeError or a ValueError if a value is invalid. A
+    recording may have a million differences."""
     if set(map(type, values)) - {int}:
         raise TypeError
     if min(values, default=0) < 0:

@@ -18,8 +18,8 @@ OTHERS = ("sockopen", "pollopen", "pollclose", "pollevent", "pop", "fire")
 
 
 class Row(NamedTuple):
-    """The facts about a step from its line: how its socket and descriptor are found, its goroutine, the socket or
-    descriptor that it names, and its kind and arguments."""
+    """What a step's line says: how to find the step's socket and descriptor, its goroutine, the socket or descriptor
+    that it names, and its kind and arguments."""
 
     how: int
     goroutine: int
@@ -29,7 +29,7 @@ class Row(NamedTuple):
 
 
 def row_of(values: list[Any]) -> Row:
-    """The facts in a step's array."""
+    """What a step's array says about the step."""
     kind, *arguments = values
     named = dict(zip(KINDS[kind].arguments, arguments))
     how = AS_BEFORE

@@ -75,7 +75,7 @@ STATUSES = {
 
 
 def status_words(value: str) -> str:
-    """A goroutine's status as text, except `idle` and `gone`."""
+    """A goroutine's status as text; empty for `idle` and `gone`."""
     name, *rest = value.split()
     if name == "owing":
         return _owing(*rest)
@@ -84,7 +84,7 @@ def status_words(value: str) -> str:
 
 
 def poll_words(value: str) -> str:
-    """A descriptor's word as text, except `nil`."""
+    """A descriptor's wait word as text; empty for `nil`."""
     said = {
         "nil": "",
         "ready": "an event came that nobody has taken",
@@ -110,8 +110,8 @@ WORDS = {
 
 
 def in_words(cell: str, value: str) -> str:
-    """The meaning of a cell's value; empty if the value says everything. For `absent`, the caller knows the meaning
-    better."""
+    """The meaning of a cell's value; empty if the value says everything, and for `absent`, which the caller
+    explains."""
     words = WORDS.get(cell.split()[0])
     return words(value) if words and value != "absent" else ""
 
@@ -124,8 +124,8 @@ def dump_words(what: str, value: str) -> str:
 
 
 def absent_words(cell: str, limits: Mapping[str, Any]) -> str:
-    """The reason why a cell is absent: no object with that number exists yet, or none ever can, by the limits in the
-    recording's header."""
+    """The reason why a cell is absent: no object with that number exists yet, or, by the limits in the recording's
+    header, none can ever exist."""
     name, *number = cell.split()
     of = CELLS[name].of if name in CELLS else Of.SOCKET
     if of is Of.ALL:

@@ -48,7 +48,7 @@ class World:
         return [] if shown in ("-", "absent") else [int(word) for word in shown.split()]
 
     def made(self, of: Of) -> int:
-        """The number of goroutines, sockets or descriptors that exist. They are numbered from 0."""
+        """The number of goroutines, sockets or descriptors that exist. Their numbers begin with 0."""
         return made_at(self.netrev, of, room_for(self.recording, of))
 
     def sockets_of_open(self) -> dict[int, int]:
@@ -76,7 +76,7 @@ class Opened:
         return opened
 
     def next(self) -> int:
-        """The number that `pollopen` takes: the number of the descriptor freed last, or the next new one."""
+        """The number that `pollopen` takes: the number of the descriptor freed last, or the next new number."""
         return self.free[-1] if self.free else self.made
 
     def take(self) -> int:
@@ -104,16 +104,16 @@ def opened_within(recording: Recording, pieces: int) -> Opened:
 
 @lru_cache(maxsize=4)
 def opened_by(recording: Recording, position: int) -> tuple[dict[int, int], int]:
-    """The descriptors that are open after this many steps, each with its socket, and the number that the next
-    `pollopen` takes."""
+    """The descriptors that are open at a position, each with its socket, and the number that the next `pollopen`
+    takes."""
     pieces = position // PIECE
     opened = opened_within(recording, pieces).after(recording, pieces * PIECE, position)
     return opened.now, opened.next()
 
 
 def closings_and_openings(recording: Recording, first: int, last: int) -> Iterable[tuple[bytes, bytes]]:
-    """For each `pollclose` and `pollopen` among the steps from one position to another, a pair: the descriptor and an
-    empty text for a `pollclose`, an empty text and the socket for a `pollopen`."""
+    """A pair for each `pollclose` and `pollopen` among the steps from one position to another. The pair has the
+    descriptor and an empty text for a `pollclose`, and an empty text and the socket for a `pollopen`."""
     if not recording.has_escapes:
         return OF_POLL.findall(recording.between(first, last))
     steps = recording.steps_of(("pollopen", "pollclose"), last)
