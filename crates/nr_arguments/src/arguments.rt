@@ -95,7 +95,7 @@ fn file_command<'a>(alloc: Global, name: &'a str) -> Result<Command<'a>, AllocEr
     Command::new(alloc, name).arg(file)
 }
 
-// Returns the subcommand with one more optional argument.
+// Returns the subcommand with another optional argument.
 fn with_option<'a>(
     alloc: Global,
     program: Command<'a>,

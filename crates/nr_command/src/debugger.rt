@@ -13,7 +13,8 @@ use nr_rev::{Memory, Worlds};
 use nr_search::{Direction, Finder, Found, nearest_hit};
 use nr_snaps::Film;
 
-/// A position in a film, with marks and checkpoints. It holds no world: commands only move the position.
+/// A position in a film, with marks and checkpoints. A debugger holds no world: commands only move
+/// the position.
 #[derive(Debug, Drop)]
 pub struct Debugger {
     /// The number of steps before the position.

@@ -79,7 +79,8 @@ impl Debugger {
         }
     }
 
-    /// Returns the reply to a query about the debugger itself. It needs no world, and takes no memory.
+    /// Returns the reply to a query about the debugger itself. Such a query needs no world, and
+    /// takes no memory.
     pub fn look_within<W: Worlds + Drop>(&self, film: &Film<W>, query: Query) -> Reply
     where
         W::Snapshot: Drop,

@@ -96,7 +96,7 @@ impl Reply {
     ghost use Rattle.nr_text.specs.Auxiliary.Streams.{Prints};
 
     /// Writes the reply's text. If a write fails or accepts no bytes, it stops, and `Part(k)` says
-    /// that exactly the first k bytes were written. It takes no memory.
+    /// that exactly the first k bytes were written. Writing a reply takes no memory.
     pub fn print<W: Write>(&self, out: &mut Sink<W>) -> Result<(), Part>
         ensures { Prints out.old out.new (text_of self.now) result }
     {

@@ -20,11 +20,11 @@ pub after_words-append : (r : Recording) (d : Debugger) (xs ys : List ℕ) → a
 after_words-append r d [] ys = refl
 after_words-append r d (x ∷ xs) ys = after_words-append r (after_tagged r d (command_of x)) xs ys
 
--- the debugger after one more word
+-- the debugger after another word
 pub after_words-more : (r : Recording) (words : List ℕ) (word : ℕ) → after_words r opening (words ++ word ∷ []) ≡ after_tagged r (after_words r opening words) (command_of word)
 after_words-more r words word = after_words-append r opening words (word ∷ [])
 
--- after the command of the last word was run, the debugger is the one after all words
+-- after the command of the last word was run, the debugger has run all words
 pub run_last : (r : Recording) (words : List ℕ) (command : Command) (d d' : Debugger) → IsBehind r words command d → d' ≡ (run r command d).1 → d' ≡ after_words r opening words
 run_last r words command d d' b ran =
     ran ∙ ap (λ (x : Debugger). (run r command x).1) b.behind

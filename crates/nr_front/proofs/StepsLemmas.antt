@@ -107,7 +107,7 @@ learns_then a b d x y = record {
   unowed_still = y.unowed_still;
 }
 
--- one more word was read
+-- another word was read
 pub learns_word : (word : ℕ) (a b : FrontState) → owed_command a ≡ None → SeesWord word a b → Learns a b
 learns_word word a b unowed s = record {
   same = s.same;
@@ -162,7 +162,7 @@ seen_all_caught a b c = elim c.caught_up as (λ _. HasSeenAll b) [
   | inr p ↦ inr (p.1 ∙ sym (ap journal_room c.learns.same.table))
 ]
 
--- after one more word, the front has still read all words that its pass has learned of
+-- after another word, the front has still read all words that its pass has learned of
 pub seen_all_more : (word : ℕ) (a b : FrontState) → HasSeenAll a → SeesWord word a b → HasSeenAll b
 seen_all_more word a b all s = elim all as (λ _. HasSeenAll b) [
   | inl p ↦ inl (rw s.pass_state (p.0 ++ word ∷ [], ap (λ (l : List ℕ). l ++ word ∷ []) p.1 ∙ append_assoc a.pass_state.learned p.0 (word ∷ [])))

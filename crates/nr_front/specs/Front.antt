@@ -62,8 +62,9 @@ pub record FindsFull (old new : FrontState) : Type 0 where
   pub run : new.pending ≡ Nothing
 
 -- The front placed the command's word once, with its own tag, after the words that it has read.
--- These include all words that its pass had learned of. The words that this call read before its
--- own word are words of other fronts; if the journal has one pass, it read no such words.
+-- The words that it has read include all words that its pass had learned of. The words that this
+-- call read before its own word are words of other fronts; if the journal has one pass, the call
+-- read no such words.
 pub record PlacesCommand (command : Command) (old new : FrontState) : Type 0 where
   pub between : List ℕ
   pub same : IsUnmoved old new

@@ -19,7 +19,7 @@ abbrev pub pending_after : Option (ℕ × Command) → Pending
 pending_after None = Nothing
 pending_after (Some tagged) = Others tagged.1
 
--- the front read one more word, which is a word of another user, so the journal has more than one
+-- the front read the next word, which is a word of another user, so the journal has more than one
 -- pass
 pub record SeesWord (word : ℕ) (old new : FrontState) : Type 0 where
   pub same : IsUnmoved old new
@@ -36,7 +36,7 @@ FindsNone old new =
     × StartsWith old.pass_state.seen old.pass_state.learned)
     ⊎ ((new.pass_state ≡ old.pass_state) × (length old.pass_state.seen ≡ journal_room old.table))
 
--- if `true`, the front read one more word; if `false`, it found no further word
+-- if `true`, the front read the next word; if `false`, it found no further word
 abbrev pub Sees : FrontState → FrontState → Bool → Type 0
 Sees old new true = (word : ℕ) × SeesWord word old new
 Sees old new false = IsUnmoved old new × (new.pending ≡ Nothing) × FindsNone old new

@@ -1,5 +1,5 @@
-//! One user's *replica* of the shared session. It has a pass of the journal, and a debugger that
-//! runs the words that the pass reads, in the order of the journal: its own words and those of
+//! One user's *replica* of the shared session. A replica has a pass of the journal, and a debugger
+//! that runs the words that the pass reads, in the order of the journal: its own words and those of
 //! other fronts.
 #![tactic(auto)]
 

@@ -100,7 +100,7 @@ where
 
     /// Answers a query at the debugger's position. For a query about the world, it first moves the
     /// walker there. Fails with `Memory` if memory runs out on the way, or for a dump that isn't
-    /// empty. Nothing but the walker changes, even if it fails.
+    /// empty. Nothing but the walker changes, even if the call fails.
     pub(crate) fn look(&mut self, query: Query) -> Result<Reply, Memory>
         ensures recording { self.new.recording ≡ self.old.recording }
         ensures workers { self.new.workers ≡ self.old.workers }

@@ -87,7 +87,7 @@ where
         self.replica.look(query)
     }
 
-    /// Reads one more word, if there is one, and makes its command pending. Returns whether there
+    /// Reads the next word, if there is one, and makes its command pending. Returns whether there
     /// was a word.
     fn see(&mut self, journal: &Journal) -> bool
         requires table { self.old.table ≡ journal.now }

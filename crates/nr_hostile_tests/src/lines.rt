@@ -15,7 +15,7 @@ struct Part {
     end: End,
 }
 
-/// The part of one front, and the part after it.
+/// Lines for a front, and then lines for the same or another front.
 struct Session {
     /// What the session shows.
     topic: &'static str,

@@ -28,7 +28,7 @@ no_lines d w whole = record {
   count = λ n is. omega (arith, is);
 }
 
--- after one more line
+-- after another line was answered
 pub lines_more : (d p p' : FrontState) (old w w' : Outgoing) (held still : List ℕ) (lines : List (List ℕ)) (line text : List ℕ) (whole mid whole' : ℕ) → Batch d p old w held lines whole mid → Turn p line text p'
     → GoesBehind w held text w' still → whole' ≡ count_with mid text → Batch d p' old w' still (lines ++ line ∷ []) whole whole'
 lines_more d p p' old w w' held still lines line text whole mid whole' b turn goes counted = record {

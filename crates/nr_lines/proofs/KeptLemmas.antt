@@ -22,7 +22,7 @@ pub record IsKept (R : FrontState → FrontState → Type 0) : Type 0 where
   pub learns : (d d' : FrontState) → Learns d d' → R d d'
   -- the front's own word was placed
   pub places : (command : Command) (d d' : FrontState) → PlacesCommand command d d' → R d d'
-  -- one call followed the other
+  -- a call was followed by another call
   pub joins : (a b c : FrontState) → R a b → R b c → R a c
 
 module _ (R : FrontState → FrontState → Type 0) (kept : IsKept R) where

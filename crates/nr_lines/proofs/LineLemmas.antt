@@ -30,7 +30,7 @@ parts-feed (x ∷ xs) b bs e =
     ∙ elim (nat_eq x 10) as (λ t. cond t ([] ∷ (parts xs ++ parts bs)) (onto_first x (parts xs ++ parts bs)) ≡ cond t ([] ∷ parts xs) (onto_first x (parts xs)) ++ parts bs)
     [ true ↦ refl | false ↦ onto_first-append x (parts xs) (parts bs) (some_parts xs) ]
 
--- the parts after one more byte was appended to the last part
+-- the parts after a byte was appended to the last part
 abbrev grown : List (List ℕ) → ℕ → List (List ℕ)
 grown ps b = lines_in false ps ++ (last_part ps ++ b ∷ []) ∷ []
 
@@ -109,7 +109,7 @@ meaning_of-take line =
       | false ↦ λ short. ap meaning_of (take_all 257 line (let h = ltb-false _ _ short in omega (arith, h)))
     ] refl
 
--- the kept bytes of a line after one more byte
+-- the kept bytes of a line after another byte
 pub kept_more : (line : List ℕ) (b : ℕ) → take 257 (take 257 line ++ b ∷ []) ≡ take 257 (line ++ b ∷ [])
 kept_more line b =
     elim (nat_lt 256 (length line)) as (λ t. nat_lt 256 (length line) ≡ t → take 257 (take 257 line ++ b ∷ []) ≡ take 257 (line ++ b ∷ [])) [

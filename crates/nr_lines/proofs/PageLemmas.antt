@@ -19,12 +19,12 @@ nothing_printed old new held still same kept =
     subst (λ (w : Outgoing). GoesBehind old held [] w still) (sym same)
     (subst (λ (h : List ℕ). GoesBehind old held [] old h) (append-nil held ∙ sym kept) (held_behind old held []))
 
--- no bytes were held, and the text was written
+-- no bytes were held when the text was printed
 pub goes_alone : (old new : Outgoing) (text : List ℕ) (result : Result (Unit {0}) Part) → Prints old new text result → PrintsBehind old [] new [] text result
 goes_alone old new text (Ok _) prints = record { out = text; split = sym (append-nil text); sends = prints.0; calm = prints.1 }
 goes_alone old new text (Err part) prints = record { n = prints.n; within = prints.within; sends = prints.out; failed = prints.failed; count_is = λ _. prints.count_is }
 
--- the held bytes were written, and then the text
+-- the held bytes were written before the text was printed
 pub goes_then : (old mid new : Outgoing) (held text : List ℕ) (result : Result (Unit {0}) Part) → WritesAll old mid held → Prints mid new text result → PrintsBehind old held new [] text result
 goes_then old mid new held text (Ok _) first then = record {
   out = held ++ text;

@@ -19,9 +19,9 @@ last_part (part ∷ next ∷ more) = last_part (next ∷ more)
 abbrev pub unfinished_line : List ℕ → List ℕ
 unfinished_line text = last_part (slice_split (λ b. b == 10) text)
 
--- Of the bytes that came from a source, the loop has processed `read`. Its whole lines are
--- answered, none of them is `quit`, and all reads so far were prompt. The kept line is what follows
--- its last line feed, up to 257 bytes of it.
+-- Of the bytes that came from a source, the loop has processed `read`. The whole lines of `read`
+-- are answered, none of them is `quit`, and all reads so far were prompt. The kept line is what
+-- follows the last line feed of `read`, up to 257 bytes.
 pub record LoopInvariant (from left : Incoming) (old new : Outgoing) (d d' : FrontState)
     (came read line : List ℕ) (whole : ℕ) : Type 0 where
   pub texts : List (List ℕ)

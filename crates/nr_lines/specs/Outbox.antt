@@ -16,7 +16,7 @@ abbrev pub is_at_once : Outbox → Bool
 is_at_once AtOnce = true
 is_at_once (Held page) = false
 
--- An outbox printed a text, or a write failed in the process.
+-- An outbox printed a text, or a write failed while it was printed.
 pub record Delivers (old : Outgoing) (before : Outbox) (new : Outgoing) (after : Outbox)
     (text : List ℕ) (result : Result (Unit {0}) Part) : Type 0 where
   pub prints : PrintsBehind old (held_bytes before) new (held_bytes after) text result

@@ -27,7 +27,7 @@ pub record CutBehind (old : Outgoing) (held text : List ℕ) (new : Outgoing) (c
   pub failed : new.failed ≡ true
   pub count_is : held ≡ [] → count ≡ saturating_count n
 
--- True if a text was printed after the held bytes, or a write failed in the process.
+-- True if a text was printed after the held bytes, or a write failed while it was printed.
 abbrev pub PrintsBehind : Outgoing → List ℕ → Outgoing → List ℕ → List ℕ
     → Result (Unit {0}) Part → Type 0
 PrintsBehind old held new still text (Ok _) = GoesBehind old held text new still

@@ -24,7 +24,7 @@ pub(crate) const LINE_ROOM: usize = MAX_LINE + 1;
 
 /// Answers the lines that end in these bytes, up to a `quit`, and writes their replies. Returns
 /// whether there was a `quit`. The first line begins with the bytes in `line`. If there was no
-/// `quit`, `line` has what follows the last line feed afterwards.
+/// `quit`, `line` contains what follows the last line feed when the call returns.
 pub(crate) fn answer_bytes<W: Write, S: Worlds + Drop + Sync, F: Finder>(
     bytes: &[u8],
     line: &mut ArrayVec<u8, LINE_ROOM>,
@@ -53,7 +53,7 @@ where
     Ok(quits)
 }
 
-/// Answers the last line, which has no line feed, and writes its reply. Returns whether it is
+/// Answers the last line, which has no line feed, and writes its reply. Returns whether the line is
 /// `quit`.
 pub(crate) fn answer_last<W: Write, S: Worlds + Drop + Sync, F: Finder>(
     line: &[u8],

@@ -25,11 +25,11 @@ const CHUNK: usize = 512;
 /// line needs no line feed. Before each read, all whole lines so far are answered, and their
 /// replies are written.
 ///
-/// It may read past `quit`, or past the line whose reply wasn't written. If a read fails, the whole
-/// lines before it are answered. However it ends, the front can be used again, and each line up to
-/// that point was run, including a line whose reply wasn't written. It reports a failure if and
-/// only if a read or a write failed. It gives up after 2^64 - 1 reads, and reports the last of them
-/// as failed.
+/// The call may read past `quit`, or past the line whose reply wasn't written. If a read fails, the
+/// whole lines before it are answered. However the call ends, the front can be used again, and each
+/// line up to that point was run, including a line whose reply wasn't written. The call reports a
+/// failure if and only if a read or a write failed. It gives up after 2^64 - 1 reads, and reports
+/// the last read as failed.
 pub fn answer<R: Read, W: Write, S: Worlds + Drop + Sync, F: Finder>(
     r: &mut Source<R>,
     w: &mut Sink<W>,
@@ -51,7 +51,7 @@ where
     answer_by(&mut Outbox::AtOnce, r, w, front, journal)
 }
 
-/// Does the same as `answer`, for callers whose runtime may wait. It doesn't use the runtime.
+/// Does the same as `answer`, for callers whose runtime may wait. The runtime isn't used.
 pub fn serve<R: Read, W: Write, S: Worlds + Drop + Sync, F: Finder>(
     _rt: &impl Wait,
     r: &mut Source<R>,

@@ -20,7 +20,8 @@ use nr_search::Finder;
 use nr_text::{Part, Sink};
 use std::io::Write;
 
-/// Answers a line. Returns whether it is `quit`. `whole` counts the texts that were printed whole.
+/// Answers a line. Returns whether the line is `quit`. `whole` counts the texts that were printed
+/// whole.
 pub(crate) fn turn<W: Write, S: Worlds + Drop + Sync, F: Finder>(
     line: &[u8],
     outbox: &mut Outbox,

@@ -94,7 +94,7 @@ fn least_of_rows(rows: &[DescriptorRow]) -> Option<Entry>
     least
 }
 
-/// Returns the earlier one of a timer, if any, and an entry, if any.
+/// Returns the earlier of a timer's entry and another entry; either of them may be missing.
 fn earlier(descriptor: u32, side: Side, timer: Option<Timer>, least: Option<Entry>) -> Option<Entry>
     ensures { (entries : List Entry) → least ≡ least_of entries
         → result ≡ least_of (entry_of descriptor side timer ++ entries) }

@@ -130,7 +130,7 @@ impl PlainWorld {
     }
 
     /// Returns the count of waiters plus one. A well-formed world has at most two waiters per
-    /// descriptor, so `min` changes nothing. It only helps to prove that the sum fits.
+    /// descriptor, so `min` changes nothing; it only helps to prove that the sum fits.
     #[tactic(auto, using(nr_laws::proofs::WaitersLemmas::waiters_within))]
     fn one_waiter_more(&self) -> u64
         requires { WellFormed self.now }

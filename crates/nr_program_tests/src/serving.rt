@@ -24,13 +24,13 @@ enum Then {
     Ends,
     /// Its reads fail.
     Fails,
-    /// It sends bytes forever.
+    /// The caller sends bytes forever.
     GoesOn,
-    /// It sends bytes forever, and `end_replies` fails.
+    /// The caller sends bytes forever, and `end_replies` fails.
     IsGone,
 }
 
-/// A caller's lines, what it does after them, and the expected replies.
+/// A caller's lines, what the caller does after sending them, and the expected replies.
 struct Part {
     lines: &'static str,
     then: Then,
@@ -75,7 +75,7 @@ impl Seen {
     }
 }
 
-/// A caller with its part, and what it has received.
+/// A caller: what it sends and expects, and what it has received.
 #[derive(Clone, Copy)]
 struct Caller<'a> {
     part: &'a Part,

@@ -66,7 +66,7 @@ moved_on : (sent lines after more later rest all : List ℕ) → after ≡ lines
 moved_on sent lines after more later rest all waits cut is =
     ap (λ t. sent ++ (t ++ later)) waits ∙ ap (λ t. sent ++ t) (append_assoc lines more later) ∙ ap (λ t. sent ++ (lines ++ t)) (sym cut) ∙ is
 
--- a stream that hasn't failed since has failed if and only if it had failed before
+-- if no later write failed, the stream has failed if and only if it had failed before
 pub calm_still : (a b : Bool) → b ≡ a → b ≡ (a || false)
 calm_still true b e = e
 calm_still false b e = e

@@ -161,7 +161,7 @@ go_on r s d (line ∷ lines) (text ∷ given) d' here none h =
           (rest.may_be later more (subst (λ (k : JournalSize). AllMayMeet r k rest.after later more) (sym size) may))));
     }
 
--- some lines and one more were answered
+-- some lines and the next line were answered
 record EndsBy (d : FrontState) (lines : List (List ℕ)) (line : List ℕ) (given : List (List ℕ)) (d' : FrontState) : Type 0 where
   pub front : List (List ℕ)
   pub text : List ℕ
@@ -208,7 +208,7 @@ pub record Replied (r : Recording) (s : SessionState) (d d' : FrontState) (from 
   pub there : IsInState r after d'
   pub says_it : says ran met
 
--- the words that a front sees with some lines and one more
+-- the words that a front sees with some lines and the next line
 seen_with : (r : Recording) (s : SessionState) (d : FrontState) (front : List (List ℕ)) (line : List ℕ) (given : List (List ℕ)) (text : List ℕ) (mid d' : FrontState) (on : GoOn r s d front given mid)
     → (last : Goes r on.after mid line text d') → d'.pass_state.seen ≡ d.pass_state.seen ++ words_seen d.pass_state.tag r s (front ++ line ∷ []) (on.met ++ last.met ∷ [])
 seen_with r s d front line given text mid d' on last =
@@ -223,7 +223,7 @@ seen_with r s d front line given text mid d' on last =
     none_behind true = refl
     none_behind false = refl
 
--- the texts of some lines and one more line
+-- the texts of some lines and of the next line
 texts_with : (r : Recording) (s : SessionState) (d : FrontState) (front : List (List ℕ)) (line : List ℕ) (given : List (List ℕ)) (text : List ℕ) (mid d' : FrontState) (on : GoOn r s d front given mid)
     → (last : Goes r on.after mid line text d') → texts_among r s (front ++ line ∷ []) (on.met ++ last.met ∷ []) ≡ given ++ text ∷ []
 texts_with r s d front line given text mid d' on last =
@@ -257,7 +257,7 @@ calm_may r journal s [] = tt
 calm_may r journal s (line ∷ lines) =
     (calm_one r journal s s.owed (meaning_of line), unless_calm (is_quit (meaning_of line)) (calm_may r journal (answer_among r s.owed (meaning_of line) calm s).1 lines))
 
--- some lines and one more encountered only what they may encounter
+-- some lines and the next line encountered only what they may encounter
 may_with : (r : Recording) (s : SessionState) (d : FrontState) (front : List (List ℕ)) (line : List ℕ) (given : List (List ℕ)) (text : List ℕ) (mid d' : FrontState) (on : GoOn r s d front given mid)
     → (last : Goes r on.after mid line text d') (later all : List (List ℕ)) → all ≡ front ++ line ∷ later
     → UnlessQuit (is_quit (meaning_of line)) (AllMayMeet r (size_of mid) last.after later []) → AllMayMeet r (size_of d) s all (on.met ++ last.met ∷ [])

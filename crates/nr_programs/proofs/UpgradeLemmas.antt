@@ -45,7 +45,7 @@ wrote_part text wanted old new part failed =
     } in
     inr (refl, (saturating_count part.0, prefix))
 
--- a text was written after some lines
+-- a text was printed after some lines
 pub behind : (lines text : List ℕ) (wanted status : ExitStatus) (old mid new : Outgoing) → Sends old mid lines → mid.failed ≡ (old.failed || false)
     → EndsPrinting text wanted mid new status → EndsPrinting (lines ++ text) wanted old new status
 behind lines text wanted status old mid new before calm prints =

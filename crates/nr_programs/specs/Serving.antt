@@ -37,7 +37,7 @@ SharesAll r sharing before after history failed =
     × IsShared r sharing.journal sharing.fronts DELTAS_KEPT sharing.workers passed history failed
 
 -- The number of commands that the fronts placed was printed, or lack of memory if the history
--- couldn't be collected. Or memory ran out before the recording was shared: that was printed, and
+-- couldn't be collected. Or memory ran out before the recording was shared: this was printed, and
 -- no port was opened.
 abbrev pub Shares : Recording → Sharing → FrontsLog → FrontsLog → Outgoing → Outgoing → ExitStatus
     → Type 0

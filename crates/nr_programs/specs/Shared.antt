@@ -64,10 +64,10 @@ pub record EndsWithin (texts : List (List ℕ)) (sent : List ℕ) : Type 0 where
 -- received, starting from the front's state, and is all of them unless a write failed. If a read
 -- failed, an unfinished last line isn't a command. Before each read, all whole lines had been
 -- answered. If no read and no write failed, a read reached the end of the caller's input, or a line
--- is `quit`. The lines `ran` were run. They are the first lines, up to a line that is `quit` or
--- whose reply wasn't written, or else all lines. Only their texts were sent. If a write failed, the
--- last of them is the line whose text was cut. They encountered only what lines may encounter with
--- a journal of this size.
+-- is `quit`. The lines that were run, `ran`, are the first lines, up to a line that is `quit` or
+-- whose reply wasn't written, or else all lines. Only the texts of these lines were sent. If a
+-- write failed, the last line of `ran` is the line whose text was cut. All lines encountered only
+-- what lines may encounter with a journal of this size.
 pub record IsAnswered (r : Recording) (journal : JournalSize) (tag : ℕ) (c : Conversation)
     (s : SessionState) : Type 0 where
   pub met : List Met

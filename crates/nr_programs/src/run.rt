@@ -164,7 +164,7 @@ pub(crate) fn print<T: Text, O: Write>(
     }
 }
 
-// Prints two texts. Returns the given status if they were written whole.
+// Prints two texts. Returns the given status if both texts were written whole.
 pub(crate) fn print_both<A: Text, B: Text, O: Write>(
     first: &A,
     last: &B,

@@ -8,8 +8,9 @@ ghost use Rattle.nr_programs.specs.Transcript.{enough, no_memory_to_search, no_r
 
 /// A session over each short recording in scripts/recordings/: a wait that an event ends, forwards
 /// and backwards; a firing that a new deadline overtakes; an event that comes before its goroutine
-/// parks; and a lock that is taken from a woken goroutine. Also sessions over an empty run, over a
-/// run with a deadline at the last possible time, and over a run that reopens a descriptor.
+/// parks; and a lock that is taken from a woken goroutine. There are also sessions over an empty
+/// run, over a run with a deadline at the last possible time, and over a run that reopens a
+/// descriptor.
 pub fn short_runs_have_their_replies()
     ensures lock_and_reference { replies woken_run start true
         (codes "stepi 3\nprint lock 0\n") []
@@ -69,7 +70,7 @@ pub fn short_runs_have_their_replies()
 {}
 
 /// Two fronts, one with `stepi 3` and one with `reverse-stepi`, in both orders and with a journal
-/// of one word. Also a search that runs out of memory, until `resume` has enough.
+/// of one word. There is also a search that runs out of memory, until `resume` has enough.
 pub fn what_two_fronts_meet_is_answered()
     ensures forward_first { replies woken_run start true (codes "stepi 3\n") [] ≡ codes "at 3\n" }
     ensures then_back { replies_among woken_run start true

@@ -20,8 +20,8 @@ pub fn examples_have_their_replies()
 {}
 
 /// The replies to a line that lacks memory for a query, to a line that lacks memory for a search,
-/// until `resume` has enough, and to a line that lacks room in the journal. Also the reply to a
-/// command after another front's `stepi 5`.
+/// until `resume` has enough, and to a line that lacks room in the journal. The last clause shows
+/// the reply to a command after another front's `stepi 5`.
 pub fn what_lines_meet_is_answered()
     ensures refused_look { replies first_run start true (codes "print lock 0\nprint lock 0\n")
         (no_memory ∷ []) ≡ codes "fault 301 memory\nlock 0 = absent\n" }

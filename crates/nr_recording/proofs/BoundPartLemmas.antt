@@ -15,12 +15,12 @@ pub bind_ok : {A B E : Type 0} (r : Result A E) (f : A → Result B E) (y : B) �
 bind_ok (Ok x) f y e = (x, refl, e)
 bind_ok (Err d) f y e = absurd cc
 
--- if a test whose true branch fails succeeds, it took the false branch
+-- if a test succeeds although its true branch fails, it took the false branch
 pub guard_ok : {A E : Type 0} (b : Bool) (d : E) (r : Result A E) (y : A) → cond b (Err d) r ≡ Ok y → (b ≡ false) × (r ≡ Ok y)
 guard_ok true d r y e = absurd cc
 guard_ok false d r y e = (refl, e)
 
--- if a test whose false branch fails succeeds, it took the true branch
+-- if a test succeeds although its false branch fails, it took the true branch
 pub passed_ok : {A E : Type 0} (b : Bool) (d : E) (r : Result A E) (y : A) → cond b r (Err d) ≡ Ok y → (b ≡ true) × (r ≡ Ok y)
 passed_ok true d r y e = (refl, e)
 passed_ok false d r y e = absurd cc
@@ -42,7 +42,7 @@ pub then_some : {A B : Type 0} (f : A → Option B) (o : Option A) (y : B) → o
 then_some f (Some x) y e = (x, refl, e)
 then_some f None y e = absurd cc
 
--- if a test whose true branch is None has a value, it took the false branch
+-- if a test has a value although its true branch is None, it took the false branch
 pub kept_some : {A : Type 0} (b : Bool) (o : Option A) (y : A) → cond b None o ≡ Some y → (b ≡ false) × (o ≡ Some y)
 kept_some true o y e = absurd cc
 kept_some false o y e = (refl, e)

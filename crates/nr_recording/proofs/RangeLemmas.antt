@@ -150,7 +150,7 @@ of_found {A = A} kind step found kinded h ds p e = from (found ds) p (h ds) e
     from (Ok q) p h e = subst (λ (s : Step × Items). Makes kind s.0) (same_ok {E = Fault} (step q.0, q.1) p e) (record { kinded = kinded q.0; fitting = h q refl })
     from (Err f) p h e = absurd cc
 
--- reading a step of a kind whose steps all fit in a line
+-- if all steps of a kind fit in a line, so does each step of that kind that is read
 usual : {A : Type 0} (kind : Kind) (step : A → Step) (found : Items → Result (A × Items) Fault) → ((x : A) → kind_of (step x) ≡ kind) → ((x : A) → fits (step x) ≡ true)
     → MakesFitting kind (λ ds. step_from step (found ds))
 usual kind step found kinded h = of_found kind step found kinded (λ ds p e. h p.0)
@@ -202,7 +202,7 @@ pub none_before : (header : Option Header) (steps : List RecordedStep) → AreOf
 none_before None steps are none = are
 none_before (Some h) steps are none = absurd (none h refl)
 
--- adding a step of the header's version
+-- if a step of the header's version is added, all steps are still of that version
 pub one_more_of : (header : Option Header) (begun : Header) (steps : List RecordedStep) (step : RecordedStep) → header ≡ Some begun → AreOfHeader header steps → is_writable begun.version step ≡ true
     → AreOfHeader header (steps ++ step ∷ [])
 one_more_of None begun steps step is are one = absurd cc

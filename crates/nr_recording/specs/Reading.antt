@@ -46,7 +46,7 @@ pub record Seen : Type 0 where
 abbrev pub nothing : Seen
 nothing = record { header = None; steps = [] }
 
--- the state after the value of one more line
+-- the state after the value of the next line
 abbrev pub with_value : Seen → Option Header → Data → Result Seen Fault
 with_value seen None d = do
   version ← version_of d
@@ -58,7 +58,7 @@ with_value seen (Some header) d =
       step ← step_of header.version d
       Ok (record seen { steps = seen.steps ++ step ∷ [] })
 
--- the state after one more line
+-- the state after the next line
 unfoldable pub with_line : Seen → List ℕ → Result Seen Fault
 with_line seen line =
     if nat_lt MOST_LINE_BYTES (length line) then Err fault.Limit

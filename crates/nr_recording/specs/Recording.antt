@@ -14,7 +14,7 @@ pub record Recorded : Type 0 where
   pub limits : Limits
   pub steps : List RecordedStep
 
--- the steps with these answers, which belong to the first steps
+-- the steps with their answers, taken in order; steps beyond the last answer have none
 abbrev pub recorded : List Step → List Answer → List RecordedStep
 recorded [] answers = []
 recorded (step ∷ steps) [] = record { step = step; answer = None } ∷ recorded steps []

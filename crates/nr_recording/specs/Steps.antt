@@ -1,4 +1,4 @@
--- The step that a line denotes, and the line of a step, with a row of each for every kind.
+-- The step that a line denotes, with a row for each kind of step, and the line of a step.
 use Rattle.std.specs.Prelude.{Bool, true, false, Option, Some, None, option_and_then, Result, Ok, Err, if◌then◌else◌}
 use Rattle.serde_json.specs.Data.{Data, Items, no_items, item}
 use Rattle.serde_json.specs.Find.{as_str, as_array}

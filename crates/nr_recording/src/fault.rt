@@ -62,7 +62,7 @@ impl Display for Fault {
 #[derive(Clone, Copy, Debug, PartialEq, Eq)]
 pub struct OutOfMemory(pub Memory);
 
-/// Its text is the line `fault 108 memory`.
+/// The text of this error is the line `fault 108 memory`.
 impl Text for OutOfMemory {
     ghost text = { λ _. memory_line };
 
@@ -82,7 +82,7 @@ pub enum ReadFault {
     Memory(Memory),
 }
 
-/// Its text is a line such as `line 6: fault 102 not JSON` or `fault 108 memory`.
+/// The text of a fault is a line such as `line 6: fault 102 not JSON` or `fault 108 memory`.
 impl Text for ReadFault {
     ghost text = { read_fault_line };
 
@@ -112,8 +112,9 @@ pub enum MakeFault {
     /// There are more than 1,000,000 steps.
     #[error("more than 1,000,000 steps")]
     TooManySteps,
-    /// A step carries more than 65,536 bytes, sets the clock below 0, or shuts a write side in version 1. Or the number
-    /// of answers is wrong: version 1 has none, version 2 has one for each step.
+    /// A step carries more than 65,536 bytes, sets the clock below 0, or shuts a write side in
+    /// version 1. A wrong number of answers has the same error: version 1 has none, version 2 has
+    /// one for each step.
     #[error("a step carries too many bytes, sets the clock below 0 or is not of the version")]
     Step,
 }

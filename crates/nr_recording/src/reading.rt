@@ -118,7 +118,7 @@ impl RecordingReader {
         self.steps.len()
     }
 
-    // Stores one more step of the header's version.
+    // Stores the next step, which is of the header's version.
     #[inline(always)]
     fn keep(&mut self, begun: Header, last: RecordedStep) -> Result<(), Memory>
         requires begun { self.old.header ≡ Some begun }
@@ -131,7 +131,7 @@ impl RecordingReader {
         Ok(())
     }
 
-    // Reads one more step from the parts of its line.
+    // Reads the next step from the parts of its line.
     fn step(&mut self, begun: Header, alloc: Global, parts: Parts<'_>) -> Result<(), LineError>
         requires { self.old.header ≡ Some begun }
         ensures seen { ReadsBy (λ _. self.new) result
@@ -162,7 +162,7 @@ impl RecordingReader {
         self.step(begun, alloc, Parts::Values(elements(value).iter()))
     }
 
-    // Reads one more line. `parts` is its working space.
+    // Reads the next line. `parts` is working space for the call.
     #[tactic(auto, unfolding(crate::specs::Reading::with_line))]
     fn line<'a>(
         &mut self,

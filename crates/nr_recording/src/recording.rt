@@ -94,9 +94,9 @@ impl Recording {
     /// 2, none in version 1. Fails with `Limit` if a limit is out of its range, and otherwise with
     /// `TooManySteps` if there are more than 1,000,000 steps. Otherwise fails with `Step` if a step
     /// carries more than 65,536 bytes, sets the clock below 0, or shuts a write side in version 1,
-    /// or if the number of answers is wrong. An error drops the steps. The ranges are 1 to 4,096
-    /// goroutines, 1 to 256 sockets and descriptors, and a buffer of 1 to 65,536 bytes in version 1
-    /// and up to 1,048,576 in version 2.
+    /// or if the number of answers is wrong. If the call fails, the steps are dropped. The ranges
+    /// are 1 to 4,096 goroutines, 1 to 256 sockets and descriptors, and a buffer of 1 to 65,536
+    /// bytes in version 1 and up to 1,048,576 in version 2.
     pub fn new(
         version: Version,
         limits: Limits,
@@ -185,7 +185,8 @@ impl Recording {
         self.steps.is_empty()
     }
 
-    /// Returns step n, counted from 0. It carries at most 65,536 bytes, and does not set the clock below 0.
+    /// Returns step n, counted from 0. The step carries at most 65,536 bytes, and does not set the
+    /// clock below 0.
     pub fn step(&self, n: usize) -> Option<&Step>
         ensures value { option_copied result ≡ slice_get (run_of self.now).steps n }
         ensures fits { IfSome result (λ step. fits step.now ≡ true) }

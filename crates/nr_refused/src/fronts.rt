@@ -434,8 +434,8 @@ fn answered_all<H: Threads + Sync>(journal: &Journal, front: &mut Lone<'_, H>) -
     all
 }
 
-// Tests the six lines while requests may be refused, and then checks with the other front what the
-// lines left.
+// Tests the six lines while requests may be refused, and then uses the other front to check what
+// the lines have done.
 fn six_lines<H: Threads + Sync>(
     rt: &HostRuntime,
     journal: &Journal,

@@ -42,7 +42,7 @@ impl Seen {
     }
 }
 
-/// A caller with its part, and what it has received.
+/// A caller: what it sends and expects, and what it has received.
 #[derive(Clone, Copy)]
 pub(crate) struct Caller<'a> {
     part: &'a Part,

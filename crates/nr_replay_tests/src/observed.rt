@@ -11,8 +11,8 @@ use std::marker::Model;
 use std::sync::Arc;
 use std::sync::atomic::{AtomicU32, Ordering};
 
-/// A world over lists that counts the calls to it, and whose copies may run out of memory. Its model doesn't show these
-/// additions.
+/// A world over lists that counts the calls to it, and whose copies may run out of memory. The
+/// world's model shows neither the counts nor which copies are refused.
 #[derive(Drop)]
 pub struct Observed {
     world: PlainWorld,

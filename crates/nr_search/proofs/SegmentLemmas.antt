@@ -22,8 +22,8 @@ some-between after last every first count s some begins enters needed low high =
 split : (a b : ℕ) → (a < b) ⊎ (b ≤ a)
 split a b = grind arith
 
--- the boundary after k decided segments: forwards, all segments before it have no hit; backwards,
--- it and all segments after it
+-- the number of the segment at the boundary after the first k segments on the way: forwards, these
+-- have lower numbers; backwards, they have this number or higher ones
 abbrev pub border : Direction → ℕ → ℕ → ℕ → ℕ
 border Forward first count k = first + k
 border Backward first count k = first + (count - k)
@@ -124,7 +124,7 @@ module _ (hits : ℕ → List ℕ) where
   pub passed-first : (span : Span) → ArePassed span hits 0
   passed-first span = none-first span.direction span.after span.last span.every span.first span.count span.begins span.ends
 
-  -- passing one more segment, which has no hit
+  -- passing the next segment, which has no hit
   pub passed-next : (span : Span) (k : ℕ) (found : Found) → k < span.count → is_hit found ≡ false → ArePassed span hits k
       → IsFoundIn span hits (nth_on_way span.direction span.first span.count k) found → ArePassed span hits (k + 1)
   passed-next span k Nothing below miss passed found = next-passed span.direction span.after span.last span.every span.first span.count k below passed found

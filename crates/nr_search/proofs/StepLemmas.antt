@@ -23,7 +23,7 @@ neither : (a b : Bool) → (a || b) ≡ false → (a ≡ false) × (b ≡ false)
 neither true b none = cc
 neither false b none = (refl, none)
 
--- the number of the first mark, if it hits, followed by those of the others
+-- the number of the first mark, if it hits, followed by the numbers of the other marks that hit
 first-number : (here here' : Bool) (m : NumberedMark) (ms ms' : List NumberedMark) → here ≡ here' → map (λ x. x.number) ms ≡ map (λ x. x.number) ms'
     → map (λ x. x.number) (cond here (m ∷ ms) ms) ≡ map (λ x. x.number) (cond here' (m ∷ ms') ms')
 first-number true true m ms ms' same rest = ap (λ ns. m.number ∷ ns) rest

@@ -8,13 +8,13 @@ use Rattle.nr_marks.specs.Hit.{hits_at, hits_between, numbered}
 use Rattle.nr_marks.specs.Marks.{NumberedMark}
 use Rattle.nr_marks.specs.declared.mark.NextStep.{NextStep}
 
--- the numbers of a list of marks and of one more mark, if it is added
+-- the numbers of some items and of another item, if that item is added
 numbers-more : {X : Type 0} (number : X → ℕ) (ys : List X) (here : Bool) (x : X) → map number (ys ++ cond here (x ∷ []) []) ≡ map number ys ++ cond here (number x ∷ []) []
 numbers-more number [] true x = refl
 numbers-more number [] false x = refl
 numbers-more number (y ∷ ys) here x = ap (λ ns. number y ∷ ns) (numbers-more number ys here x)
 
--- one mark more
+-- the next mark
 pub numbers-next : {X : Type 0} (number : X → ℕ) (p : X → Bool) (xs : List X) (i : ℕ) (x : X) (so_far : List ℕ) (here : Bool) → i < length xs → x ≡ get_or xs i x
     → so_far ≡ map number (filter p (take i xs)) → p x ≡ here → so_far ++ cond here (number x ∷ []) [] ≡ map number (filter p (take (i + 1) xs))
 numbers-next number p xs i x so_far here within read before now =

@@ -14,8 +14,8 @@ IsFoundIn span hits s found =
     IsFound span.direction hits (from_of span.after span.every s + 1)
     (to_of span.last span.every s + 1) found
 
--- true if the slot is right about the segment: if it contains a search result, that is the
--- segment's
+-- true if the slot is right about the segment: if the slot contains a search result, this is the
+-- result of searching the segment
 pub record IsTrue (span : Span) (hits : ℕ → List ℕ) (s : ℕ) (slot : Slot) : Type 0 where
   pub found : (found : Found) → slot ≡ Searched found → IsFoundIn span hits s found
 

@@ -10,7 +10,7 @@ use Rattle.nr_search.specs.declared.found.Found.{Found}
 use Rattle.nr_search.specs.declared.found.Found.TheVariants.{Hit, Nothing}
 
 -- The result after checking position p, at which the marks with these numbers hit. If no mark hits
--- there, it is the result so far.
+-- at p, the result so far doesn't change.
 abbrev pub found_after : Found → ℕ → List ℕ → Found
 found_after found p [] = found
 found_after found p (m ∷ ms) = Hit (record { position = p; marks = record { items = m ∷ ms } })

@@ -111,7 +111,7 @@ impl<F: Finder> Finder for &F {
 /// greatest below n. If a mark is a watch, the search allocates memory for copies of the film's
 /// worlds and for the reports of several workers, and fails if memory runs out. If all marks are
 /// breaks, the search runs in the caller's thread, only reads the recorded steps, and allocates no
-/// memory. It also allocates none if its way has no position other than the start.
+/// memory. A search that visits no position other than the start allocates no memory either.
 pub fn nearest_hit<W: Worlds + Drop + Sync, F: Finder>(
     finder: &F,
     film: &Film<W>,

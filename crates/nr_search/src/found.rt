@@ -15,7 +15,7 @@ pub(crate) type Numbers = ArrayVec<u32, MOST_MARKS>;
 #[derive(Debug, PartialEq, Eq, Drop)]
 pub struct Hit {
     pub position: usize,
-    /// The numbers of the marks that hit there, in rising order. There is at least one.
+    /// The numbers of the marks that hit there, in rising order. At least one mark hits.
     pub marks: ArrayVec<u32, MOST_MARKS>,
 }
 

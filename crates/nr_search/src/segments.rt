@@ -7,7 +7,7 @@ ghost use Rattle.nr_search.specs.Segments.{from_of, to_of};
 use crate::direction::Direction;
 
 /// The positions of a search: those after `after` and up to `last`. A film has a segment between
-/// each two neighbouring copies, and one more from the last copy to the end. Segment s contains the
+/// each two neighbouring copies, and another from the last copy to the end. Segment s contains the
 /// positions after `s * every` and up to `(s + 1) * every`. The positions of the search lie in
 /// `count` segments, from segment `first` on.
 #[derive(Debug, Drop)]

@@ -139,8 +139,8 @@ impl Turn {
     }
 
     // Returns the number on the way of the next segment, unless a segment before it has a known
-    // hit. If there are many segments, a worker claims a few at once. Forwards, it moves its world
-    // from each segment to the next, and needs a copy only for the first.
+    // hit. If there are many segments, a worker claims a few at once. Forwards, the worker moves
+    // its world from each segment to the next, and needs a copy only for the first.
     fn next(&mut self, claims: &Claims, count: usize) -> Option<usize>
         ensures { IfSome result (λ k. k < count) }
     {

@@ -16,7 +16,7 @@ use Rattle.nr_serving.specs.Session.{IsHistory, IsTheirs, numbers_below}
 use Rattle.nr_serving.specs.Auxiliary.Session.{HasItsOwnWords, IsSeenBy, words_of}
 use Rattle.nr_serving.specs.declared.fronts.Done.{Done}
 
--- if all items of a list have a property, so have the items of its first part
+-- if all items of a list have a property, so do the items of each prefix
 all_front : (P : ℕ → Type 0) (xs ys : List ℕ) → All P (xs ++ ys) → All P xs
 all_front P [] ys h = All-nil P
 all_front P (x ∷ xs) ys h = All-cons P x xs (All-head P x (xs ++ ys) h) (all_front P xs ys (All-tail P x (xs ++ ys) h))
@@ -31,7 +31,7 @@ own_seen room words pass_state s =
     let more : Covers s.after.seen pass_state.tag s.before.seen = subst (λ (t : ℕ). Covers s.after.seen t s.before.seen) s.tag (s.sees_others.0, s.sees_others.1, s.sees_others.2) in
     subst (λ (w : List ℕ). Covers w pass_state.tag pass_state.seen) (sym s.is) (covers_on pass_state.tag pass_state.seen s.before.seen s.after.seen s.others more)
 
--- what the pass that reads last has read is the history
+-- the history is what the last pass to read has read
 pub seen_last : (room : ℕ) (given : Result (Vec ℕ) Memory) (old new : PassState) → SeesOthers old new → CatchesUp room old new → IfOk given (λ words. words.items ≡ new.seen)
     → IfOk given (λ words. IsSeenBy room words.items old)
 seen_last room (Ok words) old new sees_others caught_up is = record {
@@ -70,7 +70,7 @@ own_more room words fin reported mid own later s is (x, p) g (y, q) =
     sym (append_assoc own.seen (x ++ c.0) y) ∙ ap (λ (l : List ℕ). l ++ y) (sym whole ∙ is) ∙ sym q ∙ g.1 in
     (x ++ c.0, whole, all_front (IsOthers own.tag) (x ++ c.0) y (subst (All (IsOthers own.tag)) (sym (append_cancel_left own.seen ((x ++ c.0) ++ y) g.0 long)) g.2))
 
--- the history contains all own words of one more pass
+-- the history contains all words that another pass placed
 pub others_more : (room : ℕ) (given : Result (Vec ℕ) Memory) (rest all : List Done) (other : Done) (met mid fin later : PassState) (reported more : List ℕ) → all ≡ rest ++ other ∷ []
     → IfOk given (λ words. IsSeenBy room words.items mid) → IfOk given (λ words. words.items ≡ fin.seen) → StartsWith mid.seen other.pass.pass_state.seen
     → met ≡ informed other.pass.pass_state reported → SeesOthers (informed met more) later → StartsWith later.seen fin.seen → IfOk given (λ words. All (λ d. HasItsOwnWords words.items d.pass.pass_state) rest)
@@ -95,7 +95,7 @@ pub others_none : (given : Result (Vec ℕ) Memory) (all : List Done) → all �
 others_none (Ok words) all none = subst (All (λ d. HasItsOwnWords words.items d.pass.pass_state)) (sym none) (All-nil (λ d. HasItsOwnWords words.items d.pass.pass_state))
 others_none (Err fault) all none = tt
 
--- the numbers of the items of a list after one more item
+-- if the items of a list are numbered from 0, so are they after the next item is appended
 pub numbers_more : {A : Type 0} (number : A → ℕ) (xs all : List A) (x : A) (n : ℕ) → all ≡ xs ++ x ∷ [] → map number xs ≡ numbers_below n → number x ≡ n → map number all ≡ numbers_below (n + 1)
 numbers_more number xs all x n split so_far is =
     ap (map number) split ∙ map-append number xs (x ∷ []) ∙ ap (λ (l : List ℕ). l ++ number x ∷ []) so_far ∙ ap (λ (m : ℕ). numbers_below n ++ m ∷ []) is ∙ ap numbers_below (sym (add-one n))
@@ -107,7 +107,7 @@ among_below (suc n) k below = dite (ℕ_discrete k n)
     (λ (same : k ≡ n). subst (λ (m : ℕ). Contains (numbers_below n ++ n ∷ []) m) (sym same) (Contains-push (numbers_below n) n))
     (λ (other : k ≢ n). Contains-append_left (numbers_below n) (n ∷ []) k (among_below n k (omega (arith, below, other))))
 
--- if all items of a list have a property, so has the last item
+-- if all items of a list have a property, so does the last item
 all_last : (P : Done → Type 0) (xs : List Done) (x : Done) → All P (xs ++ x ∷ []) → P x
 all_last P [] x h = All-head P x [] h
 all_last P (y ∷ xs) x h = all_last P xs x (All-tail P y (xs ++ x ∷ []) h)

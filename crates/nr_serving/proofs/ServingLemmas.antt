@@ -20,14 +20,14 @@ pub serving_more : (callers : List Conversation) (a b d : FrontState) (c : Conve
 serving_more [] a b d c is last = (d, subst (λ (s : FrontState). ServesCaller c s d) is last, refl)
 serving_more (one ∷ callers) a b d c (mid, first, rest) last = (mid, first, serving_more callers mid b d c rest last)
 
--- after one more caller, the result still reports a failure if and only if serving one of the
+-- after another caller, the result still reports a failure if and only if serving one of the
 -- callers failed
 pub reported_more : (callers : List Conversation) (c : Conversation) (was now : Bool) → was ≡ list_any is_failure callers → now ≡ (was || is_failure c)
     → now ≡ list_any is_failure (callers ++ c ∷ [])
 reported_more callers c was now reported is =
     is ∙ ap (λ (t : Bool). t || is_failure c) reported ∙ ap (λ (t : Bool). list_any is_failure callers || t) (sym (or-false (is_failure c))) ∙ sym (list_any-append is_failure callers (c ∷ []))
 
--- one more caller came and was served
+-- another caller came and was served
 pub came_more : (callers conversations : List Conversation) (c : Conversation) (before arrived : List Arrival) → conversations ≡ callers ++ c ∷ [] → before ≡ came callers → arrived ≡ before ++ Came ∷ []
     → arrived ≡ came (callers ++ c ∷ [])
 came_more callers conversations c before arrived is was now = now ∙ ap (λ (l : List Arrival). l ++ Came ∷ []) was ∙ sym (map-append (λ c. Came) callers (c ∷ []))
@@ -42,7 +42,7 @@ pub last_taken : {A B : Type 0} (old new : List (A × B)) (taken : Option (A × 
 last_taken old new None e = tt
 last_taken old new (Some f) e = ap (map (λ p. p.0)) e ∙ map-append (λ p. p.0) new (f ∷ [])
 
--- one more front was served
+-- another front was served
 pub served_more : (starts : List FrontState) (ones : List (Done × Passed)) (start : FrontState) (one : Done × Passed) → AreServed starts ones → IsServed start one.0 one.1
     → AreServed (starts ++ start ∷ []) (ones ++ one ∷ [])
 served_more [] [] start one are is = (is, tt)
@@ -67,6 +67,6 @@ adds_none starts old none = ([], sym (append-nil old), subst (λ (l : List Front
 pub behind_ten : {A B C D E F G H I J R : Type 0} → A × (B × (C × (D × (E × (F × (G × (H × (I × (J × R))))))))) → R
 behind_ten (a, (b, (c, (d, (e, (f, (g, (h, (i, (j, rest)))))))))) = rest
 
--- a conjunction of ten parts and of others after them
+-- a conjunction of ten parts and the rest
 pub ten_before : {A B C D E F G H I J R : Type 0} → A × (B × (C × (D × (E × (F × (G × (H × (I × J)))))))) → R → A × (B × (C × (D × (E × (F × (G × (H × (I × (J × R)))))))))
 ten_before (a, (b, (c, (d, (e, (f, (g, (h, (i, j))))))))) rest = (a, (b, (c, (d, (e, (f, (g, (h, (i, (j, rest))))))))))

@@ -99,7 +99,7 @@ ready table r fronts depth workers (f ∷ pairs) fresh none =
     (ap (λ (k : FrontState). k.table) (All-head (IsFresh table r fronts depth workers) f.0 (fronts_of pairs) fresh).2, All-head (λ f. f.1 ≡ none_passed) f pairs none)
     (ready table r fronts depth workers pairs (All-tail (IsFresh table r fronts depth workers) f.0 (fronts_of pairs) fresh) (All-tail (λ f. f.1 ≡ none_passed) f pairs none))
 
--- the list of fronts after one more front was appended, with callers that haven't come yet
+-- the list of fronts after another front was appended, whose callers haven't come yet
 pub fronts_more : (old new : List (FrontState × Passed)) (f : FrontState × Passed) (before : List FrontState) → new ≡ old ++ f ∷ [] → fronts_of old ≡ before → fronts_of new ≡ before ++ f.0 ∷ []
 fronts_more old new f before is was =
     ap fronts_of is ∙ map-append (λ g. g.0) old (f ∷ []) ∙ ap (λ (l : List FrontState). l ++ f.0 ∷ []) was

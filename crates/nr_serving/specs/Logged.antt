@@ -12,11 +12,11 @@ use Rattle.nr_serving.specs.declared.conversations.Arrival.TheVariants as arriva
 use Rattle.nr_serving.specs.declared.logged.Came.{Came}
 use Rattle.nr_serving.specs.declared.logged.Came.TheVariants as came
 
--- the log with the result of one more wait
+-- the log with the result of another wait
 abbrev pub with_arrival : Arrival → Passed → Passed
 with_arrival arrival p = record p { arrivals = p.arrivals ++ arrival ∷ [] }
 
--- the log with one more conversation
+-- the log with another conversation
 abbrev pub with_conversation : Conversation → Passed → Passed
 with_conversation c p = record p { callers = p.callers ++ c ∷ [] }
 
@@ -28,7 +28,7 @@ IsNewCaller (nexts.Serve input output) =
 IsNewCaller nexts.Ended = Unit {0}
 IsNewCaller nexts.Failed = Unit {0}
 
--- The effect of one wait: the front served one more caller, or no caller came.
+-- The effect of one wait: the front served another caller, or no caller came.
 abbrev pub WaitsOnce : Passed → Passed → FrontState → FrontState → Came → Type 0
 WaitsOnce old new d d' (came.Served ending) =
     (c : Conversation) × (new ≡ with_conversation c (with_arrival arrivals.Came old))

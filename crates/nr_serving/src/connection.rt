@@ -17,11 +17,13 @@ const MOST_READS: usize = 64;
 
 /// What a front does after waiting for a caller.
 pub enum Next<I, O> {
-    /// It serves a caller: it reads lines from the reader, and writes the replies to the writer.
+    /// The front serves a caller: it reads lines from the reader, and writes the replies to the
+    /// writer.
     Serve(I, O),
-    /// It ends, since no further caller will come.
+    /// The front ends, since no further caller will come.
     Ended,
-    /// It ends, since its callers failed: the port wasn't bound, or a caller wasn't accepted.
+    /// The front ends, since its callers failed: the port wasn't bound, or a caller wasn't
+    /// accepted.
     Failed,
 }
 

@@ -45,7 +45,7 @@ impl Conversations {
         Conversations {}
     }
 
-    /// Returns the log with the result of one more wait.
+    /// Returns the log with the result of another wait.
     #[inline(always)]
     pub fn arrived(&self, _arrival: &Arrival) -> Conversations
         ensures { (result.arrivals ≡ self.now.arrivals ++ _arrival.now ∷ [])
@@ -54,7 +54,7 @@ impl Conversations {
         Conversations {}
     }
 
-    // Returns the log with one more conversation, as recorded by its streams.
+    // Returns the log with another conversation, as recorded by its streams.
     #[inline(always)]
     pub(crate) fn and<I: Read, O: Write>(
         &self,
@@ -92,7 +92,7 @@ impl Fronts {
         Fronts {}
     }
 
-    /// Returns the log with the number of one more front whose port was opened.
+    /// Returns the log with the number of another front whose port was opened.
     #[inline(always)]
     pub fn opened(&self, _number: &usize) -> Fronts
         ensures { (result.opened ≡ self.now.opened ++ _number.now ∷ []) × (result.ended ≡ self.now.ended) }
@@ -100,7 +100,7 @@ impl Fronts {
         Fronts {}
     }
 
-    // Returns the log with the conversations of one more front that has ended.
+    // Returns the log with the conversations of another front that has ended.
     #[inline(always)]
     pub(crate) fn ended(&self, _conversations: &Conversations) -> Fronts
         ensures { (result.opened ≡ self.now.opened) × (result.ended ≡ self.now.ended

@@ -22,7 +22,7 @@ pub(crate) struct Done {
 }
 
 // Serves a front's callers one after the other, until no further caller comes or the callers fail.
-// It always returns: after `u64::MAX` callers, it treats the callers as failed.
+// The call always returns: after `u64::MAX` callers, it treats the callers as failed.
 fn serve_one<W, F, C>(
     journal: &Journal,
     mut front: Front<'_, W, F>,

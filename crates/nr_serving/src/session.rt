@@ -203,8 +203,8 @@ fn take_done(journal: &Journal, done: &mut Vec<Done>) -> Option<Done>
 /// other port was opened, and all fronts have ended.
 ///
 /// Fails only if memory runs out before any port is opened, so no caller was sent a byte. The
-/// contract doesn't say when memory runs out. If it runs out for the history, after the last
-/// caller, `Ended` says so instead.
+/// contract doesn't say when memory runs out. If memory runs out for the history, after the last
+/// caller, the call succeeds and `Ended` says so.
 pub fn share<W, F, R, P>(
     rt: &R,
     alloc: Global,

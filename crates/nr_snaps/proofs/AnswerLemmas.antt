@@ -21,7 +21,7 @@ use Rattle.nr_snaps.specs.Auxiliary.Answers.{answered_steps}
 pub answer_at-here : (r : Recording) (n : ℕ) (step : Step) (answer : Answer) (next : World) → slice_get r.steps n ≡ Some step → outcome (world_at r n) step ≡ Ok (answer, next) → answer_at r n ≡ Some answer
 answer_at-here r n step answer next read applies = rw (read, applies) refl
 
--- the answer of a step from a state at the position
+-- the answer of a step that is applied to a state at the step's position
 pub answer_at-leads : {State : Type 0} (is_well_formed : State → Type 0) (world : State → World) (steps : State → Step → Answer → State → Type 0)
     (steps_are : (old : State) (step : Step) (answer : Answer) (new : State) → steps old step answer new → outcome (world old) step ≡ Ok (answer, world new))
     (r : Recording) (n : ℕ) (old new : State) (step : Step) (answer : Answer) → IsWorldAt is_well_formed world r n old → slice_get r.steps n ≡ Some step → steps old step answer new → answer_at r n ≡ Some answer
@@ -46,7 +46,7 @@ agree-none r = λ k given below gives. absurd (omega (arith, below))
 below-next : (k n : ℕ) → k < n + 1 → (k < n) ⊎ (k ≡ n)
 below-next k n h = grind arith
 
--- the answers still agree after one more step that agrees
+-- if the first n steps agree, and the next step agrees too, the first n + 1 steps agree
 pub agree-next : (r : Recorded) (n : ℕ) (given : Answer) → AnswersAgreeTo r n → answer_at (run_of r) n ≡ Some given → Agrees (recorded_at r n) given → AnswersAgreeTo r (n + 1)
 agree-next r n given agree gives here = λ k other below also.
     elim (below-next k n below) [
@@ -68,7 +68,7 @@ agree-whole r n agree reached = λ k given gives.
 
 -- ---- the steps with their answers
 
--- adding a step adds it and its answer
+-- appending a step to a list appends the step with its answer to the answered steps
 answered_steps-push : (w : World) (steps : List Step) (step : Step)
     → answered_steps w (steps ++ step ∷ []) ≡ answered_steps w steps ++ record { step = step; answer = answer_of (outcome (world_after w steps) step) } ∷ []
 answered_steps-push w [] step = refl
@@ -83,7 +83,7 @@ take-next : {X : Type 0} (xs : List X) (n : ℕ) (x : X) → slice_get xs n ≡ 
 take-next xs n x read =
     take_more xs n x (slice_get_within xs n x read) ∙ ap (λ y. take n xs ++ y ∷ []) (get_or_from_slice_get xs n x x read)
 
--- the first n + 1 steps are the first n and one more, each with its answer
+-- the first n + 1 answered steps are the first n answered steps and the next step with its answer
 pub answered_steps-next : (r : Recording) (n : ℕ) (step : Step) (answer : Answer) → slice_get r.steps n ≡ Some step → answer_at r n ≡ Some answer
     → answered_steps (empty_world r.limits) (take (n + 1) r.steps) ≡ answered_steps (empty_world r.limits) (take n r.steps) ++ record { step = step; answer = Some answer } ∷ []
 answered_steps-next r n step answer read gives =

@@ -5,7 +5,7 @@ use Rattle.std.proofs.lemmas.Nat.{le-div}
 use Rattle.std.specs.List.{slice_get}
 use Rattle.nr_rev.proofs.ListUpdateLemmas.{slice_get-push_cases}
 
--- if each item and a further one have a property, each item has it after that one is appended
+-- if all items of a list and an appended item have a property, so do all items of the longer list
 pub each-push : {X : Type 0} (P : ℕ → X → Type 0) (xs : List X) (x : X) → ((i : ℕ) (item : X) → slice_get xs i ≡ Some item → P i item) → P (length xs) x → (i : ℕ) (item : X)
     → slice_get (xs ++ x ∷ []) i ≡ Some item → P i item
 each-push P xs x each last i item read =

@@ -65,7 +65,7 @@ place (fault.Memory refused) = 0
 place (fault.Refused step reason) = step - 1
 place (fault.OtherAnswer step) = step - 1
 
--- true if the first n steps apply and answer as recorded, and no longer list of first steps does
+-- true if n is the greatest number for which the first n steps apply and answer as recorded
 record StopsAt (r : Recorded) (n : ℕ) : Type 0 where
   before : IsGood (first n (run_of r))
   agree : AnswersAgreeTo r n

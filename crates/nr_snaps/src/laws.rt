@@ -34,8 +34,8 @@ pub fn a_recording_has_one_fault()
     ensures exact { (r : Recorded) (fault other : LoadFault) → IsStepFault r fault → IsStepFault r other → fault ≡ other }
 {}
 
-/// Adding answers to a recording doesn't change its run. So it loads as the same film, and adding
-/// answers again changes nothing.
+/// Adding answers to a recording doesn't change its run. So the recording with answers loads as the
+/// same film, and adding answers again changes nothing.
 pub fn answers_leave_the_run()
     ensures { (r : Recording) → run_of (answered r) ≡ r }
 {}

@@ -80,7 +80,7 @@ notes_first r notes accounts peers rows deadlines =
       deadlines = deadlines;
     }
 
--- ---- after one more step
+-- ---- after the next step
 
 -- the accounts are those of the recording, within its limits
 kept_within : (r : Recording) (n d : ℕ) (accounts : List (Option Account)) → AreAccounts r n accounts → kept_of accounts d ≡ account_within r n d

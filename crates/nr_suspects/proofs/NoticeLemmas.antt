@@ -17,7 +17,7 @@ use Rattle.nr_suspects.specs.Notices.{checking, fired_descriptor, if_answered, n
 
 -- ---- positions
 
--- the world after one more step, if there is one
+-- the world after the next step, if there is one
 abbrev made_by : Option Step → World → World
 made_by None w = w
 made_by (Some step) w = next_of w (outcome w step)

@@ -323,8 +323,7 @@ blockswap_takes w g d side =
     ComesTo-ok
     (swapped_takes w g place.0 d place.1 side (of_side place.1 row.descriptor.words) row at (visits w g place.0 place.1 status there (ap (λ x. wait_place (CellValue.Status x)) swaps)))
 
--- a commit puts the goroutine in a word only if the word is waiting, and leaves other words
--- unchanged
+-- a commit keeps each ready side ready, because it changes only a word that is waiting
 committed_stays : (w : World) (g e d : ℕ) (s side : Side) (row : DescriptorRow) → slice_get w.descriptors e ≡ Some row → (word : WaitWord) → of_side s row.descriptor.words ≡ word
     → StaysReady w.descriptors (committed_by g e s word row w).1.descriptors d side
 committed_stays w g e d s side row at Wait is ready = elim (word_or_kept w.descriptors e d s side row (Held g) at ready) [
@@ -393,7 +392,7 @@ unchanged w step d side cannot = record {
   value = λ left is ready. inl (ready_is left.1 d side (ap is_ready_word (step_keeps_cell w step left.0 left.1 (word_cell d side) is cannot) ∙ is_then_ready w d side ready));
 }
 
--- a step that keeps both sides ready satisfies the law for both
+-- if a step can't change the cell of either side, it can't change the cell of this side
 pub same_for : (step : Step) (cells : Side → Cell) (side : Side) → can_change (kind_of step) (cells Read) ≡ false → can_change (kind_of step) (cells Write) ≡ false → can_change (kind_of step) (cells side) ≡ false
 same_for step cells Read a b = a
 same_for step cells Write a b = b

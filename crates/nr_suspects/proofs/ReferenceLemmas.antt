@@ -64,7 +64,7 @@ rw_lock_counts side lock =
     (ComesTo-bind (ComesTo-any (raised_field (of_side side lock.waiters))) λ n _. ComesTo-ok refl)
     (ComesTo-bind (raised lock.references) λ n is. ComesTo-ok (omega (arith, is))))
 
--- an answer to the return of a reference takes no reference
+-- returning a reference takes no reference, whatever the answer is
 last_takes : (lock : Lock) → taken_by (Lock.last_of lock) ≡ 0
 last_takes lock = by_last (lock.closed)
   where

@@ -101,7 +101,7 @@ next_of_setting n d side notices.Nothing y = refl
 
 -- ---- the origin of a setting
 
--- the move of an earlier setting: only its first move is kept
+-- the move of an earlier setting after a notice: the first move is kept
 abbrev pub MoveFrom : ℕ → ℕ → Side → Notice → Option StepBy → Option StepBy → Type 0
 MoveFrom n d side x old new =
     ((new ≡ old) × ((g : ℕ) (mode : Mode) → x ≢ notices.SetDeadline g d mode))

@@ -1,4 +1,4 @@
--- The list of sleepers grows by descriptors, it is exact, and the notebook yields the same list.
+-- The list of sleepers grows descriptor by descriptor, is exact, and follows from the notebook too.
 use Rattle.std.proofs.Common.{◌≡◌, inl, inr, ℕ, zero, suc, ◌+◌, ◌-◌, ◌<◌, ◌/◌, ◌%◌, ◌&&◌, Bool, true, false, List, [], ◌∷◌, ◌++◌, length, Option, Some, None, refl, ap, subst, sym, ◌∙◌, add-one, arith}
 use Rattle.std.specs.Prelude.{Contains, ◌==◌, if◌then◌else◌, nat_lt, option_map, option_and_then, slice_get}
 use Rattle.std.specs.Option.{option_or}

@@ -124,7 +124,7 @@ from_taking n d v side y b false is which at =
     same_visit : (u : Visit) → notices.TookReadiness v ≡ notices.TookReadiness u → u ≡ v
     same_visit u same = cc
 
--- a notice that leaves the debts unchanged leaves this one unchanged
+-- a notice that leaves the debts of both sides unchanged leaves the debt of this side unchanged
 from_others : (n d : ℕ) (side : Side) (x : Notice) (y : Account) (b : Debt) → (noted n d x y).debts ≡ y.debts → debt_of side (account_after n d x (Some y)) ≡ debt_of side (Some (noted n d x y))
     → ((v : Visit) → x ≢ notices.TookReadiness v) → ((s : ℕ) → x ≢ notices.Opened d s) → debt_of side (account_after n d x (Some y)) ≡ Some b → DebtFrom n d side x (Some y) b
 from_others n d side x y b same is took opened at = Old (sym (ap (of_side side) same) ∙ sym is ∙ at) (λ v e here. took v e) opened

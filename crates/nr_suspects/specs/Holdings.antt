@@ -11,11 +11,11 @@ use Rattle.nr_suspects.specs.Notices.{notice_at}
 abbrev pub none_held : Holding
 none_held = record { taken = 0; given = 0; since = 0 }
 
--- the holding after the step with this number took one more reference
+-- the holding after the step with this number took another reference
 abbrev pub one_taken : ℕ → Holding → Holding
 one_taken n h = record h { taken = h.taken + 1; since = n }
 
--- the holding after one more reference was returned
+-- the holding after another reference was returned
 abbrev pub one_given : Holding → Holding
 one_given h = record h { given = h.given + 1 }
 

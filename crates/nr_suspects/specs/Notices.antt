@@ -107,14 +107,14 @@ fired_descriptor w (Step.Fire i) =
     option_map (λ (entry : Entry). entry.descriptor) (slice_get w.firings i)
 fired_descriptor w _ = None
 
--- the notice of a step that runs a timer for this descriptor, or the other notice if the step runs
+-- the notice of a step that runs a timer for this descriptor, or the given notice if the step runs
 -- no timer
 abbrev pub running : World → World → Option ℕ → Notice → Notice
 running w next None other = other
 running w next (Some d) other =
     PassedDeadline d (record { read = passing w next d Read; write = passing w next d Write })
 
--- the notice if the answer is the wanted one, and otherwise `Nothing`
+-- the given notice if the answer is the expected one, and otherwise `Nothing`
 abbrev pub if_answered : Answer → Answer → Notice → Notice
 if_answered wanted answer n = if (answer_eq.ghosts).eq answer wanted then n else Nothing
 

@@ -15,15 +15,15 @@ use std::io::Write;
 /// The references to a closed socket that a goroutine took and didn't return.
 #[derive(Clone, Copy, Debug, PartialEq, Eq)]
 pub struct HeldReference {
-    /// The position at which the goroutine holds them.
+    /// The position at which the goroutine holds the references.
     pub position: usize,
     /// The socket.
     pub socket: u32,
     /// The goroutine.
     pub goroutine: u32,
-    /// The number of references that it holds.
+    /// The number of references that the goroutine holds.
     pub count: u64,
-    /// The number of the step that took the last of them, counted from 1.
+    /// The number of the step that took the last of the references, counted from 1.
     pub since: usize,
     /// True if the goroutine has ended.
     pub is_gone: bool,

@@ -12,7 +12,7 @@ pub struct Holding {
     pub taken: u64,
     /// The number of references returned.
     pub given: u64,
-    /// The number of the step that took the last of them, counted from 1, or 0 if the goroutine
+    /// The number of the step that took the last reference, counted from 1, or 0 if the goroutine
     /// took none.
     pub since: usize,
 }

@@ -90,8 +90,9 @@ pub fn just_sleepers_are_listed()
 {}
 
 /// If no sleeper is listed, every parked goroutine waits for something that hasn't come. A check of
-/// its side has the code 0: the descriptor isn't closing, the side's deadline hasn't passed, and no
-/// event reported an error. Nor does its socket have what the side waits for.
+/// the goroutine's side has the code 0: the descriptor isn't closing, the side's deadline hasn't
+/// passed, and no event reported an error. The descriptor's socket doesn't have what the side waits
+/// for, either.
 pub fn if_no_sleeper_is_listed_no_side_has_to_be_answered()
     ensures { (r : Recording) (n g d : ℕ) (side : Side) (row : DescriptorRow) → WellFormed (world_at r n)
         → sleepers r n ≡ [] → HasView parked_of (world_at r n).goroutines g (d, side)
@@ -188,9 +189,10 @@ pub fn a_closed_socket_that_is_not_listed_has_no_reference()
         → references_at (world_at r n) s ≡ 0 }
 {}
 
-/// A leak is permanent. If k references to a socket are never returned, that is, if the steps
-/// return at least k fewer than the socket had and they took, it has at least k references after
-/// them, so it is never freed.
+/// A leak is permanent. Count the references that a socket has, add those that the steps take, and
+/// subtract those that the steps return: if at least k are left, the socket has at least k
+/// references after the steps. So a reference that is never returned keeps the socket from being
+/// freed.
 pub fn a_leaked_reference_keeps_the_socket()
     ensures { (w : World) (steps : List Step) (s k : ℕ) → WellFormed w → All IsTimely steps
         → given s w steps + k ≤ references_at w s + taken s w steps

@@ -197,7 +197,7 @@ fn held_goroutine<W: Worlds>(world: &W, descriptor: u32, side: Side) -> Option<u
     }
 }
 
-// Returns the notice if the answer is the wanted one, and otherwise `Nothing`.
+// Returns the given notice if the answer is the expected one, and otherwise `Nothing`.
 fn if_answered(wanted: Answer, answer: Answer, notice: Notice) -> Notice
     ensures { result ≡ if_answered wanted answer notice }
 {
@@ -241,9 +241,9 @@ fn checking(visit: Visit, answer: Answer) -> Notice
 // The state of a side before a timer is run.
 #[derive(Clone, Copy)]
 struct SideBefore {
-    // True if its deadline has passed.
+    // True if the side's deadline has passed.
     has_passed: bool,
-    // The goroutine that its word holds.
+    // The goroutine that the side's word holds.
     held: Option<u32>,
 }
 

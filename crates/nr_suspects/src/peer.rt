@@ -8,9 +8,9 @@ use crate::notice::Notice;
 /// The other end of a socket.
 #[derive(Clone, Copy, Debug, PartialEq, Eq)]
 pub struct Peer {
-    /// The number of bytes that can be written before it reads any.
+    /// The number of bytes that can be written before the other end reads any.
     pub capacity: u32,
-    /// True if it has closed.
+    /// True if the other end has closed.
     pub is_closed: bool,
 }
 

@@ -20,7 +20,7 @@ pub struct StepBy {
 pub struct Setting {
     /// The step that set the deadline.
     pub by: StepBy,
-    /// The sides whose deadlines it set.
+    /// The sides whose deadlines the step set.
     pub mode: Mode,
     /// The first later step that set only the other side's deadline.
     pub moved: Option<StepBy>,

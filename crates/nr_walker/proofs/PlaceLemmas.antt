@@ -66,23 +66,23 @@ follows-back p d some =
       | inr last ↦ let next = wraps p d last in absurd (omega (arith, next, some))
     ]
 
--- the step after the one with the last place has the first place
+-- if a step has the last place, the next step has the first place
 pub after-last : (position d place : ℕ) → place ≡ position % (d + 1) → d ≤ place → 0 ≡ (position + 1) % (d + 1)
 after-last position d place at last =
     let within = place-within position d in
     sym (wraps position d (omega (arith, at, last, within)))
 
--- the step after one with any other place has the next place
+-- if a step has a place other than the last, the next step has the next place
 pub after-other : (position d place : ℕ) → place ≡ position % (d + 1) → place < d → place + 1 ≡ (position + 1) % (d + 1)
 after-other position d place at other = ap (λ n. n + 1) at ∙ sym (follows position d (omega (arith, at, other)))
 
--- the step before one with the first place has the last place
+-- if a step has the first place, the previous step has the last place
 pub before-first : (position d place : ℕ) → 0 < position → place ≡ position % (d + 1) → place ≡ 0 → d ≡ (position - 1) % (d + 1)
 before-first position d place some at first =
     let whole : position ≡ position - 1 + 1 = omega (arith, some) in
     sym (wraps-back (position - 1) d (ap (λ n. n % (d + 1)) (sym whole) ∙ sym at ∙ first))
 
--- the step before one with any other place has the place below
+-- if a step has a place other than the first, the previous step has the previous place
 pub before-other : (position d place : ℕ) → 0 < position → place ≡ position % (d + 1) → 0 < place → place - 1 ≡ (position - 1) % (d + 1)
 before-other position d place some at other =
     let whole : position ≡ position - 1 + 1 = omega (arith, some) in

@@ -1,8 +1,8 @@
 //! A walker: a world that goes to any position of a film, forwards and backwards.
 //!
-//! It keeps the deltas of its last steps, up to a fixed number, in a ring (an undo log). It goes
-//! one of three ways: back by undoing deltas that it keeps, forward by steps, or from the film's
-//! copy at or below the position.
+//! A walker keeps the deltas of its last steps, up to a fixed number, in a ring (an undo log). It
+//! reaches a position in one of three ways: back by undoing deltas that it keeps, forward by
+//! applying steps, or from the film's copy at or below the position.
 #![tactic(auto)]
 
 pub mod laws;

@@ -138,8 +138,8 @@ where
     ///
     /// If the walker keeps all deltas on the way back to n, it undoes them. If n is ahead by fewer
     /// steps than lie between two copies of the film, it applies those steps. Otherwise it restores
-    /// the film's copy at or below n, drops all deltas, and applies the steps from there. It keeps
-    /// the deltas of the last steps that it applied, up to its depth.
+    /// the film's copy at or below n, drops all deltas, and applies the steps from there. The
+    /// walker keeps the deltas of the last steps that it applied, up to its depth.
     ///
     /// Undoing deltas allocates no memory, and a step allocates memory only if bytes leave a
     /// buffer. If memory runs out for such a step, the walker is at the position before it, with

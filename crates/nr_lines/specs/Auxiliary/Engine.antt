@@ -39,8 +39,8 @@ abbrev pub some_count : List (List ℕ) → ℕ
 some_count texts = length (filter (λ text. nat_lt 0 (length text)) texts)
 
 -- When this read was made, each whole line received so far had been answered with one text, and
--- nothing else had been sent. The lines and texts up to this read are the first among all lines and
--- texts. No earlier read had found the end.
+-- nothing else had been sent. The lines and texts up to this read are the first of all lines and
+-- texts. No earlier read had found the end of the input.
 pub record IsPrompt (from : Incoming) (old : Outgoing) (lines texts : List (List ℕ)) (m : Moment) :
     Type 0 where
   pub read : List ℕ
@@ -83,8 +83,8 @@ pub record Quitted (Prompt : List (List ℕ) → List (List ℕ) → Type 0) (d 
   pub turns : Turns d (front ++ line ∷ []) texts d'
   pub written : out ≡ concat texts
 
--- The lines before some line were answered whole, with `whole` nonempty texts. That line was run,
--- and only the first n bytes of its text were written.
+-- The first lines were answered whole, with `whole` nonempty texts. The next line was run, and only
+-- the first n bytes of its text were written.
 pub record WrittenInPart (Prompt : List (List ℕ) → List (List ℕ) → Type 0) (d : FrontState)
     (lines : List (List ℕ)) (whole part : ℕ) (out : List ℕ) (d' : FrontState) : Type 0 where
   pub front : List (List ℕ)

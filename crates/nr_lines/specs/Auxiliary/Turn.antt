@@ -31,8 +31,8 @@ resumed (Ok None) = NothingOwed
 resumed (Ok (Some reply)) = reply
 resumed (Err fault) = fault_reply fault
 
--- True if a front may reply so to this line and be in this state afterwards. For a command, a query
--- or `resume`, these are the effects of the front's calls.
+-- True if a front may give this reply to this line and be in this state afterwards. For a command,
+-- a query or `resume`, the reply and the state are those of the front's call.
 abbrev pub MayReply : Result Line LineFault → FrontState → Option Reply → FrontState → Type 0
 MayReply (Ok (Run command)) d reply d' = (given : Result Reply FrontFault)
     × Executes command d d' given × (reply ≡ Some (reply_given given))

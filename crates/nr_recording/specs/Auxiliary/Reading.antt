@@ -31,7 +31,7 @@ pub record IsSeen (seen : Seen) : Type 0 where
   pub few : length seen.steps ≤ MOST_STEPS
   pub writable : AreOfHeader seen.header seen.steps
 
--- true if reading one more value takes memory, for a step's bytes or to store a valid step
+-- true if reading the next value takes memory, for a step's bytes or to store a valid step
 abbrev pub value_takes_memory : Seen → Option Header → Data → Bool
 value_takes_memory seen None d = false
 value_takes_memory seen (Some header) d = not (length seen.steps == MOST_STEPS)

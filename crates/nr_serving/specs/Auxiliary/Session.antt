@@ -37,7 +37,7 @@ abbrev pub HasItsOwnWords : List ℕ → PassState → Type 0
 HasItsOwnWords history pass_state = Covers history pass_state.tag pass_state.seen
 
 -- The pass read words of other passes until it found no further word or had read a full journal.
--- What it had read then is the history.
+-- The history is what the pass had read by then.
 pub record IsSeenBy (room : ℕ) (history : List ℕ) (pass_state : PassState) : Type 0 where
   pub before : PassState
   pub after : PassState

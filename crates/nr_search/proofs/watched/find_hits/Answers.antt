@@ -7,7 +7,7 @@ use Rattle.nr_search.proofs.WatchedLemmas.{below-more, few-more, numbers-next, r
 use Rattle.nr_search.proofs.watched.find_hits.Goals as goal
 use Rattle.nr_search.proofs.watched.find_hits.Goals.{then-hits, else-hits}
 
--- one more mark has been compared, and its value has been replaced by the current one
+-- the next mark has been compared, and its value has been replaced by the current one
 pub loop-i-preserved : goal.loop-i-preserved
 loop-i-preserved g c =
     let marks = c.args.marks.now in

@@ -2,7 +2,7 @@ use Rattle.std.proofs.Common.{arith}
 use Rattle.nr_serving.proofs.ReadAwayLemmas.{took_more}
 use Rattle.nr_serving.proofs.connection.read_away.Goals as goal
 
--- after one more read
+-- after another read
 pub loop-reads-preserved : goal.loop-reads-preserved
 loop-reads-preserved g c =
     let i = c.loop-reads.invariant in

@@ -11,7 +11,7 @@ use Rattle.nr_serving.specs.declared.conversations.Arrival.TheVariants as arriva
 use Rattle.nr_serving.proofs.ServingLemmas.{came_more, ended_with, reported_more, serving_more}
 use Rattle.nr_serving.proofs.fronts.serve_one.Goals as goal
 
--- one more caller was served
+-- another caller was served
 pub loop-preserved : goal.loop-preserved
 loop-preserved g c =
     let i = c.loop.invariant in

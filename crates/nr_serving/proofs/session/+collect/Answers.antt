@@ -8,7 +8,7 @@ returns-clause-last t c =
     seen_before (journal_room c.args.journal.now) c.collect-history.result c.args.last.now.pass_state c.see_all_of.new.one.pass_state c.in-Some.other.pass.pass_state.seen
     c.see_all_of.ensures.sees_others c.collect-history.ensures.last
 
--- one more of the other passes read what the last pass had read
+-- another pass read what the last pass had read
 pub returns-clause-others : goal.returns-clause-others
 returns-clause-others t c =
     let first = c.see_all_of in

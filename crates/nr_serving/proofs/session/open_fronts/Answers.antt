@@ -7,7 +7,7 @@ use Rattle.nr_serving.specs.Auxiliary.Session.{IsFresh}
 use Rattle.nr_serving.proofs.HistoryLemmas.{numbers_more}
 use Rattle.nr_serving.proofs.session.open_fronts.Goals as goal
 
--- one more front was opened; it is new, and its tag is its number
+-- another front was opened; this front is new, and its tag is its number
 pub loop-preserved : goal.loop-preserved
 loop-preserved g c =
     let i = c.loop.invariant in

@@ -4,7 +4,7 @@ use Rattle.nr_serving.specs.Session.{numbers_below}
 use Rattle.nr_serving.proofs.SessionLemmas.{fronts_more, none_more, port_more}
 use Rattle.nr_serving.proofs.session.open_ports.Goals as goal
 
--- the port of one more front was opened
+-- the port of the next front was opened
 pub loop-front-preserved : goal.loop-front-preserved
 loop-front-preserved g c =
     let at = c.loop-front in

@@ -1,4 +1,4 @@
--- The references held by the goroutines so far are listed.
+-- The references held by the goroutines visited so far are listed.
 use Rattle.std.proofs.Common.{◌≡◌, ◌++◌}
 use Rattle.nr_suspects.specs.HeldReferences.{held_of_goroutines}
 use Rattle.nr_suspects.specs.Holdings.{holding_of}

@@ -1,4 +1,4 @@
--- The held references to the sockets so far are listed.
+-- The held references to the sockets visited so far are listed.
 use Rattle.std.proofs.Common.{◌≡◌, ◌++◌}
 use Rattle.nr_suspects.specs.HeldReferences.{held_of_sockets}
 use Rattle.nr_suspects.specs.Holdings.{holding_of}

@@ -1,4 +1,4 @@
--- The lost wake-ups at the descriptors so far are listed, at most two per descriptor.
+-- The lost wake-ups at the descriptors visited so far are listed, at most two per descriptor.
 use Rattle.std.proofs.Common.{◌≡◌, ◌≤◌, ◌*◌, length}
 use Rattle.nr_suspects.specs.LostWakeUps.{lost_below}
 use Rattle.nr_suspects.specs.Accounts.{kept_of}

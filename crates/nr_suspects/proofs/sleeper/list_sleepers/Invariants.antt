@@ -1,4 +1,4 @@
--- The sleepers at the descriptors so far are listed, at most two per descriptor.
+-- The sleepers at the descriptors visited so far are listed, at most two per descriptor.
 use Rattle.std.proofs.Common.{◌≡◌, ◌≤◌, ◌*◌, length}
 use Rattle.nr_suspects.specs.Accounts.{kept_of}
 use Rattle.nr_suspects.specs.Peers.{peer_in}
