@@ -68,7 +68,7 @@ pub Keeps-either : {t : Touched} {w : World} (c : Bool) (x y : Answer × World) 
 Keeps-either true x y a b = a
 Keeps-either false x y a b = b
 
--- only the other parts of the world change
+-- neither goroutines nor sockets nor descriptors change
 pub rest_set : (t : Touched) (w next : World) → next.goroutines ≡ w.goroutines → next.sockets ≡ w.sockets → next.descriptors ≡ w.descriptors → Keeps t w next
 rest_set t w next gs ss ds =
     record {

@@ -21,7 +21,7 @@ use Rattle.nr_changes.proofs.OrderLemmas.{Before}
 abbrev pub AtLeast : ℕ → List Cell → Type 0
 AtLeast k cells = AllByRecursion (λ c. k ≤ cell_number c) cells
 
--- true if the sort has number k, and each of its cells has the number of its thing
+-- true if the sort has number k, and its cell for thing i has the number i
 pub record IsSort (k : ℕ) (sort : ℕ → Cell) : Type 0 where
   pub shows : (i : ℕ) → cell_number (sort i) ≡ k
   pub numbered : (i : ℕ) → number_or_0 (sort i) ≡ i

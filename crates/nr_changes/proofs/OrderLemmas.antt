@@ -110,7 +110,8 @@ rising n (c ∷ cs) e =
     let same : cell_number c ≤ cell_number c = omega arith in
     (before_above c (cell_number c) cs same both.1, rising (cell_number c) cs both.1)
 
--- the world's cells, followed by sorted cells of goroutines and others
+-- the cells without a number, the cells of sorted goroutines and sorted later cells, listed in this
+-- order, are sorted
 all_in_order : (gs : List ℕ) (cs : List Cell) → IsStrictlySortedBy nat_cmp gs → rise_above 6 cs ≡ true → IsStrictlySortedBy listing_order (cells_at None ++ (map Cell.Goroutine gs ++ cs))
 all_in_order gs cs so e =
     joined (cells_at None) (map Cell.Goroutine gs ++ cs) (rising 0 (cells_at None) refl) (

@@ -14,7 +14,8 @@ use nr_rev::{Cell, Kind};
 /// The maximum number of goroutines that a step touches.
 pub const MOST_TOUCHED: usize = 3;
 
-// Returns the index of the first number that isn't below this one, or the list's length if all are.
+// Returns the index of the first number that isn't below this one, or the list's length if all
+// numbers are below it.
 fn place_of(numbers: &[u32], number: u32) -> usize
     ensures within { result ≤ length numbers.now }
     ensures next { result < length numbers.now → number ≤ slice_index numbers.now result }

@@ -106,8 +106,8 @@ fn is_same_mark(mark: bool, other: bool) -> bool
     mark == other
 }
 
-/// Returns whether a side's deadline is unchanged, and one timer still serves both sides or still
-/// doesn't.
+/// Returns whether a side's deadline is unchanged, and one timer serves both sides exactly if it
+/// did before.
 #[inline(always)]
 fn is_unmoved(side: Side, old: Desc, desc: Desc) -> bool
     ensures { result

@@ -139,7 +139,7 @@ pub struct DescAnswer {
     pub answer: Answer,
     /// The orders to its timers.
     pub orders: Orders,
-    /// The goroutine that is woken at each side, if any: the one that the side's word held. The one
-    /// for reading is woken first.
+    /// The goroutine that is woken at each side, if any: the goroutine that the side's word held.
+    /// The goroutine for reading is woken first.
     pub woken: Sides<Option<u32>>,
 }

@@ -11,8 +11,8 @@ there_is [] i within = absurd (omega arith)
 there_is (x ∷ xs) zero within = (x, refl)
 there_is (x ∷ xs) (suc i) within = there_is xs i (omega arith)
 
--- equal functions map a list to equal lists; functions that differ at one place map it to lists
--- that differ only there
+-- functions that agree on all elements of a list map it to equal lists; functions that agree on all
+-- elements but one map it to lists that differ at most in that element
 pub map_alike : {X Y : Type 0} (f g : X → Y) (xs : List X) → ((k : ℕ) (x : X) → slice_get xs k ≡ Some x → f x ≡ g x) → map f xs ≡ map g xs
 map_alike f g [] alike = refl
 map_alike {X} {Y} f g (x ∷ xs) alike = ap₂ (λ (a : Y) (b : List Y). a ∷ b) (alike zero x refl) (map_alike f g xs (λ k z is. alike (suc k) z is))

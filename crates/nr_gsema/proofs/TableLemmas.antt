@@ -309,7 +309,7 @@ new_head = record { count = 0; front = None; back = None }
 abbrev pub new_heads : Sides SemaphoreHead
 new_heads = record { read = new_head; write = new_head }
 
--- without goroutines each queue is empty
+-- without goroutines, each queue is empty
 pub none_queued : (n : ℕ) → AreQueues [] (replicate n (record { read = new_head; write = new_head })) (λ s side. [])
 none_queued n =
     record {

@@ -111,7 +111,7 @@ changed_at change (Some (e, other)) counts d side both at = go (slice_get counts
         elsewhere change e d other side counts both both found refl (λ n s. none-some both (sym none ∙ ap (slice_get counts) (sym n) ∙ found))
     go (Some x) there = in_one x there (ap (λ (q : Option (Sides ℕ)). slice_get (on_count e other change q counts) d) (sym there) ∙ at)
 
--- a correct count is still correct after one goroutine left and one joined
+-- a correct count is still correct after at most one goroutine left and at most one joined
 recount : (was is : Bool) (n left_n new_n count new_count : ℕ) → left_n ≡ (if was then n - 1 else n) → new_n ≡ (if is then left_n + 1 else left_n) → n ≡ count → counting was ≤ count
     → new_count + counting was ≡ count + counting is → new_n ≡ new_count
 recount true true n left_n new_n count new_count a b c d e = omega arith

@@ -1,5 +1,5 @@
--- The undo of an operation: the table that it restores, when it can be made, and its number of
--- words.
+-- The undo of an operation: the table that it restores, the tables to which it can be applied, and
+-- its number of words.
 use Rattle.std.specs.Prelude.{◌≡◌, ℕ, ◌+◌, ◌-◌, ◌^◌, ◌<◌, false, length, take, slice_get, Option, Some, None, option_map}
 use Rattle.nr_rev.specs.declared.sides.Side.{Side}
 use Rattle.nr_rev.specs.declared.sides.Sides.{Sides}

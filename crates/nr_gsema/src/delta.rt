@@ -34,8 +34,9 @@ pub enum GUndo {
         socket: u32,
         side: Side,
     },
-    /// The goroutine owed this many releases for reading and for writing, and made one of them, for reading if it owed
-    /// any of these. `front` left the queue, if a goroutine was queued.
+    /// The goroutine owed `reads` releases for reading and `writes` for writing, and made one of
+    /// them: for reading if it owed any for reading, or else for writing. `front` is the goroutine
+    /// that left the queue, if any.
     Released {
         goroutine: u32,
         socket: u32,

@@ -5,7 +5,7 @@ ghost use Rattle.nr_gsema.specs.Relinking.{with_next, with_previous};
 
 use crate::node::GoroutineNode;
 
-/// Sets the goroutine after another one, if that one is given.
+/// Sets the goroutine that comes after `goroutine` in a queue, if `goroutine` is given.
 #[inline(always)]
 pub(crate) fn set_next(nodes: &mut [GoroutineNode], goroutine: Option<u32>, next: Option<u32>)
     requires { IfSome goroutine (λ g. g < length nodes.old) }
@@ -17,7 +17,7 @@ pub(crate) fn set_next(nodes: &mut [GoroutineNode], goroutine: Option<u32>, next
     }
 }
 
-/// Sets the goroutine before another one, if that one is given.
+/// Sets the goroutine that comes before `goroutine` in a queue, if `goroutine` is given.
 #[inline(always)]
 pub(crate) fn set_previous(
     nodes: &mut [GoroutineNode],

@@ -9,9 +9,9 @@ use nr_rev::Status;
 #[derive(Clone, Copy)]
 pub(crate) struct GoroutineNode {
     pub(crate) status: Status,
-    /// The goroutine after it; none at the back of its queue and outside every queue.
+    /// The goroutine after this one in its queue; none if this one is last or isn't queued.
     pub(crate) next: Option<u32>,
-    /// The goroutine before it; none at the front of its queue and outside every queue.
+    /// The goroutine before this one in its queue; none if this one is first or isn't queued.
     pub(crate) previous: Option<u32>,
 }
 

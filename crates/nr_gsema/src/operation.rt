@@ -2,9 +2,10 @@
 
 use nr_rev::Status;
 
-/// A goroutine's operation on its status and the semaphores: the part of the machine's steps that concerns these. The
-/// errors are tested in the order in which they are listed, and an error leaves everything unchanged. All operations
-/// except `Spawn` first fail with `NoSuchGoroutine` if the goroutine doesn't exist or has ended.
+/// A goroutine's operation on its status and the semaphores: the part of the machine's steps that
+/// concerns statuses and semaphores. The errors are tested in the order in which they are listed,
+/// and an error leaves everything unchanged. All operations except `Spawn` first fail with
+/// `NoSuchGoroutine` if the goroutine doesn't exist or has ended.
 #[derive(Clone, Copy, Debug)]
 pub enum GOperation {
     /// Makes an idle goroutine. Answers its number. Fails with `TableFull` if the limit is reached.
@@ -13,9 +14,9 @@ pub enum GOperation {
     Exit {
         goroutine: u32,
     },
-    /// Changes a goroutine's status from `from` to `to`. Answers `Done`. Fails with `NotThere` if its status isn't
-    /// `from`, or if one of the two is queued or ended; fails with `NoSuchSocket` if `to` names a socket that isn't
-    /// below the limit.
+    /// Changes a goroutine's status from `from` to `to`. Answers `Done`. Fails with `NotThere` if
+    /// its status isn't `from`, or if one of the two statuses is queued or ended; fails with
+    /// `NoSuchSocket` if `to` names a socket that isn't below the limit.
     Move {
         goroutine: u32,
         from: Status,

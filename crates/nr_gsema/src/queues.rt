@@ -25,7 +25,8 @@ fn or_else(end: Option<u32>, goroutine: u32) -> Option<u32>
     }
 }
 
-/// Returns one end of a queue after the goroutine at the other end, with this neighbour, left it.
+/// Returns one end of a queue after a goroutine has left the other end: none if that goroutine had
+/// no neighbour.
 #[inline(always)]
 fn end_left(neighbour: Option<u32>, end: Option<u32>) -> Option<u32>
     ensures { result ≡ end_left neighbour end }

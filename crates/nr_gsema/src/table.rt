@@ -38,9 +38,9 @@ impl Model for GTable {
 }
 
 impl GTable {
-    /// Makes a table without goroutines, with room for this many, and with the semaphores of this many sockets, whose
-    /// counts are 0 and whose queues are empty. `is_waited` searches all goroutines of such a table. Fails with
-    /// `Memory` if memory runs out.
+    /// Makes a table that has room for this many goroutines, but none yet, and the semaphores of
+    /// this many sockets. Each count is 0, and each queue is empty. `is_waited` searches all
+    /// goroutines of such a table. Fails with `Memory` if memory runs out.
     pub fn with_limits(alloc: Global, goroutines: u32, sockets: u32) -> Result<GTable, Memory>
         ensures well_formed { IfOk result (λ t. IsQueuedUp t) }
         ensures empty { IfOk result (λ t. t ≡ record {
@@ -52,9 +52,9 @@ impl GTable {
         GTable::with_descriptors(alloc, goroutines, sockets, 0)
     }
 
-    /// Makes the table of `with_limits` that also counts the goroutines inside a wait, for each side of this many
-    /// descriptors. For these, `is_waited` reads no goroutine. This only saves time; no contract mentions it. Fails
-    /// with `Memory` if memory runs out.
+    /// Makes a table as `with_limits` does, which also counts the goroutines inside a wait for each
+    /// side of this many descriptors. For these descriptors, `is_waited` reads no goroutine. This
+    /// only saves time; no contract mentions it. Fails with `Memory` if memory runs out.
     pub fn with_descriptors(
         alloc: Global,
         goroutines: u32,

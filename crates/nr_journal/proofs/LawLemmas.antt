@@ -35,7 +35,8 @@ of_pass most tags log place (Within pass_state) below has fits = (pass_state, re
 of_pass most tags log place (Note seen) below has fits = absurd has
 of_pass most tags log place Spent below has fits = absurd has
 
--- a word is among the words read if none of the words after those has its tag
+-- if no word after the words read has a certain tag, each word with that tag is among the words
+-- read
 pub among_seen : (seen rest : List ℕ) (tag place : ℕ) → All (IsOthers tag) rest → place < length (seen ++ rest) → tag_of (get_or (seen ++ rest) place 0) ≡ tag
     → (place < length seen) × (get_or seen place 0 ≡ get_or (seen ++ rest) place 0)
 among_seen [] rest tag place others below is = absurd (others place 0 below is)
@@ -52,7 +53,7 @@ each_word purpose words views k place below =
     let lies = among_seen p.0.seen c.0 p.0.tag place c.2 (subst (λ (l : List ℕ). place < length l) c.1 below) (ap (λ (l : List ℕ). tag_of (get_or l place 0)) (sym c.1) ∙ sym p.2) in
     (o.0, p.0, at, p.2, lies.0, lies.1 ∙ ap (λ (l : List ℕ). get_or l place 0) (sym c.1))
 
--- the first view has no tag that a word of the log has
+-- no word of the log has a tag that the first view has
 has_none : (purpose : Purpose) (drawn : Bool) (words passes : ℕ) → purpose ≡ record { words = words; passes = passes; drawn = drawn } → (log : List ℕ) (tags place : ℕ) → place < length log
     → HasTag (first_view purpose) (tag_of (get_or log place 0)) → Fits passes tags log (first_view purpose) → ⊥
 has_none purpose true words passes is log tags place below has fits =

@@ -19,7 +19,7 @@ use Rattle.nr_journal.specs.Auxiliary.Rule.{HasOpcode, IsDrawn, AreTaken, IsEntr
 use Rattle.nr_journal.specs.Step.{Seat}
 use Rattle.nr_journal.proofs.RowLemmas.{All-right, behind, beside}
 
--- if the new view and all others have a property, each view has it after one view changes
+-- if the new view and all unchanged views have a property, each view has it after the change
 pub each_set : (P : View → Type 0) (views : List View) (id : ℕ) (w : View) → ((j : ℕ) (v : View) → j ≢ id → get_elem? views j ≡ some v → P v) → P w
     → (j : ℕ) (v : View) → get_elem? (set views id w) j ≡ some v → P v
 each_set P views id w others mine j v e = ⊎_elim
@@ -27,7 +27,7 @@ each_set P views id w others mine j v e = ⊎_elim
     (λ (t : (j ≢ id) × (get_elem? views j ≡ some v)). others j v t.0 t.1)
     (at_set views id j w v e)
 
--- if a view has a property after one view changes, some view had it before
+-- if a view has a property after a change of one view that doesn't add it, some view had it before
 pub had : (P : View → Type 0) (views : List View) (id : ℕ) (v w : View) → get_elem? views id ≡ some v → (P w → P v)
     → (j : ℕ) (u : View) → get_elem? (set views id w) j ≡ some u → P u → (t : View) × (get_elem? views j ≡ some t) × P t
 had P views id v w at same j u e holds = ⊎_elim
@@ -41,7 +41,7 @@ apart_set views id v w at same apart i j tag a b ea eb ha hb =
     let y = had (λ u. HasTag u tag) views id v w at (same tag) j b eb hb in
     apart i j tag x.0 y.0 x.1 y.1 x.2 y.2
 
--- true if two views have the same tag, or none
+-- true if two views have the same tags
 abbrev pub AreAlike : View → View → Type 0
 AreAlike v w = ((tag : ℕ) → HasTag w tag → HasTag v tag) × ((tag : ℕ) → HasTag v tag → HasTag w tag)
 
@@ -53,7 +53,7 @@ set_there [] i v w e = absurd (some-ne-none v (sym e))
 set_there (x ∷ xs) zero v w e = refl
 set_there (x ∷ xs) (suc i) v w e = set_there xs i v w e
 
--- each taken tag still belongs to a view after one view changes
+-- each taken tag still belongs to a view after a change of one view that keeps that view's tags
 pub taken_set : (tags : ℕ) (views : List View) (id : ℕ) (v w : View) → get_elem? views id ≡ some v → ((tag : ℕ) → HasTag v tag → HasTag w tag) → AreTaken tags views → AreTaken tags (set views id w)
 taken_set tags views id v w at has_it taken tag drawn = let o = taken tag drawn in dite (ℕ_discrete o.0 id)
     (λ (same : o.0 ≡ id).
@@ -168,7 +168,8 @@ module _ (purpose : Purpose) where
   abbrev pub Rule : State (Unit {0}) View → Type 0
   Rule s = Kept purpose s.words s.views
 
-  -- a new view for the seat `id`, with which the rule holds after word i of the table becomes n
+  -- true if seat `id` can get a view with which the rule still holds after word i of the table
+  -- becomes n
   abbrev pub Picks : List ℕ → List View → ℕ → ℕ → ℕ → (Seat → Type 0) → Type 0
   Picks words views id i n then = (w : View) × Kept purpose (set words i n) (set views id w) × then (w, [])
 

@@ -34,9 +34,9 @@ EachWordHasItsPass = (purpose : Purpose) (words : List ℕ) (views : List View)
     × (pass_state.tag ≡ tag_of (slice_index k.log place)) × (place < length pass_state.seen)
     × (slice_index pass_state.seen place ≡ slice_index k.log place)
 
--- True if these fields are everything: a pass has a seat of the table, an index and a tag; a seat
--- has a seat of the table and two numbers of tags; and a journal has its table and a number of
--- words. A seat of the table takes no bytes.
+-- True if passes, seats and journals have no fields but these: a pass has a seat of the table, an
+-- index and a tag; a seat has a seat of the table and two numbers of tags; and a journal has its
+-- table and a number of words. A seat of the table takes no bytes.
 pub record NothingIsHidden : Type 0 where
   pub pass : (one other : pass_parts.Inside)
       → one.seat ≡ other.seat → one.place ≡ other.place → one.tag ≡ other.tag → one ≡ other

@@ -20,9 +20,9 @@ use std::alloc::Global;
 use std::cmp::Ordering;
 use std::marker::Model;
 
-/// A list of words in one order, each written once. Its passes, up to a fixed number, place and
-/// read words from as many threads without a lock. Contracts see the identity of the journal; a
-/// seat or a pass can only be used with the journal that made it. No call waits.
+/// A list of words in one order, each written once. Up to a fixed number of passes, each in a
+/// thread of its own, place and read words without a lock. Contracts see the identity of the
+/// journal; a seat or a pass can only be used with the journal that made it. No call waits.
 #[derive(Drop)]
 pub struct Journal {
     alloc: Global,

@@ -3,8 +3,9 @@
 use crate::view::View;
 use std::marker::Model;
 
-/// The remaining passes of a journal that makes all of them at once. They are used only with the journal that made
-/// them. Contracts see which journal that is, the tag of the next pass, and the number of passes of the journal.
+/// The remaining passes of a journal that makes all of them at once. They are used only with the
+/// journal that made them. Contracts see the identity of the journal, its number of passes, and the
+/// tag of the next pass.
 #[derive(Drop)]
 pub struct Passes {
     pub(crate) seat: atomic_table::Seat<(), View>,

@@ -3,7 +3,7 @@
 use crate::view::View;
 use atomic_table::TableRule;
 
-/// The greatest opcode of a word. The least is 1, so no word is 0.
+/// The greatest opcode of a word. The least opcode is 1, so no word is 0.
 pub const GREATEST_OPCODE: u64 = 12;
 
 /// The number of values of a byte: a word's lowest byte is its opcode, and the next byte its tag.

@@ -1,11 +1,11 @@
-//! Seats, with which a thread that hasn't entered a journal makes its steps.
+//! Seats: the handles with which threads enter a journal.
 
 use crate::view::View;
 use std::marker::Model;
 
 /// The right to enter a journal once. It is used only with the journal that made it. Contracts see
-/// which journal that is, how many tags, from 0 on, it has found taken, and the maximum number of
-/// passes of the journal.
+/// the identity of the journal, how many tags, from 0 on, the seat has found taken, and the maximum
+/// number of passes.
 #[derive(Drop)]
 pub struct Seat {
     pub(crate) seat: atomic_table::Seat<(), View>,

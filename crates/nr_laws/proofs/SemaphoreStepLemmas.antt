@@ -69,7 +69,7 @@ queue_popped Read Write f k count q socket e = omega arith
 queue_popped Write Read f k count q socket e = omega arith
 queue_popped Write Write f k count q socket e = let a = ap (count_by (λ h. h == k)) e in let b = count_front f k q in omega arith
 
--- how the bit of a view at k changes when g's status changes
+-- how a change of g's status affects the bit that a view has for goroutine k
 pub bits_moved : (view : Option Status → Bool) (gs : List Status) (g k : ℕ) (from to : Status) → slice_get gs g ≡ Some from
     → bit (view (slice_get (set gs g to) k)) + bit (view (Some from) && (g == k)) ≡ bit (view (slice_get gs k)) + bit (view (Some to) && (g == k))
 bits_moved view gs g k from to at =

@@ -98,7 +98,8 @@ Ends-update side old new before n (TimerUpdate.Stopped raised halted) =
 Ends-updated_by : (side : Side) (old new : Descriptor) (before : Sides (Option Timer)) (n : ℕ) (orders : List TimerOrder) → UpdatedBy side old new orders → OrdersEnd side old new before n orders
 Ends-updated_by side old new before n orders (update, is) = subst (OrdersEnd side old new before n) (sym is) (Ends-update side old new before n update)
 
--- a timer that remains existed before, or would remain even if none had existed
+-- if a side has a timer after an update, it is the old timer, or the update gives the same timer to
+-- a side without one
 old_or_new : (side : Side) (old new : Descriptor) (before : Option Timer) (n : ℕ) (update : TimerUpdate side old new) (t : Timer) → timer_left side old new before n update ≡ Some t
     → (before ≡ Some t) ⊎ (timer_left side old new None n update ≡ Some t)
 old_or_new side old new before n (TimerUpdate.Kept sequence running same) t is = inl is
@@ -165,7 +166,7 @@ module _ (w : World) (d : ℕ) (row : DescriptorRow) (new : Descriptor) (first l
       go (TimerUpdate.Armed begun running wants) left range = inr (begins side begun (λ t is. range t (sym left ∙ is)))
       go (TimerUpdate.Stopped raised halted) left range = inr (begins side (inr raised) (λ t is. range t (sym left ∙ is)))
 
-  -- a timer with a new number results from this side's orders
+  -- a side's timer with a new number was armed by the orders for that side
   ordered : (side : Side) (t : Timer) → of_side side last ≡ Some t → w.next_arming ≤ t.number → timer_left side row.descriptor new None (number_of side) (update_of side) ≡ Some t
   ordered side t is new_number =
       elim (old_or_new side row.descriptor new (of_side side row.timers) (number_of side) (update_of side) t (sym (left_of side) ∙ is)) [
@@ -173,7 +174,7 @@ module _ (w : World) (d : ℕ) (row : DescriptorRow) (new : Descriptor) (first l
         | inr ordered_now ↦ ordered_now
       ]
 
-  -- if both sides have new timers, the read side's has the lower number
+  -- if both sides have new timers, the read timer has the lower number
   numbers_apart : (a b : Timer) → last.read ≡ Some a → last.write ≡ Some b → w.next_arming ≤ a.number → w.next_arming ≤ b.number → a.number < b.number
   numbers_apart a b is_a is_b new_a new_b =
       let x = read.number a (ordered Read a is_a new_a) in

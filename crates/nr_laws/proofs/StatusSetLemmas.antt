@@ -26,7 +26,7 @@ view_cases view gs g old new k a at shows =
       | inr other ↦ inr (other.0, sym (ap (option_and_then view) other.1) ∙ shows)
     ]
 
--- a goroutine's view is unchanged unless it is the one that g's old status has
+-- after g's status changes, each goroutine keeps its view, unless g's old status had that view
 pub view_kept : {A : Type 0} (view : Status → Option A) (gs : List Status) (g : ℕ) (old new : Status) (k : ℕ) (a : A) → slice_get gs g ≡ Some old → view old ≢ Some a → HasView view gs k a
     → HasView view (set gs g new) k a
 view_kept view gs g old new k a at other shows =

@@ -113,7 +113,8 @@ own_side TimerFunction.Read side e = ap (covers_side TimerFunction.Read) e
 own_side TimerFunction.Write side e = ap (covers_side TimerFunction.Write) e
 own_side TimerFunction.Both side e = refl
 
--- if t is a side's deadline, it is also that of each other side that the timer's function covers
+-- if t is the deadline of the side that a timer's function belongs to, each side that the function
+-- covers has the deadline t
 pub due_of_each : (t : ℤ) (f : TimerFunction) (s side : Side) (d : Descriptor) → t ≡ of_side side d.deadlines → side ≡ side_of_function f → covers_side f s ≡ true
     → (f ≡ TimerFunction.Both → is_combo d ≡ true) → t ≡ of_side s d.deadlines
 due_of_each t f s side d is same covers combo =

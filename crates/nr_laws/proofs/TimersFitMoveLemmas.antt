@@ -20,7 +20,7 @@ use Rattle.nr_laws.proofs.TimerUpdateLemmas.{covered, combo_positive, combo_of_b
 use Rattle.nr_rev.proofs.SideLemmas.{other_side, of_side-with_side_same, of_side-with_side_other}
 use Rattle.nr_rev.specs.WellFormed.{TimerPlace, ArmedAt, FiringAt, timer_at, armed_at, IsCurrent}
 
--- each entry had a place before, and no two entries had the same one
+-- each entry had a place of its own before the change
 pub TimersFit-moved : (rows rows' : List DescriptorRow) (firings firings' : List Entry) (n : ℕ) (Was : TimerPlace → TimerPlace → Type 0)
     → ((p : TimerPlace) (e : Entry) → timer_at rows' firings' p ≡ Some e → (q : TimerPlace) × Was p q × (timer_at rows firings q ≡ Some e))
     → ((p p' q q' : TimerPlace) → Was p q → Was p' q' → q ≡ q' → p ≡ p') → ((p : TimerPlace) (e : Entry) → timer_at rows' firings' p ≡ Some e → IsCurrent rows' e → IsCurrent rows e)

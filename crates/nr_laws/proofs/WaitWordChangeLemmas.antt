@@ -70,7 +70,7 @@ word_cases rows d row words k side word at has =
     view : DescriptorRow → WaitWord
     view r = of_side side r.descriptor.words
 
--- the rows after one word changed
+-- the rows after a word is changed
 abbrev pub with_word_at : List DescriptorRow → ℕ → DescriptorRow → Side → WaitWord → List DescriptorRow
 with_word_at rows d row side new = set rows d (with_words row (with_side side new row.descriptor.words))
 

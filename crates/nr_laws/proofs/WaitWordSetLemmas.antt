@@ -157,7 +157,7 @@ held_alone w g k d side h inside has =
     let at : slice_get w.goroutines k ≡ Some (Parked d side) = parked_at w.goroutines k d side ((h.words.held k d side).0 has) in
     ap (slice_get w.goroutines) (h.goroutines.one_inside g k d side inside (ap (option_and_then wait_of) at)) ∙ at
 
--- if a word is at wait, the goroutine inside the wait set it
+-- if a word is at wait, it was set by the goroutine inside the wait
 waiting_alone : (w : World) (g d : ℕ) (side : Side) → WellFormed w → IsInside w.goroutines g d side → HasWaitWord w.descriptors d side WaitWord.Wait → HasView awaiting_of w.goroutines g (d, side)
 waiting_alone w g d side h inside has =
     let a = h.words.waited d side has in

@@ -148,7 +148,7 @@ impl LockWord {
         LockWord(self.0 + REFERENCE)
     }
 
-    /// Returns the word with one reference fewer.
+    /// Returns the word with one fewer reference.
     #[inline(always)]
     pub(crate) fn without_reference(self) -> LockWord
         requires { 0 < self.references }
@@ -195,7 +195,7 @@ impl LockWord {
         }
     }
 
-    /// Returns the word with one waiter fewer on a side.
+    /// Returns the word with one fewer waiter on a side.
     #[inline(always)]
     pub(crate) fn without_waiter(self, side: Side) -> LockWord
         requires { 0 < sides.of_side side self.waiters }
@@ -209,7 +209,7 @@ impl LockWord {
         }
     }
 
-    /// Returns the word closed and without waiters.
+    /// Returns the word with the closed mark set and without waiters.
     #[inline(always)]
     #[tactic(auto, using(crate::proofs::BitLemmas::single_bits))]
     pub(crate) fn closed_for_all(self) -> LockWord

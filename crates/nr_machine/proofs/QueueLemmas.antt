@@ -90,7 +90,7 @@ counted_at (h ∷ q) (suc n) g at =
     let more = front_of_more g h q (h == g) refl in
     omega (arith, rest, more)
 
--- if a goroutine is in the queue once, the goroutine behind it has the next index
+-- if a goroutine is in the queue once, the goroutine after it has the next index
 behind_at : (q : List ℕ) (n g : ℕ) → slice_get q n ≡ Some g → count_by (λ x. x == g) q ≤ 1 → behind g q ≡ slice_get q (suc n)
 behind_at [] n g at once = absurd cc
 behind_at (h ∷ q) zero g at once = ap (λ (b : Bool). if b then slice_get q 0 else behind g q) (eq-eqb h g (same_Some h g at))
@@ -141,7 +141,7 @@ module _ (t : GoroutineTable) (h : IsQueuedUp t) (s : ℕ) (side : Side) (n g : 
   by_found None there at = absurd cc
   by_found (Some both) there at = behind_in both there at
 
-  -- the link of a goroutine in a queue leads to the next
+  -- the link of a goroutine in a queue leads to the next goroutine
   pub next_at : slice_get (queue_at s side t) n ≡ Some g → next_in_queue g t ≡ slice_get (queue_at s side t) (suc n)
   next_at at = by_found (slice_get t.semaphores s) refl at
 

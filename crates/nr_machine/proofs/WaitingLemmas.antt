@@ -165,7 +165,7 @@ moved_made old g to answer delta new parts moves =
       ),
     )
 
--- one more waiter, or none
+-- the parts and the world have one more waiter if a goroutine parked
 park_means : (m : WorldParts) (core : Core) (parked : Bool) → meant (record m { core = core_parked parked core }) ≡ with_parked parked (meant (record m { core = core }))
 park_means m core true = refl
 park_means m core false = refl

@@ -21,7 +21,7 @@ impl World {
         requires { IsWorld self.now }
         ensures { result ≡ cell (meant self.now) cell.Timers }
     {
-        // A law without effect: the heap has as many entries as the descriptors have timers.
+        // This call only states a law: the heap has as many entries as the descriptors have timers.
         entries_are_the_descriptors();
         CellValue::Number(self.core.timers.len() as u64)
     }
@@ -31,7 +31,8 @@ impl World {
         requires { IsWorld self.now }
         ensures { result ≡ cell (meant self.now) cell.Least }
     {
-        // A law without effect: the heap's first entry is the least of all descriptors' timers.
+        // This call only states a law: the heap's first entry is the least of all descriptors'
+        // timers.
         entries_are_the_descriptors();
         match self.core.timers.least() {
             None => CellValue::Absent,

@@ -9,8 +9,8 @@ ghost use Rattle.nr_machine.specs.declared.delta.WorldDelta.{WorldDelta};
 ghost use Rattle.nr_machine.specs.Fits.{PartsFit};
 ghost use Rattle.nr_machine.specs.World.{WorldParts, meant};
 
-/// Parts that fit are determined by the world that they represent and by their timers. The world
-/// alone doesn't show where in the heap the timers are.
+/// Parts that fit together are determined by the world that they represent and by their timers. The
+/// world alone doesn't show where in the heap the timers are.
 #[tactic(auto, using(crate::specs::SameLaws::same_parts))]
 pub fn parts_are_decided_by_their_meaning()
     ensures { (a b : WorldParts) → PartsFit a → PartsFit b → meant a ≡ meant b

@@ -102,8 +102,8 @@ impl World {
         }
     }
 
-    /// Resets the sockets from number `first` on, as if they had never been opened. Those without a
-    /// lock already are in that state.
+    /// Resets the sockets from number `first` on, as if they had never been opened. Sockets without
+    /// a lock are already in that state.
     pub(crate) fn reset_from(&mut self, first: usize)
         requires first { first ≤ length self.old.socks }
         requires locks { self.old.core.locks.room ≡ length self.old.socks }

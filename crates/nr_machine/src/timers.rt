@@ -41,7 +41,8 @@ impl World {
         requires { IsWorld self.old }
         ensures { Makes K.holds way.new (step.pop (meant self.old)) (timers.Pop self.old.core.clock ∷ []) self.old result self.new }
     {
-        // A law without effect: the heap's first entry is the least of all descriptors' timers.
+        // This call only states a law: the heap's first entry is the least of all descriptors'
+        // timers.
         entries_are_the_descriptors();
         let now = self.core.clock;
         let (_, delta) = self.core.timers.apply(&TimersOp::Pop { now })?;

@@ -10,7 +10,7 @@ use std::alloc::Global;
 /// Goroutines, locks, descriptors, timers and counts. `changing` has a method for each change that can be undone.
 #[derive(Drop)]
 pub(crate) struct Core {
-    /// The maximum number of each.
+    /// The limits of the recording.
     pub(crate) limits: Limits,
     /// The statuses of goroutines, and the semaphores of all sockets below the limit.
     pub(crate) goroutines: GTable,

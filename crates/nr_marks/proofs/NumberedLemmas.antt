@@ -47,7 +47,8 @@ module _ {Item : Type 0} where
   All-either P true a b of_a of_b = of_a
   All-either P false a b of_a of_b = of_b
 
-  -- if each item and the next one have a property, all items have it after the next one is made
+  -- if all items in the list and the new item have a property, all items have it after the new item
+  -- is made
   pub with_item-All : (P : Numbered Item → Type 0) (item : Item) (table : NumberedItems Item) → All P table.present → P (newest item table) → All P (with_item item table).present
   with_item-All P item table each next =
       All-either P (is_full table) table (record { present = table.present ++ newest item table ∷ []; made = table.made + 1 })

@@ -25,8 +25,8 @@ abbrev pub break_hits : Break → Option NextStep → Bool
 break_hits wanted None = false
 break_hits wanted (Some step) = names wanted step
 
--- The value that a mark watches in a world: the value of its cell. A break watches no cell, which
--- counts as absent.
+-- The value that a mark watches in a world: the value of its cell. A break watches no cell, so its
+-- value counts as absent.
 abbrev pub watched : World → Mark → CellValue
 watched w (mark.Break wanted) = Absent
 watched w (mark.TemporaryBreak wanted) = Absent

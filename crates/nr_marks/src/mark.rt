@@ -89,7 +89,7 @@ impl Break {
 
 impl Mark {
     /// Returns the value that the mark watches in a world: the value of its cell. A break watches
-    /// no cell, which counts as absent.
+    /// no cell, so its value counts as absent.
     #[inline(always)]
     pub fn watched<W: Worlds>(self, world: &W) -> CellValue
         requires { W.is_well_formed world.now }

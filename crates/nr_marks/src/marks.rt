@@ -66,8 +66,8 @@ impl Marks {
         }
     }
 
-    /// Makes a breakpoint and returns its number, the next one. Fails, without any change, if there are 64 marks
-    /// already or the numbers are used up.
+    /// Makes a breakpoint with the next number, and returns the number. Fails, without any change,
+    /// if there are 64 marks already or the numbers are used up.
     pub fn add_break(&mut self, wanted: Break) -> Result<u32, MarkFault>
         ensures number { result ≡ next_number self.old }
         ensures marks { self.new ≡ with_item (mark.Break wanted) self.old }
@@ -76,8 +76,8 @@ impl Marks {
         self.add(Mark::Break(wanted))
     }
 
-    /// Makes a temporary breakpoint and returns its number, the next one. Fails, without any change, if there are 64
-    /// marks already or the numbers are used up.
+    /// Makes a temporary breakpoint with the next number, and returns the number. Fails, without
+    /// any change, if there are 64 marks already or the numbers are used up.
     pub fn add_tbreak(&mut self, wanted: Break) -> Result<u32, MarkFault>
         ensures number { result ≡ next_number self.old }
         ensures marks { self.new ≡ with_item (mark.TemporaryBreak wanted) self.old }
@@ -86,8 +86,8 @@ impl Marks {
         self.add(Mark::TemporaryBreak(wanted))
     }
 
-    /// Makes a watchpoint and returns its number, the next one. Fails, without any change, if there are 64 marks
-    /// already or the numbers are used up.
+    /// Makes a watchpoint with the next number, and returns the number. Fails, without any change,
+    /// if there are 64 marks already or the numbers are used up.
     pub fn add_watch(&mut self, cell: Cell) -> Result<u32, MarkFault>
         ensures number { result ≡ next_number self.old }
         ensures marks { self.new ≡ with_item (mark.Watch cell) self.old }
@@ -96,8 +96,8 @@ impl Marks {
         self.add(Mark::Watch(cell))
     }
 
-    /// Makes a mark and returns its number, the next one. Fails, without any change, if there are 64 marks already or
-    /// the numbers are used up.
+    /// Makes a mark with the next number, and returns the number. Fails, without any change, if
+    /// there are 64 marks already or the numbers are used up.
     pub fn add(&mut self, mark: Mark) -> Result<u32, MarkFault>
         ensures number { result ≡ next_number self.old }
         ensures marks { self.new ≡ with_item mark self.old }
@@ -109,8 +109,8 @@ impl Marks {
         }
     }
 
-    /// Deletes the mark with this number. The others keep their numbers. Fails, without any change, if no mark has this
-    /// number.
+    /// Deletes the mark with this number. The other marks keep their numbers. Fails, without any
+    /// change, if no mark has this number.
     pub fn delete(&mut self, number: u32) -> Result<(), MarkFault>
         ensures answer { result ≡ mark_deletion number self.old }
         ensures marks { self.new ≡ without_item number self.old }

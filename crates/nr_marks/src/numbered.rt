@@ -11,7 +11,7 @@ pub const MOST_NUMBERED: usize = 64;
 /// An item and its number.
 #[derive(Clone, Copy, Debug, Default, PartialEq, Eq)]
 pub struct Numbered<T> {
-    /// The number, from 1, as GDB counts breakpoints.
+    /// The number, counted from 1, as GDB numbers its breakpoints.
     pub number: u32,
     pub item: T,
 }
@@ -65,7 +65,8 @@ impl<T: Copy + Default> NumberedList<T> {
         Some(numbered)
     }
 
-    /// Deletes the item with this number, and returns whether there was one. The others keep their numbers.
+    /// Deletes the item with this number, and returns whether there was one. The other items keep
+    /// their numbers.
     pub fn delete(&mut self, number: u32) -> bool
         ensures was_present { result ≡ is_present number self.old }
         ensures list { self.new ≡ without_item number self.old }

@@ -4,8 +4,8 @@ use Rattle.std.proofs.lemmas.List.{take_more}
 use Rattle.nr_rev.specs.Transaction.{Applied, LeadsBack, FirstRefused}
 
 module _ {State Delta : Type 0} (back : Delta → State → State → Type 0) where
-  -- if deltas undo some steps and one more delta undoes the next step, together they undo all of
-  -- them
+  -- if some deltas undo a sequence of steps and another delta undoes the next step, all the deltas
+  -- together undo all the steps
   pub LeadsBack-push : (deltas : List Delta) (delta : Delta) (new mid old : State) → LeadsBack back deltas mid old → back delta new mid → LeadsBack back (deltas ++ delta ∷ []) new old
   LeadsBack-push [] delta new mid old rest last = (new, refl, subst (λ s. back delta new s) rest last)
   LeadsBack-push (first ∷ deltas) delta new mid old rest last =
@@ -50,7 +50,7 @@ module _ {State Op Answer Delta : Type 0} (steps : State → Op → Answer → S
       inr (run.0, run.1, run.5, FirstRefused-after refuses ops run.3 rest reason run.1 mid run.8 h)
 
 module _ {State Delta : Type 0} (back : Delta → State → State → Type 0) where
-  -- undoing the last delta gives a state from which undoing the others restores the old state
+  -- undoing the last delta gives a state from which undoing the other deltas restores the old state
   pub LeadsBack-undone : (unique : (delta : Delta) (new a b : State) → back delta new a → back delta new b → a ≡ b) → (deltas rest : List Delta) (delta : Delta) (new mid old : State)
       → deltas ≡ rest ++ delta ∷ [] → back delta new mid → LeadsBack back deltas new old → LeadsBack back rest mid old
   LeadsBack-undone unique deltas rest delta new mid old last undone h =

@@ -5,7 +5,7 @@ use Rattle.std.proofs.lemmas.Option.{same_Some, slice_get-get_or}
 use Rattle.std.specs.Prelude.{IfSome}
 use Rattle.std.specs.List.{slice_get}
 
--- if a view shows the pushed element and a missing element alike, the push doesn't change it
+-- a push doesn't change a view that is the same for the pushed element as for a missing one
 pub slice_get-push_unseen : {X B : Type 0} (f : Option X → B) (xs : List X) (x : X) (i : ℕ) → f None ≡ f (Some x) → f (slice_get (xs ++ x ∷ []) i) ≡ f (slice_get xs i)
 slice_get-push_unseen f [] x zero e = sym e
 slice_get-push_unseen f [] x (suc i) e = refl
@@ -32,7 +32,7 @@ slice_get-set_here [] i old new e = cc
 slice_get-set_here (x ∷ xs) zero old new e = refl
 slice_get-set_here (x ∷ xs) (suc i) old new e = slice_get-set_here xs i old new e
 
--- if a view shows the new element and the old one alike, the write doesn't change it
+-- a write doesn't change a view that is the same for the new element as for the old one
 pub slice_get-set_unseen : {X B : Type 0} (f : Option X → B) (xs : List X) (i : ℕ) (old new : X) (j : ℕ) → slice_get xs i ≡ Some old → f (Some new) ≡ f (Some old)
     → f (slice_get (set xs i new) j) ≡ f (slice_get xs j)
 slice_get-set_unseen f [] i old new j at e = refl
@@ -68,7 +68,8 @@ pub slice_get-push_all : {X : Type 0} (P : X → Type 0) (xs : List X) (new : X)
     → P x
 slice_get-push_all P xs new p all j x is = elim (slice_get-push_cases xs new x j is) [ inl old ↦ all j x old | inr here ↦ subst P here.1 p ]
 
--- if a place had an element with a property, it still has one after a write
+-- if a place had an element with a property, it still has one after a write whose new element has
+-- the property if the old one had it
 pub slice_get-set_found : {X : Type 0} (P : X → Type 0) (xs : List X) (i : ℕ) (old new : X) (j : ℕ) (x : X) → slice_get xs i ≡ Some old → (j ≡ i → P old → P new) → slice_get xs j ≡ Some x → P x
     → (y : X) × (slice_get (set xs i new) j ≡ Some y) × P y
 slice_get-set_found P xs i old new j x at next is p =

@@ -63,7 +63,7 @@ take-next : {X : Type 0} (xs : List X) (n : ℕ) (x : X) → slice_get xs n ≡ 
 take-next xs n x read =
     take_more xs n x (slice_get_within xs n x read) ∙ ap (λ y. take n xs ++ y ∷ []) (get_or_from_slice_get xs n x x read)
 
--- the world after some steps and one more
+-- the world after some steps and the step that follows them
 world_after-push : (w : World) (steps : List Step) (step : Step) → world_after w (steps ++ step ∷ []) ≡ next_of (world_after w steps) (outcome (world_after w steps) step)
 world_after-push w [] step = refl
 world_after-push w (first ∷ steps) step = world_after-push (next_of w (outcome w first)) steps step

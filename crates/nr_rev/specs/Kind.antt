@@ -58,7 +58,7 @@ kinds = map (λ row. row.0) spelled_kinds
 abbrev pub kind_named : List ℕ → Option Kind
 kind_named name = find (λ kind. bytes_eq (kind_name kind) name) kinds
 
--- the kind's number: its place among all kinds, from 1 on
+-- the kind's number: its place among all kinds, counted from 1
 abbrev pub kind_number : Kind → ℕ
 kind_number kind = option_map_or (λ place. place + 1) (position (same_kind kind) kinds) 0
 

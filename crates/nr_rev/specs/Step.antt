@@ -434,7 +434,7 @@ abbrev pub armed_by : ℕ → ℕ → Side → WaitWord → DescriptorRow → Wo
 armed_by g d side WaitWord.Nil row w =
     Ok (Wait, with_wait g (Armed d side) d side WaitWord.Wait row w)
 armed_by g d side WaitWord.Ready row w = Ok (Code 0, with_wait g Idle d side WaitWord.Nil row w)
--- no well-formed world has another word here
+-- in a well-formed world, blockarm finds no other word
 armed_by g d side _ row w = Err DoubleWait
 
 -- blockarm: the part of netpollblock where the word becomes wait

@@ -16,7 +16,7 @@ IsTime t = FitsSigned w64 t
 abbrev pub is_before : Timer → Timer → Bool
 is_before a b = int_lt a.due b.due || (int_eq a.due b.due && nat_lt a.number b.number)
 
--- the entry whose timer goes off first, of this one and the other, if there is one
+-- of one or two entries, the one whose timer goes off first
 abbrev pub earlier_of : Entry → Option Entry → Entry
 earlier_of e None = e
 earlier_of e (Some other) = if is_before other.timer e.timer then other else e

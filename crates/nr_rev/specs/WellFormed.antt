@@ -17,7 +17,7 @@ use Rattle.nr_rev.specs.Socket.{Socket}
 use Rattle.nr_rev.specs.declared.descriptor.DescriptorRow.{DescriptorRow}
 use Rattle.nr_rev.specs.World.{World, is_free_number, wait_of}
 
--- true if the view of goroutine g's status is a
+-- true if a is the view of goroutine g's status
 abbrev pub HasView : {A : Type 0} → (Status → Option A) → List Status → ℕ → A → Type 0
 HasView view goroutines g a = option_and_then view (slice_get goroutines g) ≡ Some a
 

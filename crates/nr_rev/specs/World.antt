@@ -32,7 +32,7 @@ pub record World : Type 0 where
   pub clock : ℤ
   -- the number of wait words that hold a parked goroutine: `netpollWaiters`
   pub waiters : ℕ
-  -- the arming number of the next timer to be armed, from 1 on
+  -- the arming number of the next timer to be armed, counted from 1
   pub next_arming : ℕ
 
 -- the state before the first step: goroutine 0 idle, nothing opened, the clock at 0, arming numbers

@@ -141,8 +141,9 @@ impl Kind {
         }
     }
 
-    /// Returns whether a step of this kind may change the cell. If not, the cell has the same value after each such
-    /// step as before it: `aspects::steps_change_their_aspects_alone` of `nr_laws`.
+    /// Returns whether a step of this kind may change the cell. A cell that a step may not change
+    /// has the same value before and after the step: `aspects::steps_change_their_aspects_alone` of
+    /// `nr_laws`.
     #[inline]
     pub fn can_change(self, cell: Cell) -> bool
         ensures { result ≡ can_change self cell }

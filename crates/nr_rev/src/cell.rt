@@ -138,7 +138,8 @@ impl Cell {
         }
     }
 
-    /// Returns the number of the cell's sort, from 1 on. It doesn't depend on the goroutine, socket or descriptor.
+    /// Returns the number of the cell's sort, counted from 1. It doesn't depend on the goroutine,
+    /// socket or descriptor.
     pub fn number(self) -> u8
         ensures { result ≡ cell_number self }
     {
@@ -201,9 +202,9 @@ impl Cell {
         }
     }
 
-    /// Returns the cell whose sort has this number, from 1 on, with this index, if there is one.
-    /// The index is the number of a goroutine, a socket or a descriptor; a cell that exists once
-    /// has none.
+    /// Returns the cell with this index whose sort has this number, counted from 1, if there is
+    /// one. The index is the number of a goroutine, a socket or a descriptor; a cell that exists
+    /// once has none.
     pub fn numbered(number: u8, index: Option<u32>) -> Option<Cell>
         ensures { result ≡ cell_numbered number index }
     {

@@ -7,7 +7,8 @@ use std::mem;
 /// A place for an operation's undo. It keeps the undo, or drops it if the operation is never
 /// undone. So a machine's operation is written once and compiled in two versions.
 pub trait Keeper<Undo> {
-    /// Whether the place keeps the undo. If not, an operation needs no memory for it.
+    /// Whether the place keeps the undo. If it doesn't keep the undo, the operation needs no memory
+    /// for it.
     const KEEPS: bool;
 
     ghost KEEPS: { Bool };
@@ -20,8 +21,8 @@ pub trait Keeper<Undo> {
         ensures { holds self.new undo };
 }
 
-/// A place that keeps nothing. It doesn't free the undo either, since no memory was taken for it.
-/// So the compiler needn't build the undo at all.
+/// A place that keeps nothing. No memory is taken for the undo, so the place needn't free it, and
+/// the compiler needn't build it at all.
 #[derive(Clone, Copy, Debug, Default, PartialEq, Eq)]
 pub struct NoWayBack;
 

@@ -89,7 +89,7 @@ impl Kind {
         KINDS[self.number() as usize - 1].1
     }
 
-    /// Returns the number of the kind, from 1 on.
+    /// Returns the number of the kind, counted from 1.
     pub fn number(self) -> u8
         ensures value { result ≡ kind_number self }
         ensures range { (0 < result) × (result ≤ 31) }

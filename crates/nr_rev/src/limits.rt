@@ -23,8 +23,8 @@ pub struct Limits {
     pub goroutines: u32,
     /// The maximum number of sockets; 1 to 256.
     pub sockets: u32,
-    /// The maximum number of descriptors that may be open at once; 1 to 256. Twice as many firings
-    /// may wait to be run.
+    /// The maximum number of descriptors that may be open at once; 1 to 256. At most twice this
+    /// number of firings may wait to be run.
     pub descriptors: u32,
     /// The greatest capacity of a socket's input or output, and the greatest size of one read, in bytes; 1 to
     /// 1,048,576.

@@ -3,8 +3,8 @@
 use crate::answer::Answer;
 use crate::sides::Sides;
 
-/// The lock of a socket: the fields of `fdMutex.state`. References and waiters have 20 bits there, so each is below
-/// 1,048,576 in a well-formed world.
+/// The lock of a socket: the fields of `fdMutex.state`. The counts of references and waiters have
+/// 20 bits each, so each count is below 1,048,576 in a well-formed world.
 #[derive(Clone, Copy, Debug, PartialEq, Eq)]
 pub struct Lock {
     /// Whether the socket was closed.

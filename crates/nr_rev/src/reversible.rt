@@ -84,6 +84,6 @@ pub trait Reversible {
     ghost steps_unique: { (old : Self) (op : Self.Op) (a b : Self.Answer) (new other : Self)
         → steps old op a new → steps old op b other → (a ≡ b) × (new ≡ other) };
 
-    /// The allowance of each operation is within the greatest one.
+    /// The allowance of each operation is at most the greatest allowance.
     ghost allowance_is_within: { (op : Self.Op) → allowance op ≤ WORDS };
 }

@@ -7,8 +7,8 @@ use std::alloc::Global;
 use std::marker::Model;
 
 /// A list of at most `room` items; contracts see the items and the room. The constructor takes all
-/// its memory. No other method takes any for this list, so undoing a step can't run out of memory;
-/// `try_copy` takes memory for the copy.
+/// its memory. No other method takes memory for this list, so undoing a step can't run out of
+/// memory; `try_copy` takes memory for the copy.
 #[derive(Drop)]
 pub struct RoomedList<T> {
     items: Vec<T>,
@@ -160,7 +160,8 @@ impl<T: Copy> RoomedList<T> {
         self.items.get(place).copied()
     }
 
-    /// Replaces the item at a place and returns the old one. If there is no item at this place, returns the new one.
+    /// Replaces the item at a place and returns the old item. If there is no item at this place,
+    /// returns the new item.
     #[tactic(auto, using(crate::proofs::ListUpdateLemmas::set_read_back, crate::proofs::ListUpdateLemmas::read_is_there))]
     pub fn replace(&mut self, place: usize, item: T) -> T
         ensures items { self.new ≡ record self.old { items = slice_set self.old.items place item } }

@@ -7,7 +7,7 @@ use crate::sides::{Side, Sides};
 /// that is, in `runtime_pollWait` of `runtime/netpoll.go`.
 #[derive(Clone, Copy, Debug, PartialEq, Eq)]
 pub enum Status {
-    /// The goroutine is in no call that takes several steps.
+    /// The goroutine isn't inside a call that takes several steps.
     Idle,
     /// Another goroutine has the lock, so this one will acquire the semaphore.
     Acquiring {

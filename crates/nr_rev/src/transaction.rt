@@ -1,4 +1,4 @@
-//! Transactions: several operations, of which all are applied or none.
+//! Transactions: sequences of operations that are applied either completely or not at all.
 
 ghost use Rattle.std.specs.Prelude.{◌≡◌, ◌≤◌, [], length, OnOk, OnErr, IfErr};
 ghost use Rattle.nr_rev.specs.Reversible.{Refuses};

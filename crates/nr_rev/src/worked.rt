@@ -261,8 +261,9 @@ pub fn last_numbers_are_not_raised()
         (Step.SetDeadline 0 0 Mode.Read (pos 1)) ≡ Err Refusal.LastNumber }
 {}
 
-/// The cells that kinds of steps can change: an rwlock can change a lock word and a goroutine's status; a tick the
-/// clock and no lock word; an event a wait word and no deadline.
+/// The cells that some kinds of steps can change: an rwlock can change a lock word and a
+/// goroutine's status; a tick can change the clock, but no lock word; an event can change a wait
+/// word, but no deadline.
 pub fn kinds_change_what_they_touch()
     ensures lock_by_rwlock { can_change Kind.RwLock (Cell.Lock 0) ≡ true }
     ensures goroutine_by_rwlock { can_change Kind.RwLock (Cell.Goroutine 0) ≡ true }

@@ -55,7 +55,8 @@ impl Sock {
         })
     }
 
-    /// Restores the buffers from a snapshot with the same limit, in the memory that they have. Allocates no memory.
+    /// Restores the buffers from a snapshot with the same limit, in their existing memory.
+    /// Allocates no memory.
     pub fn restore(&mut self, snapshot: &SockSnapshot)
         requires { self.old.limit ≡ snapshot.now.limit }
         ensures { self.new ≡ snapshot.now }

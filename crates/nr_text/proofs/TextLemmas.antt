@@ -26,7 +26,7 @@ all_cut f xs i x u v w e result within is fails sent cut =
     let part = writes_cut v w (f (get_or xs i x)) (flat_map f (drop (suc i) xs)) e result fails (subst (λ y. Writes v w (f y) (Err e)) is cut) in
     subst (λ t. Writes u w t result) (sym (parts_at f xs i x within)) (writes_then u v w (flat_map f (take i xs)) _ result sent part)
 
--- `all_cut` if each part is the text of a number
+-- the lemma `all_cut` for parts that are texts of numbers
 pub all_numbers_cut : (f : ℕ → List ℕ) (xs : List ℕ) (i : ℕ) (u v w : Buffering) (e : WriteFailed) (result : Result (Unit {0}) WriteFailed)
     → i < length xs → IsErr result → Writes u v (flat_map f (take i xs)) (Ok tt) → Writes v w (f (get_or xs i 0)) (Err e) → Writes u w (flat_map f xs) result
 all_numbers_cut f xs i u v w e result within =

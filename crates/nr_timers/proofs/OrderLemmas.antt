@@ -18,7 +18,7 @@ pub less_self : (a : Entry) → is_less a a ≡ false
 unfolding is_less
 less_self a = grind (arith, ints, nat_tests)
 
--- the order compares two entries as it compares entries that equal them
+-- comparing two entries has the same result as comparing entries that are equal to them
 pub same_less : (a b c d : Entry) (v : Bool) → a ≡ c → b ≡ d → is_less c d ≡ v → is_less a b ≡ v
 same_less a b c d v p q h = rw (p, q) h
 

@@ -12,7 +12,7 @@ use Rattle.nr_timers.specs.PathLaws.{Leads-more, OnPath-le}
 use Rattle.nr_timers.proofs.PathLemmas.{at-swap, moved_down-more, length-moved_up, length-moved_down}
 use Rattle.nr_timers.proofs.ExchangeLemmas.{OrderedAbove-up, Raised-up, OrderedBelow-down, Sunk-down}
 
--- the least entry so far, compared with one more entry
+-- an entry that is less than the least entry so far is the new least entry
 pub least_new : (xs : List Entry) (from i least new : ℕ) → new ≡ i → is_less (at xs i) (at xs least) ≡ true → ((j : ℕ) → from ≤ j → j < i → is_less (at xs j) (at xs least) ≡ false) → (j : ℕ)
     → from ≤ j → j < i + 1 → is_less (at xs j) (at xs new) ≡ false
 least_new xs from i least new e less so_far j lo hi =
@@ -90,7 +90,7 @@ pub none_less : (old : List Entry) (p c : ℕ) → is_less (at old c) (at old p)
     → i < length old → parent i ≡ p → is_less (at old i) (at old p) ≡ false
 none_less old p c not_less least i above within child = not_less-trans (at old p) (at old c) (at old i) not_less (least i above within child)
 
--- a move with one more exchange
+-- a move that is longer by an exchange
 pub lower_more : (old mid new : List Entry) (p q : ℕ) → q < p → ((n : ℕ) × Leads n (parent p) q × (mid ≡ moved_down n old (parent p))) → new ≡ swap mid p (parent p)
     → (n : ℕ) × Leads n p q × (new ≡ moved_down n old p)
 lower_more old mid new p q lt h e = (suc h.0, (omega arith, h.1), e ∙ ap (λ xs. swap xs p (parent p)) h.2)
@@ -99,7 +99,7 @@ pub lift_more : (old mid new : List Entry) (p q : ℕ) → q < p → mid ≡ swa
     → (n : ℕ) × Leads n p q × (new ≡ moved_up n old p)
 lift_more old mid new p q lt e h = (suc h.0, (omega arith, h.1), h.2 ∙ ap (λ xs. moved_up h.0 xs (parent p)) e)
 
--- the end of a path that isn't below its start is the start
+-- a place on the path from p whose number isn't lower than p is p itself
 pub path_end : (p q : ℕ) → OnPath p q → p ≤ q → q ≡ p
 path_end p q on le = let ge = OnPath-le p q on in omega arith
 

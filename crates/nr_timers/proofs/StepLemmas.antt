@@ -235,7 +235,8 @@ module _ (old : State) (well : IsTimers old) (e : Entry) (mid new : List Entry) 
         in_range = omega arith;
       }
 
--- if the armed entry gets the timer of the removed entry, it equals the removed entry
+-- if the armed entry has the key of the removed entry and gets its timer, it equals the removed
+-- entry
 pub with_old_timer : (new : List Entry) (to : ℕ) (e gone : Entry) → at new to ≡ e → key gone ≡ key e → with_timer new to gone.timer ≡ gone
 with_old_timer new to e gone arrives same =
     let both = one_side e.descriptor gone.descriptor e.side gone.side (sym (key_is e) ∙ sym same ∙ key_is gone) in

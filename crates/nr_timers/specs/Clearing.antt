@@ -21,17 +21,17 @@ abbrev pub Cleared : ℕ → Option Gone → List Entry → List Entry → Type 
 Cleared k None old new = (new ≡ old) × Absent k old
 Cleared k (Some gone) old new = Takes k gone old new
 
--- true if this undoes that removal
+-- true if this undoes the removal of the key's entry, if one was removed
 abbrev pub ClearedBack : Option Gone → List Entry → List Entry → Type 0
 ClearedBack None new old = old ≡ new
 ClearedBack (Some gone) new old = RemovedBack gone.place gone.last gone.entry new old
 
--- the undo of an arming that put its entry at a place after that removal
+-- the undo of an arming that removed the key's old entry, if any, and put the new one at a place
 abbrev pub armed_undo : ℕ → Option Gone → TimersUndo
 armed_undo to None = Armed to
 armed_undo to (Some gone) = Rearmed to gone.place gone.last gone.entry.timer
 
--- the undo of a stop, which made that removal
+-- the undo of a stop, which removed the key's entry, if any
 abbrev pub stopped_undo : Option Gone → TimersUndo
 stopped_undo None = Still
 stopped_undo (Some gone) = Stopped gone.place gone.last gone.entry

@@ -71,7 +71,7 @@ impl Heap {
         place
     }
 
-    /// Moves the entry at the place `above` down to the place.
+    /// Moves the entry at the place `above` down to `place`.
     pub(crate) fn lower(&mut self, place: usize, above: usize)
         requires place { place < length self.old.entries }
         requires path { (n : ℕ) × Leads n place above }
@@ -87,7 +87,7 @@ impl Heap {
         }
     }
 
-    /// Moves the entry at the place up to the place `above`.
+    /// Moves the entry at `place` up to the place `above`.
     pub(crate) fn lift(&mut self, place: usize, above: usize)
         requires place { place < length self.old.entries }
         requires path { (n : ℕ) × Leads n place above }

@@ -49,6 +49,6 @@ answered_view a = (a.answer, quiet a.desc)
 abbrev pub made_view : Made → Answer × Change
 made_view m = (m.answer, change_view m.change)
 
--- the view of a descriptor as itself
+-- the view that shows a descriptor as it is
 abbrev pub viewed_as_it_is : Descriptor → Descriptor
 viewed_as_it_is d = d

@@ -12,8 +12,8 @@ use Rattle.nr_desc.specs.declared.op.DescOp.TheVariants as op
 use Rattle.nr_desc.specs.declared.reversible.Made.{Made}
 use Rattle.nr_desc.specs.Op.{Outcome, left, outcome}
 
--- the goroutine that is woken at each side: if the operation unblocks words, the one that the
--- side's word held before but not after
+-- the goroutine that is woken at each side: if the operation unblocks words, the goroutine that the
+-- side's word held before the operation but doesn't hold after it
 abbrev pub woken_by : DescOp → Descriptor → Descriptor → Sides (Option ℕ)
 woken_by (op.SetDeadline clock mode t) old new = both_let_go old.words new.words
 woken_by op.Evict old new = both_let_go old.words new.words

@@ -35,11 +35,12 @@ HasTagBelow passes word = tag_of word < passes
 abbrev pub IsEntry : ℕ → ℕ → Type 0
 IsEntry tags word = HasOpcode word × IsDrawn tags (tag_of word)
 
--- True if a view is correct. Each view has the maximum number of passes, except for notes, whose
--- words are a prefix of the log. For a seat, the bits of the tags that it tried are set. For the
--- remaining passes, the bits of all tags are set, and no word has the tag of a remaining pass. For
--- a pass, its own bit and all lower bits are set, the words that it has read are a prefix of the
--- log with all words of its tag, and the words that it has learned of are also a prefix.
+-- True if a view is correct. The view of a seat, a pass or the remaining passes has the journal's
+-- maximum number of passes. The words of a note are a prefix of the log. For a seat, the bits of
+-- the tags that it tried are set. For the remaining passes, the bits of all tags are set, and no
+-- word has the tag of a remaining pass. For a pass, its own bit and all lower bits are set, the
+-- words that it has read are a prefix of the log with all words of its tag, and the words that it
+-- has learned of are also a prefix.
 abbrev pub Fits : ℕ → ℕ → List ℕ → View → Type 0
 Fits most tags log (Outside tried passes) = (passes ≡ most) × AreDrawn tags tried
 Fits most tags log (Keeping next passes) =

@@ -42,8 +42,8 @@ Makes {Place} holds place due asked old (Ok answer) new =
     (undo : WorldUndo) × holds place undo × Made due asked MOST_WORDS old answer undo new
 Makes {Place} holds place due asked old (Err e) new = (due ≡ Err e) × (new ≡ old)
 
--- True if the step is made and the place holds its undo if undos are kept, or if nothing changes
--- because the step is refused or memory runs out for bytes to keep.
+-- True if the step is made, and the place, if it keeps undos, holds the undo of the step; or if
+-- nothing changes, because the step is refused or memory runs out for the bytes to keep.
 abbrev pub MakesStep : {Place : Type 0} → Bool → (Place → WorldUndo → Type 0) → Place → Step
     → WorldParts → Result Answer Refusal → WorldParts → Type 0
 MakesStep {Place} keeps holds place step old (Ok answer) new =

@@ -8,7 +8,7 @@ abbrev pub IsLight : {Op Answer Delta : Type 0} → (Delta → ℕ) → (Op → 
 IsLight weight allowance bytes_out op answer delta =
     weight delta ≤ allowance op + (bytes_out op answer + 7) / 8
 
--- true if the place, unless it keeps nothing, holds an undo with this property
+-- true if the place keeps nothing, or holds an undo with this property
 abbrev pub IfKept : {Place Undo : Type 0} → Bool → (Place → Undo → Type 0) → Place
     → (Undo → Type 0) → Type 0
 IfKept {Place} {Undo} keeps holds place so =

@@ -2,7 +2,7 @@ use Rattle.std.proofs.Common.{length}
 use Rattle.nr_rev.specs.Transaction.{LeadsBack}
 use Rattle.nr_rev.proofs.transaction.undo_all.Given as goal
 
--- each state that undoing all the deltas restores is also restored by undoing those that are left
+-- undoing the deltas that are left restores each state that undoing all the deltas restores
 abbrev pub invariant-loop-delta : goal.invariant-loop-delta
 invariant-loop-delta g l =
     let back = g.S.Reversible.back in

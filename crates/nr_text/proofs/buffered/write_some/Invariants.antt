@@ -1,4 +1,4 @@
--- Every try so far made a write that was interrupted and wrote nothing.
+-- Each write so far was interrupted and wrote nothing.
 use Rattle.std.proofs.Common.{◌≡◌, ◌≤◌, []}
 use Rattle.nr_text.specs.Streams.{Sends}
 use Rattle.nr_text.proofs.buffered.write_some.Given as goal

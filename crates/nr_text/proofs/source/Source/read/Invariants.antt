@@ -1,4 +1,4 @@
--- Every try so far made a read that was interrupted and received nothing.
+-- Each read so far was interrupted and received nothing.
 use Rattle.std.proofs.Common.{◌≡◌, false, List, [], length}
 use Rattle.nr_text.specs.Streams.{Receives}
 use Rattle.nr_text.specs.Moments.{Moment}
