@@ -41,7 +41,7 @@ same_queues nodes new semaphores queues h kept bits alone named =
       named = named;
     }
 
--- the semaphores stay the same if the nodes of queued goroutines are unchanged
+-- if the old and the new nodes form the same queues, the semaphores stay the same
 pub same_semaphores : (nodes new : List GoroutineNode) (semaphores : List (Sides SemaphoreHead)) (queues : ℕ → Side → List ℕ) → AreQueues nodes semaphores queues → AreQueues new semaphores queues
     → map (semaphores_from new) semaphores ≡ map (semaphores_from nodes) semaphores
 same_semaphores nodes new semaphores queues h k =

@@ -54,7 +54,8 @@ fits_drawn most tags more log (Note seen) up fits = fits
 fits_drawn most tags more log Spent up fits = tt
 
 module _ (purpose : Purpose) where
-  -- the rule still holds after bits of tags are set and one view changes
+  -- the rule still holds after bits of tags are set and one view changes, if the new bits fit the
+  -- views
   pub kept_drawn : (words : List ℕ) (views : List View) (k : Kept purpose words views) (id more : ℕ) (w : View) → ((j : ℕ) → IsDrawn k.tags j → IsDrawn more j)
       → Fits purpose.passes more k.log w → AreApart (set views id w) → AreTaken more (set views id w) → AreFew purpose.passes more → Kept purpose (set words 0 more) (set views id w)
   kept_drawn words views k id more w up fits apart taken few = record {

@@ -129,7 +129,7 @@ snoc_view purpose words views w k fits none_there = record {
 }
 
 module _ (purpose : Purpose) where
-  -- the rule still holds after one view changes and no word does
+  -- the rule still holds after one view becomes another correct view with the same tags
   pub kept_view : (words : List ℕ) (views : List View) (id : ℕ) (v w : View) → get_elem? views id ≡ some v → (k : Kept purpose words views) → Fits purpose.passes k.tags k.log w → AreAlike v w
       → Kept purpose words (set views id w)
   kept_view words views id v w at k fits same = record {
@@ -145,7 +145,7 @@ module _ (purpose : Purpose) where
     few = k.few;
   }
 
-  -- the value in the table after all words that a pass has read
+  -- if a pass has read all words of the log, the next value in the table is 0
   pub at_place : (words : List ℕ) (views : List View) (k : Kept purpose words views) (seen : List ℕ) → k.log ≡ seen → get_or words (suc (length seen)) 0 ≡ 0
   at_place words views k seen is = ap (λ (ws : List ℕ). get_or ws (suc (length seen)) 0) k.words_are
       ∙ ap (λ (l : List ℕ). get_or (l ++ replicate k.free 0) (length seen) 0) (is ∙ sym (append-nil seen)) ∙ behind seen k.free
@@ -154,7 +154,7 @@ module _ (purpose : Purpose) where
   before_end words views k seen v rest is = ap (λ (ws : List ℕ). get_or ws (suc (length seen)) 0) k.words_are
       ∙ ap (λ (l : List ℕ). get_or (l ++ replicate k.free 0) (length seen) 0) is ∙ beside seen v rest (replicate k.free 0)
 
-  -- the rule still holds after a pass reads the word at the next place
+  -- the rule still holds after a pass reads another pass's word at the next place
   pub kept_found : (words : List ℕ) (views : List View) (k : Kept purpose words views) (id : ℕ) (pass_state : PassState) (v : ℕ) (rest : List ℕ) → get_elem? views id ≡ some (Within pass_state)
       → k.log ≡ pass_state.seen ++ v ∷ rest → All (IsOthers pass_state.tag) (v ∷ rest) → Kept purpose words (set views id (Within (having_seen pass_state v)))
   kept_found words views k id pass_state v rest at is others = let c = k.each_view id (Within pass_state) at in

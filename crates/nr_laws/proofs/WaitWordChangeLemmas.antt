@@ -97,7 +97,7 @@ word_at_cases rows d row side new k s word at has =
       | inr there ↦ inr ((λ both. there.0 both.0), there.1)
     ]
 
--- every word except the one that changed is as before
+-- after one word changes, each word that differs from its old value is as before
 pub word_kept : (rows : List DescriptorRow) (d : ℕ) (row : DescriptorRow) (side : Side) (new : WaitWord) (k : ℕ) (s : Side) (word : WaitWord) → slice_get rows d ≡ Some row
     → of_side side row.descriptor.words ≢ word → HasWaitWord rows k s word → HasWaitWord (with_word_at rows d row side new) k s word
 word_kept rows d row side new k s word at other has =

@@ -114,7 +114,7 @@ module _ (m : WorldParts) (g d : ℕ) (o : DescOp) where
   waiting_leads before after answer at leads =
       rw (row_at m.core.descriptors.items m.core.timers.entries d before at, leads.defined) refl
 
--- the status after such an operation isn't one that only the table sets
+-- the status after an operation on a word isn't one that only the table sets
 after_movable : (d : ℕ) (o : DescOp) (answer : Answer) → is_movable (status_after d o answer) ≡ true
 after_movable d (op.Arm side) Answer.Wait = refl
 after_movable d (op.Arm side) _ = refl
