@@ -1,4 +1,4 @@
--- The invariant of every world that steps lead to.
+-- The invariant of every world that steps can reach.
 use Rattle.std.specs.Prelude.{◌≡◌, ℕ, ◌+◌, ◌*◌, ◌^◌, ◌<◌, ◌≤◌, Bool, true, false, ◌&&◌, ◌==◌, ◌⊎◌, ◌↔◌, ℤ, pos, ◌≤ℤ◌, List, length, sum_by, count_by, All, slice_get, Option, Some, None, option_map, option_and_then, IsTrue}
 use Rattle.nr_rev.specs.declared.sides.Side.{Side}
 use Rattle.nr_rev.specs.declared.descriptor.WaitWord.{WaitWord}
@@ -216,8 +216,8 @@ pub record ClockFits (clock : ℤ) (firings : List Entry) : Type 0 where
   pub come : (i : ℕ) (firing : Entry) → slice_get firings i ≡ Some firing
       → firing.timer.due ≤ℤ clock
 
--- the invariant of every state that steps lead to: the parts fit one another, and no table exceeds
--- its limit
+-- the invariant of every state that steps can reach: the parts fit one another, and no table
+-- exceeds its limit
 pub record WellFormed (w : World) : Type 0 where
   pub goroutines : GoroutinesFit w.goroutines w.sockets w.descriptors w.free
   pub words : WaitWordsFit w.goroutines w.descriptors w.waiters

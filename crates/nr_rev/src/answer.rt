@@ -14,7 +14,8 @@ pub enum Answer {
     Put(u32),
     /// The step is done and returns nothing.
     Done,
-    /// The goroutine got what it asked for: the reference, the lock, the semaphore, the parking or the event.
+    /// The goroutine got the reference, the lock, the semaphore or the event that it asked for, or
+    /// it parked.
     Yes,
     /// The goroutine didn't get what it asked for; a lock answers this if it is closed.
     No,

@@ -4,8 +4,8 @@
 //! The machine models Go's network poller: socket locks after `internal/poll/fd_mutex.go`;
 //! descriptors, waits and deadlines after `runtime/netpoll.go`. Semaphores, sockets, timers and the
 //! order of reasons follow the machine's own rules. The definitions are in `specs/`: `Step` has the
-//! thirty-one steps, `World` the state, `WellFormed` the invariant of every world that steps lead
-//! to, `Cell` the readable values, and `Run` the positions of a recording.
+//! thirty-one steps, `World` the state, `WellFormed` the invariant of every world that steps can
+//! reach, `Cell` the readable values, and `Run` the positions of a recording.
 #![tactic(auto)]
 
 mod answer;

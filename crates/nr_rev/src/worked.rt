@@ -103,7 +103,8 @@ pub fn read_recording_holds()
     ensures all_apply { first_refused_of a_read_through_the_poller ≡ None }
 {}
 
-/// An event between the last check and the parking: the commit finds the word ready, so the goroutine doesn't park.
+/// An event between the last check and the commit to park: the commit finds the word ready, so the
+/// goroutine doesn't park.
 pub fn early_event_recording_holds()
     ensures word_at_four { cell_after an_event_before_the_parking 4 (Cell.ReadWord 0)
         ≡ CellValue.WaitWord WaitWord.Nil }
