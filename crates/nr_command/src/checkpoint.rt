@@ -23,8 +23,8 @@ pub enum CheckpointFault {
     CheckpointsFull,
 }
 
-/// The checkpoints of a debugger. They are numbered from 1 in the order in which they are made, and a number is never
-/// used twice. No call takes memory.
+/// The checkpoints of a debugger. Checkpoints are numbered from 1 in the order in which they are
+/// made, and a number is never used twice. No call takes memory.
 #[derive(Debug, Drop)]
 pub struct Checkpoints {
     list: NumberedList<usize>,
@@ -68,8 +68,8 @@ impl Checkpoints {
         self.list.find(number)
     }
 
-    /// Deletes the checkpoint with this number. The others keep their numbers. Fails, without any change, if no
-    /// checkpoint has this number.
+    /// Deletes the checkpoint with this number. The other checkpoints keep their numbers. Fails,
+    /// without any change, if no checkpoint has this number.
     pub fn delete(&mut self, number: u32) -> Result<(), CheckpointFault>
         ensures answer { result ≡ checkpoint_deletion number self.old }
         ensures gone { self.new ≡ without_item number self.old }

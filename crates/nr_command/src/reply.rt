@@ -84,7 +84,8 @@ pub enum Fault {
     Line(LineFault),
     /// The line ran out of memory.
     Memory(Memory),
-    /// The command at this index of the journal, counted from 1, ran out of memory. Its reply is still owed.
+    /// The command at this index of the journal, counted from 1, ran out of memory. The command's
+    /// reply is still owed.
     Placed(usize),
     /// The journal is full.
     JournalFull,

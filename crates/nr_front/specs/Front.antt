@@ -111,8 +111,8 @@ Executes command old new (Err Full) = FindsFull old new
 abbrev pub with_walker_state : WalkerState → FrontState → FrontState
 with_walker_state walker_state front_state = record front_state { walker_state = walker_state }
 
--- The front read and ran all words. Then the walker went to the debugger's position if the query is
--- about the world. The reply is the reply of the debugger after these words.
+-- The front read and ran all words, and if the query is about the world, the walker then went to
+-- the debugger's position. The reply is that of the debugger that has run these words.
 pub record RepliesToLook (query : Query) (old new : FrontState) (reply : Reply) : Type 0 where
   pub caught_up : FrontState
   pub catches_all : CatchesAll old caught_up

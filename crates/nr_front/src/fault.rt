@@ -12,7 +12,8 @@ pub enum FrontFault {
     /// Memory ran out for another user's command that is earlier in the journal, or for the query.
     /// The call's command isn't placed.
     Memory(Memory),
-    /// The command at this index of the journal, counted from 1, ran out of memory. Its reply is owed.
+    /// The command at this index of the journal, counted from 1, ran out of memory. The command's
+    /// reply is owed.
     Placed(usize),
     /// The journal is full. The call's command isn't placed.
     Full,

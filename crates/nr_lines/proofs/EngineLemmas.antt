@@ -63,7 +63,7 @@ prompt_now r r' w w' p p' read line whole st unended m now = record {
   unended = λ none. now.2 (unended none);
 }
 
--- the reads so far, with the reads made now
+-- the earlier reads, followed by the reads made now
 passes_more : (r r' r'' : Incoming) (before now : List Moment) → Passes r r' before → Passes r' r'' now → Passes r r'' (before ++ now)
 passes_more r r' r'' before now first then = then ∙ ap (λ (l : List Moment). l ++ now) first ∙ append_assoc r.moments before now
 

@@ -147,8 +147,8 @@ fn played(table: &mut GTable, operations: &[GOperation]) -> Played
     (applied, table.count(0, Side::Read), links(table))
 }
 
-/// Queues the goroutines. Then tries operations of which the last is refused, and operations that
-/// apply.
+/// Queues the goroutines, and then tries operations of which the last is refused, and operations
+/// that apply.
 fn refused_and_applied(table: &mut GTable) -> Result<[Played; 2], Refusal>
     requires { IsQueuedUp table.old }
 {

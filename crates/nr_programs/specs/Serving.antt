@@ -28,9 +28,9 @@ PrintsHistory (Some history) failed old new status =
     EndsPrinting (placed_line history) (exit_status_of failed) old new status
 PrintsHistory None failed old new status = EndsPrinting memory_line Refused old new status
 
--- The requested number of fronts was opened, with these conversations. They shared the recording
--- over one journal, each with the requested number of workers and a walker as deep as that of
--- `run`.
+-- The requested number of fronts was opened, with these conversations. The fronts shared the
+-- recording over one journal, each with the requested number of workers and a walker as deep as
+-- that of `run`.
 abbrev pub SharesAll : Recording → Sharing → FrontsLog → FrontsLog → Option (List ℕ) → Bool → Type 0
 SharesAll r sharing before after history failed =
     (passed : List Passed) × Opens sharing.fronts passed before after

@@ -93,7 +93,7 @@ pub record HasRun (r : Recording) (history seen : List ℕ) (s : SessionState) :
   pub at : IsAt r seen s.owed s.debugger
 
 -- The callers of a front were answered, one after the other, after the front had seen these words.
--- With each caller, the front runs a longer prefix of the one history. The added words are those
+-- With each caller, the front runs a longer prefix of the history. The added words are those
 -- that the front saw with the caller's lines: the words of other fronts before each line, and the
 -- own word of each placed command, once. After the last caller, no word of the history that the
 -- front hasn't seen has its tag.

@@ -120,9 +120,9 @@ abbrev pub journal_of_one : JournalSize
 journal_of_one = record { room = 65536; passes = 1 }
 
 -- True if a command may have this supply when the session is in this state. Memory may be missing
--- before the command is placed only if other fronts may have placed words. Its search may run out
--- of memory only if it searches through copies of worlds. The journal may be full only if as many
--- words were placed as it has room for.
+-- before the command is placed only if other fronts may have placed words. The command's search may
+-- run out of memory only if it searches through copies of worlds. The journal may be full only if
+-- as many words were placed as it has room for.
 abbrev pub CommandMayHave : Recording → JournalSize → Command → Supply → SessionState → Type 0
 CommandMayHave r journal command enough s = ⊤
 CommandMayHave r journal command no_memory s = journal.passes ≢ 1

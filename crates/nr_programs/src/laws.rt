@@ -114,7 +114,7 @@ pub fn a_lie_is_no_run()
 
 /// Among the words that a front sees with its callers' lines, the front's own words are exactly the
 /// words of the commands that the lines placed, each once and in the order of the lines. So these
-/// words are in the one history, in this order.
+/// words are in the session's history, in this order.
 pub fn each_placed_command_is_there_once()
     ensures { (tag : ℕ) (r : Recording) (s : SessionState) (lines : List (List ℕ)) (met : List Met) → tag < 256
         → All (MeetsOthers tag) met

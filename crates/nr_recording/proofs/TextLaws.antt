@@ -78,7 +78,7 @@ skip_more : (version : Version) (line : List ℕ) (rest : List (List ℕ)) (es :
 skip_more version line rest [] s more = (s, more)
 skip_more version line rest (e ∷ es) s more = inl (s, more)
 
--- true if last is the state after the steps so far and those in the remaining lines
+-- true if last is the state after the steps read so far and those in the remaining lines
 record Continues (header : Header) (steps : List RecordedStep) (rest : List (List ℕ)) (last : Seen) : Type 0 where
   es : List RecordedStep
   are : AreSteps header.version rest es

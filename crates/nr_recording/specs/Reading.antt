@@ -37,7 +37,7 @@ value_of line = if is_utf8 line then or_fault fault.NotJson (read line) else Err
 
 -- ---- a sequence of lines
 
--- the header and the steps of the lines so far
+-- the header and the steps of the lines read so far
 pub record Seen : Type 0 where
   pub header : Option Header
   pub steps : List RecordedStep

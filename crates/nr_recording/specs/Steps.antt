@@ -51,7 +51,7 @@ step_in Kind.Pop = bare Step.Pop
 step_in Kind.Fire = one Step.Fire
 step_in Kind.CloseWrite = pair Step.CloseWrite
 
--- the first value and the others
+-- the first value and the other values
 abbrev pub first_of : Items → Option (Data × Items)
 first_of no_items = None
 first_of (item d ds) = Some (d, ds)

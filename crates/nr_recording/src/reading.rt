@@ -55,7 +55,7 @@ struct Header {
     limits: Limits,
 }
 
-/// The header and the steps of the lines so far.
+/// The header and the steps of the lines read so far.
 #[derive(Drop)]
 struct RecordingReader {
     header: Option<Header>,

@@ -55,8 +55,8 @@ impl Leg {
         ],
     };
 
-    /// A walk back, farther than the deltas reach. It starts at the first copy and goes over the
-    /// step that reads bytes.
+    /// A walk back, farther than the deltas reach. The walk starts at the first copy and goes over
+    /// the step that reads bytes.
     pub(crate) const BACK: Leg = Leg {
         from: 190,
         to: 15,

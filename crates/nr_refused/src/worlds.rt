@@ -125,8 +125,8 @@ fn keeps<W: Worlds + Drop>(world: &W, snapshot: &W::Snapshot) -> bool
     }
 }
 
-// Takes a snapshot of a world. It may share bytes with the last snapshot. No later request is
-// refused.
+// Takes a snapshot of a world. The new snapshot may share bytes with the last snapshot. No later
+// request is refused.
 fn rest<W: Worlds + Drop>(rt: &HostRuntime, world: &W, last: &W::Snapshot) -> Came
 where
     W::Snapshot: Drop,

@@ -1,5 +1,5 @@
-//! The conversations between a front and its callers. They exist only in proofs, and take no memory
-//! at run time.
+//! The conversations between a front and its callers. Conversations exist only in proofs, and take
+//! no memory at run time.
 
 ghost use Rattle.std.specs.Prelude.{◌≡◌, ℕ, [], ◌∷◌, ◌++◌, List};
 ghost use Rattle.std.specs.Borrow.{ftrue};

@@ -1,5 +1,5 @@
-//! Ports and callers that are logged. Only this file has access to a caller. It wraps the caller's
-//! reader and writer at once when the caller comes, and logs the conversation when the caller
+//! Ports and callers that are logged. Only this file has access to a caller. A caller's reader and
+//! writer are wrapped at once when the caller comes, and the conversation is logged when the caller
 //! leaves.
 
 ghost use Rattle.std.specs.Prelude.{◌≡◌, ◌-◌, ◌^◌, ◌≤◌, ◌∷◌, ◌++◌, [], length};

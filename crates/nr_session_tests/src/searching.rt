@@ -106,8 +106,8 @@ impl Gate for Turnstile {
     }
 }
 
-/// Searches with two workers, one of which is held. Returns what they find, and whether the other
-/// worker searched a segment meanwhile.
+/// Searches with two workers, one of which is held. Returns what the workers find, and whether the
+/// other worker searched a segment meanwhile.
 fn found_while_held<R: Threads + Sync>(
     rt: &R,
     alloc: Global,

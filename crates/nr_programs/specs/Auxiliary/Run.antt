@@ -31,9 +31,9 @@ abbrev pub status_after : Result End LineEnd → ExitStatus
 status_after (Ok ending) = Done
 status_after (Err stopped) = StreamFailed
 
--- A new front answered the lines that were read. It has the only pass of its journal, one worker,
--- and a walker that keeps the last DELTAS_KEPT deltas. The result reports a stream's failure if and
--- only if the stream failed.
+-- A new front answered the lines that were read. The front has the only pass of its journal, one
+-- worker, and a walker that keeps the last DELTAS_KEPT deltas. The result reports a stream's
+-- failure if and only if the stream failed.
 pub record Walks (from left : Incoming) (old new : Outgoing) (r : Recording) (status : ExitStatus) :
     Type 0 where
   pub table : TableId

@@ -18,13 +18,13 @@ use Rattle.nr_recording.specs.Auxiliary.Steps.{step_takes_memory}
 use Rattle.nr_recording.specs.Version.{most_buffer}
 use Rattle.nr_recording.specs.Reading.{Seen, is_blank, lines}
 
--- true if the steps so far are of the header's version, or if neither header nor steps have been
--- read
+-- true if the steps read so far are of the header's version, or if neither header nor steps have
+-- been read
 abbrev pub AreOfHeader : Option Header → List RecordedStep → Type 0
 AreOfHeader None steps = steps ≡ []
 AreOfHeader (Some header) steps = are_writable header.version steps ≡ true
 
--- true if the invariant of the lines so far holds
+-- true if the invariant of the lines read so far holds
 pub record IsSeen (seen : Seen) : Type 0 where
   pub limits : IfSome seen.header (λ header. AreInRange header.limits)
   pub buffer : IfSome seen.header (λ header. header.limits.buffer ≤ most_buffer header.version)

@@ -1,4 +1,4 @@
--- the lines so far are sent
+-- the lines of the items visited so far are sent
 use Rattle.std.proofs.Common.{take, flat_map, Ok}
 use Rattle.nr_text.specs.Buffered.{Writes}
 use Rattle.nr_command.proofs.listing.send_lines.Given as goal

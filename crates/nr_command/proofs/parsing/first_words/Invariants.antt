@@ -1,4 +1,4 @@
--- the words so far are those that the iterator yielded
+-- the collected words are those that the iterator has yielded
 use Rattle.std.proofs.Common.{◌≡◌}
 use Rattle.nr_command.proofs.parsing.first_words.Given as goal
 

@@ -1,4 +1,4 @@
--- the digits so far make the value
+-- the value and the remaining digits make the number of the whole word
 use Rattle.std.proofs.Common.{◌≡◌, ◌<◌, ◌^◌, drop}
 use Rattle.std.specs.List.{list_all}
 use Rattle.std.specs.Char.{is_ascii_digit}

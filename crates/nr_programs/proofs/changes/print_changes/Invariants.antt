@@ -2,8 +2,8 @@ use Rattle.std.proofs.Common.{◌+◌, ◌≤◌, length}
 use Rattle.nr_programs.proofs.ChangesLemmas.{Progress}
 use Rattle.nr_programs.proofs.changes.print_changes.Given as goal
 
--- the world is the one at the position, and the written and waiting lines are the changes of the
--- steps so far
+-- the world is that of the position, and the written and waiting lines are the changes of the steps
+-- applied so far
 abbrev pub invariant-loop-n : goal.invariant-loop-n
 invariant-loop-n g l =
     record {

@@ -5,7 +5,7 @@ use Rattle.nr_marks.specs.Marks.{NumberedMark}
 use Rattle.nr_search.specs.Search.{Remembers}
 use Rattle.nr_search.proofs.watched.find_hits.Given as goal
 
--- the marks so far have been compared, and their values have been replaced by the current ones
+-- the marks visited so far have been compared, and their values replaced by the current values
 abbrev pub invariant-loop-i : goal.invariant-loop-i
 invariant-loop-i g l =
     let now = g.W.Worlds.world l.world in

@@ -5,7 +5,7 @@ use Rattle.nr_search.specs.Reports.{IsReport}
 use Rattle.nr_snaps.specs.Film.{IsFrame}
 use Rattle.nr_search.proofs.workers.work.Given as goal
 
--- the reports so far are right, and the held world is at its position
+-- the reports made so far are right, and the held world is at its position
 abbrev pub invariant-loop : goal.invariant-loop
 invariant-loop g l =
     record {

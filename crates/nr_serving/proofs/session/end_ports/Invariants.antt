@@ -3,7 +3,7 @@ use Rattle.std.specs.Vec.Iter.{into_iter_items, into_iter_len}
 use Rattle.nr_serving.proofs.SessionLemmas.{dones_of, passed_of}
 use Rattle.nr_serving.proofs.session.end_ports.Given as goal
 
--- the callers of the fronts so far have ended
+-- the callers of the fronts visited so far have ended
 abbrev pub invariant-loop-one : goal.invariant-loop-one
 invariant-loop-one g l = record {
   rest : l.yielded ++ into_iter_items l.one-iterator ≡ into_iter_items l.initial.one-iterator;

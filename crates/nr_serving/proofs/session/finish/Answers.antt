@@ -9,7 +9,7 @@ use Rattle.nr_serving.proofs.HistoryLemmas.{history_of, no_history}
 use Rattle.nr_serving.proofs.session.finish.Goals as goal
 use Rattle.nr_serving.proofs.session.finish.Goals.{in-Some, in-None}
 
--- one pass collected the words of the others, or there was no pass
+-- one pass collected the words of the other passes, or there was no pass
 pub returns-clause-history : goal.returns-clause-history
 returns-clause-history c =
     let room = journal_room c.args.journal.now in

@@ -4,7 +4,7 @@ use Rattle.nr_serving.specs.Session.{numbers_below}
 use Rattle.nr_serving.specs.Auxiliary.Session.{IsFresh}
 use Rattle.nr_serving.proofs.session.open_fronts.Given as goal
 
--- each front so far is new, and its tag is its number
+-- each front opened so far is new, and its tag is its number
 abbrev pub invariant-loop : goal.invariant-loop
 invariant-loop g l =
     record {

@@ -6,7 +6,7 @@ use Rattle.nr_serving.specs.Session.{numbers_below}
 use Rattle.nr_serving.proofs.SessionLemmas.{fronts_of}
 use Rattle.nr_serving.proofs.session.open_ports.Given as goal
 
--- the ports of the fronts so far are opened
+-- the ports of the fronts visited so far are opened
 abbrev pub invariant-loop-front : goal.invariant-loop-front
 invariant-loop-front g l = record {
   rest : l.yielded ++ into_iter_items l.front-iterator ≡ into_iter_items l.initial.front-iterator;

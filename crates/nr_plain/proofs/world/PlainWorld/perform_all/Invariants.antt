@@ -1,5 +1,5 @@
--- the changes so far are made, the remaining ones can be made, and the undos so far restore the old
--- world
+-- the first changes are made, the remaining changes can be made, and the collected undos restore
+-- the old world
 use Rattle.std.proofs.Common.{◌≡◌, ◌≤◌, ◌+◌, length}
 use Rattle.std.specs.Prelude.{sum_by}
 use Rattle.nr_rev.specs.Transaction.{LeadsBack}

@@ -7,8 +7,8 @@ use Rattle.nr_snaps.specs.Film.{IsFrame}
 use Rattle.nr_search.proofs.SegmentLemmas.{ArePassed}
 use Rattle.nr_search.proofs.search.Search.decide.Given as goal
 
--- no mark hits in the segments so far, none of them is known to have a hit, and the held world is
--- at its position
+-- no mark hits in the segments visited so far, none of them is known to have a hit, and the held
+-- world is at its position
 abbrev pub invariant-loop-k : goal.invariant-loop-k
 invariant-loop-k g l =
     record {

@@ -8,8 +8,8 @@ use Rattle.nr_snaps.specs.Auxiliary.Answers.{answered_steps}
 use Rattle.nr_snaps.specs.Film.{IsFrame}
 use Rattle.nr_snaps.proofs.film.Film.with_answers.Given as goal
 
--- the world is the frame at the position, and the steps so far are stored with the answers that
--- they give
+-- the world is the frame at the position, and the steps applied so far are stored with the answers
+-- that they give
 abbrev pub invariant-loop-n : goal.invariant-loop-n
 invariant-loop-n g l = record {
   frame : IsFrame g.W.Reversible.is_well_formed g.W.Worlds.world g.W.Reversible.steps l.self l.n l.world;
