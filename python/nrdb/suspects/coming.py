@@ -1,5 +1,5 @@
-"""Goroutines that wait at the end of the recording for something that has already come: each is parked for reading
-although bytes are unread or the peer has closed."""
+"""Goroutines that wait at the end of the recording for something that has already come. Each of them is parked for
+reading although bytes are unread or the peer has closed."""
 
 from typing import Iterator, NamedTuple
 
@@ -33,7 +33,7 @@ class Waiting(NamedTuple):
         return not self.has_event and run.notes.stale.get(self.use.descriptor, (0, 0))[0] > self.came
 
     def suspect(self, run: Run, step: int, weight: int, says: list[str]) -> Suspect:
-        """A suspect about a goroutine that hangs in this way."""
+        """The suspect about a goroutine that waits for something that has come."""
         shown = Evidence(run.end, f"gor {self.goroutine}", run.notes.now[f"gor {self.goroutine}"])
         d, s = self.use.descriptor, self.use.socket
         suspect = Suspect(step, weight, says, goroutine=self.goroutine, descriptor=d, socket=s, evidence=[shown])

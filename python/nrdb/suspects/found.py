@@ -17,8 +17,8 @@ class Weight(IntEnum):
     DOUBTFUL = 10
 
 
-# added to the weight if the suspect's goroutine hangs there, if it is still there, if it went on, and if a call timed
-# out because of the suspect
+# added to the weight if the suspect's goroutine hangs there, if it is still there, if it has gone on, and if a call
+# timed out because of the suspect
 HANGS, STILL_THERE, WENT_ON, TIMED_OUT = 50, 40, -30, 20
 
 
@@ -32,7 +32,7 @@ class Evidence(NamedTuple):
 
 @dataclass
 class Suspect:
-    """A suspected bug. Its sentence consists of clauses; the first one is complete by itself."""
+    """A suspected bug. Its sentence consists of clauses; the first clause is complete by itself."""
 
     step: int
     weight: int
@@ -48,7 +48,7 @@ class Suspect:
 
     @property
     def is_shown(self) -> bool:
-        """Whether the suspect's weight is high enough for the suspect to be shown."""
+        """Whether the suspect's weight is high enough to show it."""
         return self.weight >= Weight.SHOWN
 
     @property

@@ -14,9 +14,9 @@ BRIEF = 20  # holding a reference for at most this number of steps proves nothin
 
 
 class Kept(NamedTuple):
-    """A reference to a socket that is held at the end: whether its holder is gone (otherwise the holder is idle), how
-    long the holder has paused if that is too long, and how long the holder has held the reference if that is too
-    long."""
+    """A reference to a socket that is held at the end, and whether its holder is gone (otherwise the holder is idle).
+    `pause` says how long the holder has paused, and `age` how long it has held the reference; each is empty unless that
+    is too long."""
 
     socket: int
     hold: Hold
@@ -30,7 +30,7 @@ class Kept(NamedTuple):
         return not self.is_gone and is_of_close and bool(self.pause or self.age)
 
     def suspect(self, run: Run, how: str, open_and_closed: tuple[Weight, Weight]) -> Suspect:
-        """The suspect, from the way in which the reference is held and from the weights for an open and for a closed
+        """The suspect about the reference. `how` says how it is held, and the weights are for an open and for a closed
         socket."""
         (g, step, kind, side), s, notes = self.hold, self.socket, run.notes
         lock = f" {NAMES[side]}" if side else ""
@@ -53,7 +53,8 @@ class Kept(NamedTuple):
 
 
 def kept(run: Run) -> Iterator[Kept]:
-    """All references that are held at the end. Another rule reports a goroutine that sleeps for a lock."""
+    """The references that idle or gone goroutines hold at the end. A lock for which a goroutine sleeps is left out,
+    because another rule reports it."""
     asleep = {(int(s), side) for _, (s, side) in run.statuses("queued")}
     for s in sorted(run.notes.holds):
         for hold in run.notes.holds[s]:

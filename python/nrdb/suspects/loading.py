@@ -26,7 +26,7 @@ class Rule(NamedTuple):
 
 
 def rules_of(folder: ModuleType) -> tuple[Rule, ...]:
-    """The rules of a folder."""
+    """The rules in a folder."""
     names = sorted(module.name for module in iter_modules(folder.__path__))
     return tuple(_rule_of(import_module(f"{folder.__name__}.{name}")) for name in names)
 

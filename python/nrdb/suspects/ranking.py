@@ -20,13 +20,13 @@ class Ranked(NamedTuple):
 
 
 def suspects_of(recording: Recording) -> Ranked:
-    """The suspects by the rules about cells, which are all rules except the rules about calls."""
+    """The suspects by the rules about cells, which are all rules but those about calls."""
     prepare(recording)
     return by_cells(Run(Notes(recording)))
 
 
 def all_suspects_of(recording: Recording) -> Ranked:
-    """The suspects by all rules. The suspects by the rules about calls come last."""
+    """The suspects by all rules. Suspects by the rules about calls come last."""
     prepare(recording)
     run = Run(book_of(recording).notes)
     ranked = by_cells(run)
@@ -34,7 +34,7 @@ def all_suspects_of(recording: Recording) -> Ranked:
 
 
 def prepare(recording: Recording) -> None:
-    """Starts `netrev suspects`, if the rules use its list."""
+    """Starts `netrev suspects` if the rules use its list."""
     if recording.suspects:
         recording.suspects.prepare()
 
@@ -49,7 +49,7 @@ def found(rules: Iterable[Rule], run: Run) -> list[Suspect]:
 
 
 def one_of_each(suspects: list[Suspect]) -> list[Suspect]:
-    """The worst suspect of each subject, with the number of further suspects like it, worst first."""
+    """The worst suspect of each subject, with the number of the subject's other suspects; worst first."""
     kept: dict[tuple[object, ...], list[Suspect]] = {}
     for suspect in sorted(suspects, key=lambda one: (-one.weight, one.step)):
         kept.setdefault(suspect.subject, []).append(suspect)

@@ -21,7 +21,8 @@ def by_the_notes(notes: Notes) -> Listed:
 
 
 def lost_wake_ups(notes: Notes) -> Iterator[LostWakeUp]:
-    """Each goroutine that is parked at a side on which no try has been answered EAGAIN since the side's last event."""
+    """Goroutines that are parked at a side although the side's last event was taken and no try has been answered EAGAIN
+    since."""
     for g, goroutine in notes.goroutines.items():
         if notes.status(g) == PARKED:
             side, use = goroutine.status.side, notes.use_of[goroutine.status.number]

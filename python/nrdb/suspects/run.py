@@ -30,13 +30,13 @@ class Run:
 
     @cached_property
     def facts(self) -> Listed:
-        """The list of `netrev suspects`. If netrev is missing or too old, the same facts from the notes."""
+        """The list of `netrev suspects`. If netrev is missing or too old, the same facts are taken from the notes."""
         listed = self.recording.suspects.of(self.end) if self.recording.suspects else None
         return listed or by_the_notes(self.notes)
 
     def asleep(self, g: int, d: int, side: str) -> str:
-        """netrev's line about a goroutine that sleeps at a side that must be answered; empty if netrev printed no such
-        line."""
+        """netrev's line about a goroutine that sleeps although its side must be answered; empty if netrev printed no
+        such line."""
         return self.facts.asleep.get((g, d, side), "")
 
     @cached_property
@@ -66,7 +66,7 @@ class Run:
         return self.changes.value(f"gor {g}", position).split()
 
     def statuses(self, place: str) -> list[tuple[int, list[str]]]:
-        """The goroutines with a certain status at the end, each with the remaining words of its status."""
+        """The goroutines in a place at the end, each with the other words of its status."""
         found = ((g, one.status.split()) for g, one in self.notes.goroutines.items())
         return [(g, words) for g, (at, *words) in found if at == place]
 
@@ -75,7 +75,7 @@ class Run:
         return self.notes.goroutines[g].since
 
     def inside(self, use: Use, side: str, position: int) -> Optional[int]:
-        """The goroutine that is inside the wait of a side; None if no goroutine is."""
+        """The goroutine that is inside the wait of a side; None if no goroutine waits there."""
         wait = next((one for one in reversed(use.waits[AT[side]]) if one.step <= position), None)
         if wait is None:
             return None
@@ -83,14 +83,14 @@ class Run:
         return wait.goroutine if place in INSIDE and at == [str(use.descriptor), side] else None
 
     def unread(self, s: int) -> str:
-        """Words for a socket's unread bytes, or for its peer's close, at the end; empty if the socket has neither."""
+        """Words for a socket's unread bytes at the end, or for its peer's close; empty if the socket has neither."""
         if number := int(self.notes.now[f"in {s}"]):
             return f"{counted(number, 'byte')} unread"
         return f"the peer closed at step {self.notes.peer[s]}" if s in self.notes.peer else ""
 
     def stalled(self, g: int) -> str:
-        """Words for how long a goroutine that could continue has paused, if that is too long compared with the ended
-        pauses in its status; otherwise empty."""
+        """Words for how long a goroutine has paused that could continue, if that is too long compared with other pauses
+        in its status; else empty."""
         known = self.notes.pauses.get(self.notes.status(g))
         longest = known.longest if known and known.count >= MANY else None
         pause = self.end - max(self.notes.goroutines[g].last, self.since(g))

@@ -30,15 +30,15 @@ def shown_of(ranked: Ranked) -> list[Suspect]:
 
 
 def is_by_go(recording: Recording, timeout: Timeout) -> bool:
-    """Whether Go's own code ended a wait of its own by a deadline in the past, as net/http ends its read between two
-    requests. The program then sees no timeout."""
+    """Whether Go's own code ended its own wait by a deadline in the past, as net/http ends its read between two
+    requests. The program doesn't see that timeout."""
     calls = recording.lines.of(timeout.step).calls
     return timeout.passing.kind == "setdeadline" and bool(calls) and all(call.of == OF_GO for call in calls)
 
 
 def _rows(scout: Scout, recording: Recording, at: int, suspect: Suspect) -> list[Row]:
-    """A suspect's rows: its sentence, netrev's lines and answers, a note if an answer isn't what the rule expects,
-    the program's lines, and the command to type next. Only netrev's output follows `netrev:`."""
+    """A suspect's rows: its sentence, netrev's lines and answers, notes about answers that the rule didn't expect, the
+    program's lines, and the command to type next. Only netrev's output follows `netrev:`."""
     answers, doubts = _evidence(scout, suspect)
     evidence = [*suspect.listed, *answers]
     lines = _lines(recording, suspect)

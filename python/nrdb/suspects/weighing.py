@@ -1,5 +1,5 @@
-"""The weight of a suspect, from the fate of its goroutine: whether the goroutine hangs because of the suspect, whether
-a call ended because of the suspect, or whether the goroutine is in one of Go's own calls."""
+"""Weighs a suspect by the fate of its goroutine: whether the goroutine hangs because of the suspect, whether a call
+ended because of it, or whether the goroutine is in one of Go's own calls."""
 
 from netrev_machine.machine import INSIDE
 
@@ -9,8 +9,8 @@ from .found import HANGS, STILL_THERE, TIMED_OUT, WENT_ON, Suspect, Weight
 from .run import Run
 
 METHODS = ("Read", "Pread", "ReadFrom", "ReadMsg", "Write", "Pwrite", "WriteTo", "WriteMsg", "Writev", "Accept")
-# Go's own calls that hold a lock over a system call, those that hold only a reference, and those that call a function
-# of the program in the meantime
+# Go's own calls that hold a lock over a system call, calls that hold only a reference, and calls that run a function of
+# the program in the meantime
 OF_GO = frozenset(
     (*(f"internal/poll.(*FD).{name}" for name in METHODS), "internal/poll.SendFile", "internal/poll.Splice")
 )
@@ -32,9 +32,8 @@ def of_a_holder(run: Run, suspect: Suspect) -> Suspect:
 
 def is_in_a_system_call(run: Run, suspect: Suspect) -> bool:
     """Whether the recording ended while the holder of a lock or a reference was in one of Go's own calls, which gives
-    the lock or reference up after its system call. By the program's lines, the holder took the lock in that call and
-    hasn't left the call since. Without lines, the holder's last step must be the `pollreset`, after which Go's own
-    calls try."""
+    it up after its system call. The program's lines must show that the holder took it in that call and hasn't left the
+    call since. If no lines are known, the holder's last step must be the `pollreset` after which Go's own calls try."""
     g, recording = suspect.goroutine, run.recording
     if g is None:
         return False
@@ -58,21 +57,21 @@ def is_accepting(recording: Recording, suspect: Suspect) -> bool:
 
 
 def is_without_tries(recording: Recording, suspect: Suspect) -> bool:
-    """Whether a goroutine waits in a call whose tries no step shows: a function of the program makes the tries, or
+    """Whether a goroutine waits in a call that makes tries without steps: a function of the program makes the tries, or
     Accept does."""
     return call_of_poll(recording, suspect.steps[-1]) in UNSHOWN
 
 
 def call_of_poll(recording: Recording, step: int) -> str:
-    """The innermost call of a step that is one of the calls listed above; empty if the step has no such call or its
-    calls are unknown."""
+    """The innermost of the calls listed above that a step belongs to; empty if the step belongs to none of them, or if
+    its calls are unknown."""
     known = OF_GO | CONTROLS | OF_THE_PROGRAM
     return next((call.function for call in recording.lines.of(step).calls if call.function in known), "")
 
 
 def of_a_goroutine(run: Run, suspect: Suspect) -> Suspect:
-    """Weighs a suspect whose goroutine was woken for nothing, or not woken at all, by whether the goroutine hangs for
-    that reason."""
+    """Weighs a suspect about a goroutine that was woken for nothing, or not woken at all, by whether the goroutine
+    hangs for that reason."""
     g, d = suspect.goroutine, suspect.descriptor
     if g is None or d is None:
         return suspect
@@ -89,7 +88,7 @@ def of_a_goroutine(run: Run, suspect: Suspect) -> Suspect:
 
 
 def hangs(run: Run, g: int, d: int) -> str:
-    """Words for how a goroutine hangs in the wait of a descriptor; empty if the goroutine doesn't hang."""
+    """Words for how a goroutine hangs in a wait on a descriptor; empty if it doesn't hang there."""
     place, *at = run.notes.now[f"gor {g}"].split()
     if place != "parked" or at[0] != str(d):
         return ""

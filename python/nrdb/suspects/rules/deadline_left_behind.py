@@ -1,5 +1,5 @@
-"""Deadline left behind: a deadline passes that was set for both sides or before the recording begins, and only the
-other side's deadline was moved since; or the goroutine that set it went over to setting the other side's deadline
+"""Deadline left behind: a deadline that was set for both sides, or before the recording begins, passes after only the
+other side's deadline was moved. Or the goroutine that set the deadline has since set the other side's deadline
 instead."""
 
 from typing import Iterator, Optional
@@ -21,7 +21,7 @@ def rule(run: Run) -> Iterator[Suspect]:
 
 
 def left_behind(run: Run, passed: OfDeadline, moved: By) -> Optional[Suspect]:
-    """The suspect of a deadline that passes, if a goroutine set the other side's deadline in its place. Step `moved` is
+    """The suspect about a deadline that passes, if a goroutine set the other side's deadline in its place. `moved` is
     the first step that did so."""
     side, other, (set_at, g) = passed.side, "w" if passed.side == "r" else "r", passed.setting
     use = run.use_at(passed.descriptor, passed.step)
@@ -46,8 +46,8 @@ def left_behind(run: Run, passed: OfDeadline, moved: By) -> Optional[Suspect]:
 
 
 def before_the_recording(run: Run, passed: OfDeadline, use: Use) -> Optional[Suspect]:
-    """The suspect of a deadline that existed when the recording began, if since then only the other side's deadline was
-    set, more than once."""
+    """The suspect about a deadline that existed when the recording began, if only the other side's deadline was set
+    since then, and more than once."""
     prelude, other = run.recording.lines.prelude, "w" if passed.side == "r" else "r"
     since = [one for one in use.settings if prelude < one.step < passed.step]
     if len(since) < HABIT or any(one.mode != other for one in since):

@@ -24,8 +24,8 @@ def rule(run: Run) -> Iterator[Suspect]:
 
 
 def not_looked(run: Run, use: Use, side: str, position: int) -> Optional[int]:
-    """The goroutine that a side's passed deadline woke and that hasn't yet checked why it was woken; None if no
-    goroutine is in that state."""
+    """The goroutine that was woken by the deadline of its side and hasn't checked why yet; None if no goroutine is in
+    that state."""
     who, word = run.inside(use, side, position), run.changes.value(f"{side}g {use.descriptor}", position)
     place = "" if who is None else run.status(who, position)[0]
     is_woken = place in ("swapping", "checking") or word == "nil"

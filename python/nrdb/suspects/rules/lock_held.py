@@ -31,7 +31,7 @@ def rule(run: Run) -> Iterator[Suspect]:
 
 
 def how_it_is_held(run: Run, g: int) -> str:
-    """The reason, as text, why a holder won't give its lock back; empty if the holder may give it back."""
+    """Text that says why a holder won't give its lock back; empty if it may give the lock back."""
     status = run.notes.status(g)
     if status == "gone":
         return "is gone"

@@ -1,5 +1,5 @@
 """Lost wake-up: a goroutine is parked at a side, the readiness of the side's last event was taken, and no try was
-answered EAGAIN since: netrev lists all of these. Or a `pollreset` discarded an event, and the goroutine is about to
+answered EAGAIN since; netrev lists these goroutines. Or a `pollreset` discarded an event, and the goroutine is about to
 park for reading without a read in between."""
 
 from typing import Iterator, Optional
@@ -28,7 +28,7 @@ def rule(run: Run) -> Iterator[Suspect]:
         about = lost.pop(throw, None)
         for suspect in suspects:
             of_a_goroutine(run, suspect)
-            # (Go's own Accept tries again after each pollreset)
+            # (since Go's own Accept tries again after each pollreset)
             if is_accepting(run.recording, suspect) or is_parked(run, suspect) and about is None:
                 suspect.weight = Weight.DOUBTFUL
             if about:
@@ -39,21 +39,21 @@ def rule(run: Run) -> Iterator[Suspect]:
 
 
 def is_parked(run: Run, suspect: Suspect) -> bool:
-    """Whether the goroutine is parked at that descriptor at the end. If no wake-up is lost at the descriptor, the
-    goroutine waits after a try."""
+    """Whether the goroutine is parked at that descriptor at the end. If no wake-up was lost there, the goroutine waits
+    after a try."""
     return run.notes.now[f"gor {suspect.goroutine}"].startswith(f"parked {suspect.descriptor} ")
 
 
 def has_lines(run: Run, suspect: Suspect, lost: LostWakeUp) -> None:
-    """Adds netrev's lines about a lost wake-up: the wake-up itself, and that bytes are still unread."""
+    """Adds netrev's lines about a lost wake-up and about bytes that are still unread."""
     suspect.has_line(lost.line)
     suspect.has_line(run.asleep(lost.goroutine, lost.descriptor, lost.side))
 
 
 def taken_and_parked(run: Run, lost: LostWakeUp) -> Suspect:
-    """The suspect of a lost wake-up, unless a `pollreset` of the same goroutine discarded it. The goroutine hangs
-    because of that event if the bytes or the close that came with the event are unread, or if nothing is unread and the
-    goroutine hasn't read or written since."""
+    """The suspect about a lost wake-up, unless a `pollreset` of the same goroutine discarded it. The goroutine hangs
+    because of the event if what came with the event is unread, or if nothing is unread and the goroutine hasn't read or
+    written since."""
     g, d, side, use = lost.goroutine, lost.descriptor, lost.side, run.notes.use_of[lost.descriptor]
     entered, _, tried = use.waits[AT[side]][-1]
     coming = next((waits for waits in waiting_for_what_came(run) if (waits.goroutine, side) == (g, "r")), None)
@@ -85,7 +85,7 @@ def taken_and_parked(run: Run, lost: LostWakeUp) -> Suspect:
 
 
 def waits_behind_a_throw(use: Use) -> Iterator[tuple[Taking, Wait]]:
-    """The waits for reading whose goroutine discarded a readiness and hasn't read or written since."""
+    """The waits for reading in which the goroutine had discarded a readiness and hasn't read or written since."""
     thrown, at = use.thrown, 0
     for wait in use.waits[AT["r"]]:
         while at < len(thrown) and thrown[at].step < wait.step:

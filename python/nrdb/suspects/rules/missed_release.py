@@ -1,5 +1,5 @@
-"""Missed release: a goroutine that owes a release of a semaphore has paused for more than twice the longest pause
-that ended in this recording at that place."""
+"""Missed release: a goroutine that owes a release of a semaphore has paused for more than twice the longest pause at
+that place that ended in this recording."""
 
 from typing import Iterator
 

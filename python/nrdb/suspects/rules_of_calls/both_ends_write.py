@@ -1,5 +1,5 @@
-"""Both ends write: calls that don't end wait for one another, and one of them is a Write: it waits for a read at the
-other end, and the goroutine that would read there waits too."""
+"""Both ends write: calls that don't end wait for one another, and one of them is a Write. The Write waits for a read at
+the other end, and the goroutine that would read there waits too."""
 
 from typing import Iterator
 

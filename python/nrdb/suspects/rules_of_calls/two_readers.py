@@ -1,5 +1,5 @@
-"""Two readers: a goroutine's Read had to wait for the lock of another's Read of the same connection, and both got bytes,
-so it is chance which of them gets which bytes. Listeners and datagram sockets are left out."""
+"""Two readers: a goroutine's Read had to wait for the lock of another goroutine's Read on the same connection, and both
+got bytes, so chance decides which goroutine gets which bytes. Listeners and datagram sockets are left out."""
 
 from typing import Iterator
 
