@@ -1,5 +1,5 @@
-"""The events of a trace other than statuses and steps, from the beginning of the recording on: Go's calls, the
-deadlines, the clock, and what went wrong."""
+"""The events of a trace other than statuses and steps: Go's calls, the deadlines, the clock, and what went wrong. They
+begin where the recording begins."""
 
 from itertools import chain
 from typing import Iterator
@@ -23,7 +23,7 @@ Changed = list[tuple[int, str]]  # the steps that change a cell, each with the n
 
 
 def beside(recording: Recording, changes: RecordedChanges, scout: Scout) -> Iterator[str]:
-    """All these events, each as JSON."""
+    """All events of a trace other than statuses and steps, each as JSON."""
     suspects, causes = stories_data(scout, recording)
     begins = begins_at(recording)
     changed = by_cell(searched(changes, DEADLINES_AND_CLOCK))
@@ -36,7 +36,7 @@ def beside(recording: Recording, changes: RecordedChanges, scout: Scout) -> Iter
 
 
 def since(told: Changed, begins: int) -> Changed:
-    """The changes of a cell from a position on, beginning with the cell's value at that position."""
+    """The changes of a cell since a position, beginning with the cell's value at that position."""
     before = [value for step, value in told if step <= begins]
     return [(begins, before[-1]), *(one for one in told if one[0] > begins)] if begins and before else told
 
@@ -86,7 +86,7 @@ class Telling:
 
 
 def deadline_events(cells: dict[str, Changed], length: int) -> Iterator[str]:
-    """A thread for each side of a descriptor that ever has a deadline, with a slice for each deadline."""
+    """A thread for each side of a descriptor that has a deadline at any time, with a slice for each deadline."""
     named = False
     for thread, (cell, told) in enumerate(cells.items()):
         ends = [*(step for step, _ in told[1:]), length + 1]
@@ -111,8 +111,8 @@ def clock_events(ticks: Changed) -> Iterator[str]:
 
 
 def story_events(story: Data, begins: int = 0) -> Iterator[Event]:
-    """A numbered mark through all rows at each step of a story. A step before the recording's beginning is marked at
-    that beginning."""
+    """A numbered mark through all rows at each step of a story. A step before the beginning of the recording is marked
+    at the beginning."""
     says = {"says": plain(story["says"]), "lines": [plain(line) for line in story["lines"]]}
     for number, step in enumerate(story["steps"], 1):
         step, name = max(step, begins), f"{number}. {story['rule']}"

@@ -1,4 +1,4 @@
-"""Go's calls as the page draws them, in columns: goroutine, socket, first and last step, result, and line of the
+"""Go's calls in columns, as the page draws them: goroutine, socket, first and last step, result, and line of the
 program. nrdb computes the calls from the recording's steps and the file beside the recording."""
 
 import re
@@ -31,7 +31,7 @@ class Texts(dict[str, int]):
 
 
 def state_of(index: Index, call: Call) -> int:
-    """The state of a call. For the program, a call that Go's own code ended didn't fail."""
+    """The state of a call. A call that Go's own code ended didn't fail for the program."""
     if call.last:
         return FAILED if call.outcome.is_error and not is_by_go(index.recording, call) else DONE
     if index.is_listening(call):
@@ -77,9 +77,9 @@ def calls_data(recording: Recording, window: Window) -> Data:
 
 
 def packed(column: list[int]) -> Any:
-    """A column of natural numbers for the page. If all numbers are equal, a single value; otherwise the bytes of all
-    numbers in base64, with the size of a number. Numbers beyond 32 bits become floating-point numbers of 64 bits, as
-    the script has them."""
+    """A column of natural numbers for the page. If all numbers are equal, the result is that number. Otherwise it is
+    the size of a number, and the bytes of all numbers in base64. Numbers beyond 32 bits become 64-bit floating-point
+    numbers, which the script uses."""
     most = max(column)
     if most == min(column):
         return most
@@ -91,7 +91,7 @@ def packed(column: list[int]) -> Any:
 
 
 class Telling:
-    """The texts of calls (name, result, line and stack), each as an index into `texts`, and the state."""
+    """The name, the result, the line and the stack of calls, each as an index into `texts`, and the calls' states."""
 
     def __init__(self, recording: Recording) -> None:
         self.texts = Texts({"": 0})
@@ -145,8 +145,8 @@ def program_calls(stack: Stack) -> str:
 
 
 def names_data(recording: Recording, window: Window) -> dict[int, str]:
-    """The function that each goroutine of the window runs: the outermost function of the program in any of its calls,
-    or else the outermost function of all."""
+    """The function that each goroutine of the window runs: the outermost function of the program in one of its calls,
+    or else the outermost function there."""
     names: dict[int, str] = {}
     own: set[int] = set()
     for call in shown_calls(recording, window) if recording.lines else ():
@@ -160,7 +160,7 @@ def names_data(recording: Recording, window: Window) -> dict[int, str]:
 
 
 def runs_in(stack: Stack, of: Optional[str] = None) -> Optional[str]:
-    """The outermost function in a stack, or the program's outermost function. The compiler's wrapper of a `go` or a
-    `defer` doesn't count."""
+    """The outermost function in a stack; with `of`, the outermost function of that kind. The compiler's wrapper of a
+    `go` or `defer` statement doesn't count."""
     functions = (call.function for call in reversed(stack.calls) if of in (None, call.of))
     return next((one for one in functions if not WRAPPER.search(one)), None)

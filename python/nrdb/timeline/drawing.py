@@ -1,6 +1,6 @@
-"""The timeline's picture of a short recording as SVG, made without a browser: the calls on their connections, the times
-during which goroutines sleep in the calls, the deadlines, and the numbered steps of a story. The picture shows the
-recording's steps, their changes, and nrdb's analysis."""
+"""The timeline's picture of a short recording as SVG, drawn without a browser. It shows the calls on their connections,
+when goroutines sleep in the calls, the deadlines, and the numbered steps of a story. The data are the recording's
+steps, their changes, and nrdb's analysis."""
 
 import textwrap
 from html import escape
@@ -85,7 +85,7 @@ class Drawing:
         self._parts.append(f'<rect class="{kind}" x="{self._x(begin)}" y="{y}" width="{wide}" height="{high}"/>')
 
     def _ruler(self, y: int) -> None:
-        """Draws the ruler with positions at round distances."""
+        """Draws the ruler, with positions at round distances."""
         every = next(
             size
             for size in (1, 2, 5, 10, 20, 50, 100, 200, 500, 10**9)
@@ -175,6 +175,6 @@ class Drawing:
 
 
 def fitted(text: str, wide: float) -> str:
-    """The beginning of a text that fits into a width; empty if the beginning would be too short."""
+    """As much of a text as fits into a width; empty if that would be too short."""
     letters = int(wide / LETTER)
     return text if len(text) <= letters else f"{text[: letters - 1]}…" if letters > 3 else ""

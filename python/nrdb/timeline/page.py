@@ -73,19 +73,19 @@ def page(data: Data) -> str:
 
 
 def read_part(name: str) -> str:
-    """The text of a file from which pages are made."""
+    """The text of a file that pages are built from."""
     return (PAGE / name).read_text(encoding="utf-8")
 
 
 def plain_json(value: Any) -> str:
     """The value in JSON. Each text in the value is escaped."""
     told = of_json(value)
-    # (a backslash is JSON's escape for a text that isn't plain)
+    # (JSON has a backslash in a text that isn't plain)
     return of_json(plainly(value)) if "\\" in told else told
 
 
 def plainly(value: Any) -> Any:
-    """The value, with each text in the value escaped."""
+    """The value, with each text in it escaped."""
     if isinstance(value, str):
         return plain(value)
     if isinstance(value, dict):

@@ -31,8 +31,8 @@ STAGES = (
 
 
 class Shown(NamedTuple):
-    """The sources of a page: a recording and its file, a netrev for other positions, the changes made by each step, the
-    session's position and marks, and a function that is called with the progress."""
+    """The sources of a page: a recording and its file, a netrev for other positions, the changes made by each step, and
+    the session's position and marks. `tell` is called with the progress."""
 
     recording: Recording
     path: str
@@ -55,7 +55,7 @@ class Shown(NamedTuple):
 
 def collected(shown: Shown, window: Optional[Window] = None) -> Data:
     """The contents of the page: the calls and stories of the whole run, and each cell's values for a part of the run.
-    If no part is named, the part is the whole run, or, in a long recording, the steps around the first story."""
+    If no part is given, the part is the whole run or, in a long recording, the steps around the first story."""
     whole = whole_of(shown)
     recording = shown.recording
     stories = whole["suspects"] + whole["causes"]
@@ -64,8 +64,9 @@ def collected(shown: Shown, window: Optional[Window] = None) -> Data:
 
 
 def part_round(stories: list[Data], length: int, position: int = 0, begins: int = 0) -> Window:
-    """The positions whose values are shown: all positions of the recording. In a long recording, the positions around
-    the end of its first story, or around the session's position if that is elsewhere and not at the start."""
+    """The positions for which values are shown: all positions of a short recording. In a long recording, these are the
+    positions around the end of the first story, or around the session's position if that is elsewhere and not at the
+    start."""
     if length <= MOST:
         return Window(begins, length)
     part = part_about(stories[0]["steps"][-1] if stories else length, length)
@@ -127,7 +128,7 @@ def part_of(shown: Shown, window: Window) -> Data:
 
 
 def steps_of(recording: Recording, window: Window) -> list[str]:
-    """The step that leads to each position, and the step after the last position; empty for a step that doesn't
+    """The step that leads to each position, and the step after the last position; an empty text for a step that doesn't
     exist."""
     behind = -1 if recording.has_answers else None
 
@@ -139,7 +140,7 @@ def steps_of(recording: Recording, window: Window) -> list[str]:
 
 
 def rows_of(runs: Runs) -> list[Data]:
-    """The rows with shades: each has a name, its cell, and the shade of each of its runs."""
+    """The rows with shades. Each row has a name, its cell, and the shade of each of its runs."""
     rows = []
     for cell, run in runs.items():
         name, _, number = cell.partition(" ")

@@ -1,4 +1,4 @@
-"""The values of each cell over the positions, from netrev's changes at each step; and the queues, which aren't cells,
+"""The values of each cell over the positions, from netrev's changes at each step. Queues aren't cells; they are derived
 from the statuses of the goroutines in them."""
 
 from dataclasses import dataclass
@@ -66,8 +66,8 @@ def shown_of(scout: Scout, cells: Iterable[str], position: int) -> list[str]:
 
 
 class Queues:
-    """The queues, derived from the statuses of the goroutines in them: a new goroutine goes to the end of its queue.
-    The queues begin with netrev's values."""
+    """The queues, which begin with netrev's values and are updated by the statuses of the goroutines in them. A new
+    goroutine goes to the end of its queue."""
 
     def __init__(self, start: dict[str, str]) -> None:
         self._statuses = {cell: value for cell, value in start.items() if cell.startswith("gor ")}
@@ -93,7 +93,7 @@ class Queues:
         return ((queue, self.shown(queue)) for queue in touched)
 
     def _moved(self, cell: str, status: str) -> Iterator[str]:
-        """Moves a goroutine by its new status. Yields the queues that the goroutine leaves or joins."""
+        """Moves a goroutine as its new status says. Yields the queues that it leaves or joins."""
         before, self._statuses[cell] = self._statuses.get(cell, ""), status
         if before.startswith("queued "):
             self._standing[_queue(before)].remove(cell[4:])
@@ -104,7 +104,7 @@ class Queues:
 
 
 def _queue(status: str) -> str:
-    """The queue that a goroutine with this status is in."""
+    """The queue in which a goroutine with this status waits."""
     _, socket, side = status.split()
     return f"{side}q {socket}"
 

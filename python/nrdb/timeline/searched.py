@@ -1,5 +1,5 @@
 """Changes of a few kinds of cells, for callers that need no other changes. netrev's lines are searched for these cells,
-and no other lines are parsed."""
+and other lines aren't parsed."""
 
 import re
 from typing import Iterator
@@ -26,7 +26,7 @@ def searched(changes: RecordedChanges, lines: re.Pattern[str]) -> Lines:
 
 
 def by_cell(lines: Lines) -> dict[str, list[tuple[int, str]]]:
-    """For each cell that these lines change, the steps and the new values."""
+    """For each cell that matching lines change, the steps and the new values."""
     cells: dict[str, list[tuple[int, str]]] = {}
     for step, cell, value in lines:
         cells.setdefault(cell, []).append((int(step), value))

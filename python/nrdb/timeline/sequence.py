@@ -23,7 +23,7 @@ def sequence(recording: Recording, story: Optional[Data]) -> str:
 
 
 def spelled(text: str) -> str:
-    """Text from outside, escaped for Mermaid: each character with a meaning in Mermaid is written as a number."""
+    """Text from outside, escaped for Mermaid: each character that has a meaning in Mermaid is written as a number."""
     return "".join(one if one.isalnum() or one in PLAIN else f"#{ord(one)};" for one in plain(text))
 
 

@@ -1,4 +1,4 @@
-"""The colours of the timeline. The colours of one kind of row also differ in brightness, so that readers can tell them
+"""The colours of the timeline. The colours of one kind of row differ in brightness too, so that readers can tell them
 apart without colour."""
 
 from dataclasses import dataclass

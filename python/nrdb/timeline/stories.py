@@ -1,5 +1,5 @@
-"""The stories of the page: the suspects with their steps. Without suspects, the calls that hang or failed, with their
-causes. Rules and causes are nrdb's own; the values shown with them are netrev's."""
+"""The stories of the page: the suspects with their steps. If there are no suspects, the stories are the calls that hang
+or failed, with their causes. Rules and causes are nrdb's own; the values shown with them are netrev's."""
 
 from itertools import islice
 from typing import Iterator
@@ -21,8 +21,8 @@ HANGS, FAILED = "hangs", "failed"
 
 
 def stories_data(scout: Scout, recording: Recording) -> tuple[list[Data], list[Data]]:
-    """The suspects, and the stories of the calls that hang or failed. These stories are given only if the recording has
-    no suspects."""
+    """The suspects, and the stories of the calls that hang or failed. The latter are empty if the recording has
+    suspects."""
     suspects = list(suspects_data(scout, recording))
     return suspects, [] if suspects else list(causes_data(recording))
 
@@ -37,8 +37,8 @@ def suspects_data(scout: Scout, recording: Recording) -> Iterator[Data]:
 
 
 def causes_data(recording: Recording) -> Iterator[Data]:
-    """The first failures, the roots of the hangs at the end, and the other failed calls of the program, in the order of
-    the first output, with the sentences of `info hangs` and `info errors`."""
+    """The first failures, the roots of the hangs at the end, and the other failed calls of the program. They are in the
+    order of the first output, with the sentences of `info hangs` and `info errors`."""
     graph = graph_at(recording, recording.length)
     hangs = graph.shown[:MOST_CAUSES]
     index = index_of(recording)

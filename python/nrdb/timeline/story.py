@@ -1,5 +1,5 @@
-"""The page's data other than the cells: the owners of descriptors and goroutines, wake-ups, marks, and the program's
-lines. These data are nrdb's own and unproved."""
+"""The page's data other than the cells: the sockets of descriptors and goroutines, wake-ups, marks, and the program's
+lines. These data are nrdb's own and aren't proved."""
 
 from typing import Any
 
@@ -23,9 +23,9 @@ WAKES = {
 
 
 class Connections:
-    """The sockets of descriptors and goroutines in a window: for each use of a descriptor, its number, its socket, and
-    its first and last position (None: it lasts at least until the end of the window); and for each goroutine, the
-    socket that it uses most."""
+    """The sockets of descriptors and goroutines in a window. Each use of a descriptor has its number, its socket, and
+    its first and last position (None: it lasts at least until the end of the window). Each goroutine has the socket
+    that it uses most."""
 
     def __init__(self, recording: Recording, window: Window) -> None:
         self._window, notes = window, book_of(recording).notes
@@ -40,8 +40,8 @@ class Connections:
                 self._touched.setdefault(g, {})[s] = many
 
     def groups(self, runs: Runs) -> dict[int, int]:
-        """The socket of each goroutine: the socket with the most steps, counting the steps that the goroutine makes on
-        the socket and the steps during which it waits there."""
+        """The socket of each goroutine: the socket with the most steps. Both the goroutine's own steps on the socket
+        and the steps during which it waits there count."""
         for cell, run in runs.items():
             if cell.startswith("gor "):
                 ends = [begins for begins, _ in run[1:]] + [self._window.last + 1]
@@ -50,7 +50,7 @@ class Connections:
         return {g: max(counts, key=counts.__getitem__) for g, counts in self._touched.items()}
 
     def _waits(self, g: int, status: list[str], position: int, steps: int) -> None:
-        """Counts the steps of a status for its socket."""
+        """Counts the steps during which a goroutine has a status, for the socket of that status."""
         if len(status) < 3:
             return
         socket = int(status[1])
@@ -79,8 +79,8 @@ def wakes_of(recording: Recording, runs: Runs) -> list[list[Any]]:
 
 
 def lines_data(recording: Recording, window: Window) -> Data:
-    """The program's lines, each stored once, and, for each step from the first position on, the index of its line;
-    empty if the recording has no lines."""
+    """The program's lines, each stored once, and the index of its line for each step since the first position. Empty if
+    the recording has no lines."""
     if not recording.lines:
         return {}
     texts: dict[str, int] = {"": 0}
@@ -104,8 +104,8 @@ def marks_of(listed: list[Listed], recording: Recording, window: Window, runs: R
 
 
 def ticks_of(changes: RecordedChanges) -> list[list[int]]:
-    """The steps at which the clock advanced, each with its time. If the clock advanced too often, some of these steps
-    at regular distances, and the last one."""
+    """The steps at which the clock advanced, each with its time. If the clock advanced too often, only some of these
+    steps at regular distances, and the last step."""
     ticks = changes.changes_of("clock")
     every = -(-len(ticks) // MOST_TICKS) or 1
     shown = [*ticks[::every], *(ticks[-1:] if (len(ticks) - 1) % every else [])]
@@ -113,9 +113,9 @@ def ticks_of(changes: RecordedChanges) -> list[list[int]]:
 
 
 def times_of(recording: Recording, window: Window, most: int) -> Data:
-    """The recorder's times after the steps of a window: after each step, or, in a long window, after steps at equal
-    distances. `every` is that distance, counted from the first position. `ns` has the differences between each time and
-    the previous one. Empty if the recorder had no times."""
+    """The recorder's times after the steps of a window; in a long window, only after steps at equal distances. `every`
+    is that distance, counted from the first position. `ns` has the differences between consecutive times. Empty if the
+    recorder had no times."""
     times = recording.lines.times
     if not times:
         return {}

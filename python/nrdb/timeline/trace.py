@@ -1,7 +1,7 @@
 """The run as Chrome's trace events in JSON, for Perfetto. Each goroutine is a thread, with slices for its calls,
 statuses and steps, and flows from the step that woke a goroutine to that goroutine's next status. The trace also has
 deadlines, the clock, and what went wrong. Each step takes a microsecond. If a recording begins in the middle of a run,
-the trace begins there too.
+so does the trace.
 
 The statuses, the deadlines and the clock come from netrev's list of changes. At some positions, the statuses of all
 goroutines are compared with netrev's answers. Calls and suspects are nrdb's own."""
@@ -136,7 +136,7 @@ class Tracing:
             check()
             events: list[str] = []
             for number, ((mine, where, begin, what), line) in enumerate(islice(steps, AT_ONCE), first):
-                # (there are up to a million of these, so the text is concatenated from parts that are made once for
+                # (there are up to a million steps, so the text is concatenated from parts that are made once for
                 # similar lines)
                 step = str(number)
                 events.append(f"{begin}{before}{what}{step}{clock}{line}")
@@ -184,7 +184,7 @@ class Tracing:
         yield 0, {}, ""
 
     def _is_led_to(self, statuses: Statuses) -> None:
-        """Takes over statuses from before the first traced step; their slices begin there."""
+        """Takes over the statuses from before the first traced step; their slices begin at that step."""
         self._statuses |= statuses
         for g, status in statuses.items():
             if status in QUIET:
@@ -220,7 +220,7 @@ class Tracing:
         return f'{{"ph":"X","pid":{GOROUTINES},"tid":{g},"ts":{since},"dur":{until - since},"name":"{words}","cat":"status"}}'
 
     def _flow(self, number: int, where: str, woken: int, events: list[str]) -> None:
-        """Adds the flow from the step that wakes a goroutine to the status in which the goroutine continues."""
+        """Adds the flow from the step that wakes a goroutine to the status in which it continues."""
         self.flows += 1
         about = f'"id":{self.flows},"name":"wakes","cat":"wake"'
         events.append(f'{{"ph":"s",{where},"ts":{number - 1},{about}}}')

@@ -1,4 +1,4 @@
-"""The waits outside the poller as the page draws them, including those of goroutines that use no socket."""
+"""The waits outside the poller as the page draws them, including the waits of goroutines that use no socket."""
 
 from typing import Any
 
@@ -14,11 +14,11 @@ MOST_ROWS, MOST_WAITS = 200, 20_000  # the most rows for goroutines without step
 
 
 def waits_data(recording: Recording) -> Data:
-    """The waits of a recording. `rows` has, for each wait, its goroutine, the step after which the wait begins, the
-    step up to which it lasts (0: it doesn't end), and, as indices into `texts`, what the goroutine does, its line and
-    its stack. A goroutine without steps is in `others`, by Go's number, with the function that it runs; its number in
-    `rows` is -1 minus its index in `others`. `left_out` counts the goroutines and waits that don't fit on a page. Waits
-    that don't end have priority, then the newest ones."""
+    """The waits of a recording. Each of `rows` has a wait's goroutine, the step after which the wait begins, and the
+    step up to which it lasts (0: it doesn't end). What the goroutine does, its line and its stack follow as indices
+    into `texts`. A goroutine without steps is in `others`, by Go's number, with the function that it runs; its number
+    in `rows` is -1 minus its index in `others`. `left_out` counts the goroutines and waits that don't fit on a page.
+    Waits that don't end have priority, and then the newest waits."""
     waits, texts = waits_of(recording), Texts({"": 0})
     shown = {name: list(filter(is_long, some)) for name, some in waits.of.items()}
     others = [name for name, some in shown.items() if some and name.is_goid]
@@ -44,7 +44,7 @@ def waits_data(recording: Recording) -> Data:
 
 
 def requests_data(recording: Recording) -> dict[int, list[str]]:
-    """For each socket on which net/http's client wrote requests, the lines of these requests, each once."""
+    """For each socket to which net/http's client wrote requests, the lines of these requests, each once."""
     found: dict[int, dict[str, None]] = {}
     for request in requests_of(index_of(recording)):
         found.setdefault(request.socket, {})[place_in(request.stack).strip().removeprefix("at ")] = None
@@ -57,7 +57,7 @@ def is_long(wait: Waiting) -> bool:
 
 
 def rank(waits: list[Waiting]) -> tuple[bool, int]:
-    """The sort key of goroutines: first those that wait at the end, then those that waited last."""
+    """The sort key of goroutines: goroutines that wait at the end come first, then the goroutines that waited last."""
     return waits[-1].last is not None, -waits[-1].first
 
 
