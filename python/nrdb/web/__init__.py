@@ -1,5 +1,5 @@
-"""`nrdb --web PORT`: a page for a session that browsers share, with the timeline and a line to type. The page is a
-client of the session like any other. Its values are netrev's replies, and everything else is unproved."""
+"""`nrdb --web PORT`: a page for a session that browsers share, with the timeline and a field for commands. The page is
+an ordinary client of the session. Its values are netrev's replies; nothing else on it is proved."""
 
 from .running import serve_page
 

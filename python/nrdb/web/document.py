@@ -1,5 +1,4 @@
-"""The page: one file with its own style and script, and the policy that makes a browser reject any other style or
-script."""
+"""The page: one file with its own style and script. Its policy makes a browser reject any other style or script."""
 
 import base64
 import hashlib

@@ -1,5 +1,5 @@
 """Draws the picture in a process of its own, with a netrev of its own, so that the session answers lines in the
-meantime. It first draws the whole run with a part, and then any part that a browser requests."""
+meantime. The process first draws the whole run with one part, and then any part that a browser requests."""
 
 import json
 import subprocess
@@ -107,8 +107,8 @@ class Painter:
 
 
 def paint(program: str, path: str) -> None:
-    """Makes the pictures that the lines of the input request, and writes each picture as a line of the output, until
-    the input ends."""
+    """Makes the pictures that the lines of the input request, until the input ends. Each picture is written as a line
+    of the output."""
     interrupts = Interrupts()
     scout = Scout(lambda: Own(program, path, interrupts))
     changes = ArrivingChanges(program, path, interrupts, lambda _: None)

@@ -1,5 +1,5 @@
-"""Checks requests. A request must be one of six, come from this machine's own page, and carry the token. All other
-requests are rejected."""
+"""Checks requests. A request must have one of six paths, come from this machine's own page, and carry the token. All
+other requests are rejected."""
 
 import hmac
 import re
@@ -41,7 +41,7 @@ class Request:
 
     @classmethod
     def of(cls, head: bytes) -> "Request":
-        """The request in the bytes up to the empty line; raises Rejected if the request is malformed. A header must not
+        """The request in the bytes up to the empty line; raises Rejected if the request is malformed. No header may
         occur twice, because two parsers could choose different values."""
         first, *lines = head.decode("latin-1").removesuffix("\r\n\r\n").split("\r\n")
         asked = FIRST_LINE.fullmatch(first)
@@ -86,7 +86,7 @@ class Gate:
             raise Rejected(HTTPStatus.FORBIDDEN, texts.NO_TOKEN)
 
     def _has_token(self, request: Request) -> bool:
-        """Whether the token is in the only place that the request may have it."""
+        """Whether the token is where this request must have it."""
         given = request.headers.get(TOKEN, "")
         if request.path in BY_ADDRESS:
             name, _, given = request.query.partition("=")

@@ -1,5 +1,5 @@
 """Runs the page's session in the calling thread. It answers lines one after the other, checks whether other users have
-moved the session, and reports while netrev is gone."""
+moved the session, and reports it if netrev is gone."""
 
 import json
 import queue
@@ -80,7 +80,7 @@ class Running:
     # --- for the server's thread
 
     def post(self, who: str, line: str) -> None:
-        """Queues a line. Events will carry the answer. Raises Unavailable if netrev is gone or too many lines are
+        """Queues a line. The answer follows in events. Raises Unavailable if netrev is gone or too many lines are
         waiting."""
         if self._gone:
             raise Unavailable(self._gone)
@@ -101,11 +101,11 @@ class Running:
         return wanted
 
     def timeline(self) -> "Future[bytes]":
-        """The timeline's data, as JSON; raises Unavailable if the timeline doesn't exist."""
+        """The timeline's data, as JSON; raises Unavailable if it can't be made."""
         return self._picture(None)
 
     def part(self, first: int, last: int) -> "Future[bytes]":
-        """The data of these positions, as JSON; raises Unavailable if they don't exist."""
+        """The timeline's data of these positions, as JSON; raises Unavailable if they can't be made."""
         if not 0 <= first <= last <= min(self.session.length, first + MOST):
             raise Unavailable(texts.PART_IS_LARGE.format(most=MOST, length=self.session.length))
         return self._picture(Window(first, last))
@@ -157,7 +157,7 @@ class Running:
             self._try_again()
 
     def _guarded(self, does: Callable[[], None]) -> None:
-        """Runs a function that uses netrev, which may end in the meantime."""
+        """Runs a function that uses netrev; netrev may end in the meantime."""
         try:
             does()
         except NoRecording as wrong:

@@ -1,5 +1,5 @@
-"""The page's server. It listens only on the loopback, in a thread of its own, and answers six requests. It passes
-everything about the session to the thread that runs the session."""
+"""The page's server. It listens only on the loopback, in a thread of its own, and answers six kinds of requests. It
+passes requests about the session to the thread that runs the session."""
 
 import asyncio
 import socket
@@ -18,7 +18,7 @@ from .wire import EVENT_STREAM, JSON, LONGEST_HEAD, Wire
 LOOPBACK = "127.0.0.1"
 MOST_CONNECTIONS = 64
 PULSE = 15.0  # seconds after which the server sends something to a browser, to detect that the browser has gone
-# the seconds in which connections accepted by the system may still arrive, and the seconds in which the server ends
+# the seconds for connections that the system has already accepted, and the seconds within which the server ends
 LAST, ENDING = 0.02, 4.0
 BEGINNING = b"retry: 1000\n\n"
 UNAVAILABLE = HTTPStatus.SERVICE_UNAVAILABLE
@@ -32,16 +32,16 @@ class Runner(Protocol):
     """The part of a session's runner that the server calls. Each call returns at once."""
 
     def post(self, who: str, line: str) -> None:
-        """Queues a line. Events will carry the answer. Raises Unavailable if the line can't be queued."""
+        """Queues a line. The answer follows in events. Raises Unavailable if the line can't be queued."""
 
     def complete(self, line: str) -> "Future[bytes]":
         """The completions of the last word of a line, as JSON; raises Unavailable if the session can't find any."""
 
     def timeline(self) -> "Future[bytes]":
-        """The timeline's data, as JSON; raises Unavailable if the timeline doesn't exist."""
+        """The timeline's data, as JSON; raises Unavailable if it can't be made."""
 
     def part(self, first: int, last: int) -> "Future[bytes]":
-        """The data of these positions, as JSON; raises Unavailable if they don't exist."""
+        """The timeline's data of these positions, as JSON; raises Unavailable if they can't be made."""
 
 
 def listening(port: int) -> socket.socket:
@@ -100,8 +100,8 @@ class Server:
             await asyncio.sleep(0)
 
     def _accept(self, reader: asyncio.StreamReader, writer: asyncio.StreamWriter) -> None:
-        """Accepts a connection. If too many are open, the server closes one: a connection that was answered, or else
-        the connection that has taken longest to send its request."""
+        """Accepts a connection. If too many connections are open, the server closes the oldest connection that was
+        answered, or else the connection that has taken longest to send its request."""
         is_full = len(self._open) >= MOST_CONNECTIONS
         if is_full and (spared := self._closing or self._asking):
             longest = next(iter(spared))

@@ -1,6 +1,5 @@
-"""The session that the page's browsers share. It is nrdb's own session, which also reports which browser moved it, and
-to which position. netrev reports only the position of a session, so the session notices moves by other clients at the
-next check."""
+"""The session that the page's browsers share. It is nrdb's session, and also reports which browser moved it to which
+position. netrev reports only a session's position, so moves by other clients are noticed at the next check."""
 
 from dataclasses import dataclass, field, fields
 from typing import Any, Optional, Protocol, Sequence
@@ -44,7 +43,7 @@ OF_THE_PAGE = {
 
 
 class Saying(Collecting):
-    """Sends nrdb's output in events, as text."""
+    """Sends nrdb's output as text, in events."""
 
     def __init__(self, streams: Telling):
         super().__init__()
@@ -87,7 +86,7 @@ class Shared(Session):
 
     @classmethod
     def over(cls, session: Session, streams: Telling) -> "Shared":
-        """The session in the form that the page uses."""
+        """A session, in the form that the page uses."""
         made = cls(**{one.name: getattr(session, one.name) for one in fields(session)}, streams=streams)
         made.printer, made.answers = Saying(streams), OF_THE_PAGE
         return made

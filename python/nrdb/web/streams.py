@@ -1,5 +1,5 @@
 """Sends the events of a session, as JSON, to all browsers that listen. A new browser first gets the latest events. All
-functions but `tell` are called in the server's own thread."""
+functions except `tell` are called in the server's own thread."""
 
 import asyncio
 from collections import deque
@@ -41,7 +41,7 @@ class Stream:
         return f"browser {self.number}"
 
     def put(self, data: bytes) -> None:
-        """Queues data for the browser. If too much data is already waiting, the browser is too slow, and its stream
+        """Queues data for the browser. If too much data is queued already, the browser is too slow, and its stream
         ends."""
         if self._waiting and self._bytes + len(data) > WAITING_BYTES:
             self.is_behind = True
@@ -94,8 +94,7 @@ class Streams:
 
     @contextmanager
     def joined(self) -> Iterator[Stream]:
-        """Context with the stream of a browser while the browser listens; raises Rejected if too many browsers
-        listen."""
+        """Context with the stream of a browser that listens; raises Rejected if too many browsers listen."""
         if len(self._streams) >= MOST_STREAMS:
             raise Rejected(HTTPStatus.SERVICE_UNAVAILABLE, texts.TOO_MANY_BROWSERS.format(most=MOST_STREAMS))
         stream = Stream(next(self._numbers))

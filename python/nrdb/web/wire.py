@@ -46,7 +46,7 @@ class Wire:
         return Request.of(head)
 
     async def body(self, length: int) -> bytes:
-        """The next bytes of the body, `length` of them; raises Rejected if they don't arrive in time."""
+        """The next `length` bytes of the body; raises Rejected if they don't arrive in time."""
         try:
             return await asyncio.wait_for(self._reader.readexactly(length), IN_TIME)
         except (asyncio.TimeoutError, asyncio.IncompleteReadError):
@@ -58,7 +58,7 @@ class Wire:
         await self.send(body)
 
     async def begin(self, status: HTTPStatus, sort: str, more: dict[str, str] = {}) -> None:
-        """Begins a response whose data follow."""
+        """Begins a response. Its data follow later."""
         lines = [f"HTTP/1.1 {status.value} {status.phrase}"]
         lines += [f"{name}: {value}" for name, value in ({"Content-Type": sort} | self._headers | more).items()]
         await self.send("\r\n".join([*lines, "", ""]).encode("ascii"))
@@ -78,7 +78,7 @@ class Wire:
             await self._reader.read(1)
 
     async def close(self) -> None:
-        """Ends the connection. Before that, it reads for a moment, so that a reset doesn't destroy the response."""
+        """Ends the connection. It first reads for a moment, so that a reset doesn't destroy the response."""
         with suppress(OSError, asyncio.TimeoutError):
             self._writer.write_eof()
             await asyncio.wait_for(self._take_rest(), STILL)
