@@ -1,5 +1,5 @@
 """`nrdb --dap`: the Debug Adapter Protocol, for editors. A recording's text is the source, and a position is the line
-of its next step; goroutines are threads, cells are variables. Values are netrev's; everything else is unproved."""
+of the next step. Goroutines are threads, and cells are variables. Values are netrev's; nothing else is proved."""
 
 from .serving import serve_port, serve_streams
 

@@ -35,8 +35,8 @@ def shown(text: str) -> str:
 
 
 class Outcome(NamedTuple):
-    """The result of a request: the body of its response, and what the adapter reports after the response: a stop, an
-    event, or the end of the session."""
+    """The result of a request: the body of its response. After the response, the adapter reports a stop, an event, or
+    the end of the session."""
 
     body: Body = {}
     stop: Optional[Stop] = None
@@ -73,7 +73,8 @@ class Adapter:
         }  # fmt: skip
 
     def serve(self, begun: Sequence[Request] = ()) -> None:
-        """Answers requests until the editor disconnects, first those of `begun`, whose `initialize` was answered."""
+        """Answers requests until the editor disconnects, first those of `begun`; its `initialize` was answered
+        already."""
         with closing(self._source), self._opened:
             for request in begun:
                 self._initialize(request) if request.command == "initialize" else self._guarded(request)
@@ -121,7 +122,7 @@ class Adapter:
                 self._close()
 
     def _worked(self, request: Request, work: Work) -> Outcome:
-        """The result of a request. The editor's messages are read in the meantime."""
+        """The result of a request. During the work, the editor's messages are read."""
         if self._source.ends(request):
             raise Interrupted
         if request.command in ("launch", "attach"):
@@ -133,7 +134,7 @@ class Adapter:
             return self._outcome(request)
 
     def _look_for_others(self, request: Request) -> None:
-        """Reports a move of a shared session by another front."""
+        """Reports it if another front has moved the shared session."""
         with self._source.work(request, self._interrupts):
             moved = self._target.debuggee.others_moved()
         if moved is not None:
@@ -145,7 +146,7 @@ class Adapter:
             self._stopped(Stop("pause", why))
 
     def _outcome(self, request: Request) -> Outcome:
-        """The outcome of a request; raises Unanswerable if it fails."""
+        """The outcome of a request; raises Unanswerable if the request fails."""
         answer = self._answers.get(request.command)
         if answer is None:
             raise Unanswerable(texts.UNKNOWN_REQUEST.format(command=request.command))
@@ -168,7 +169,7 @@ class Adapter:
         return lambda request: Outcome(answer(self._target, self._numbering, request))
 
     def _stopped(self, stop: Stop) -> None:
-        """Reports a new position, with the reason."""
+        """Reports a new position, and the reason for the stop."""
         target = self._target
         target.stop = stop
         target.looks.handles.forget()
@@ -185,7 +186,7 @@ class Adapter:
             self._wire.event("output", category="console", output=text)
 
     def _end(self, why: str) -> None:
-        """Ends the session, whatever netrev is doing."""
+        """Ends the session, even in the middle of a request to netrev."""
         self._console(f"| {plain(why)}\n")
         self._close()
         self._wire.event("terminated")

@@ -24,7 +24,7 @@ class NoToken(Exception):
 
 
 def token_for_a_port() -> str:
-    """The token that the user chose, else a new one."""
+    """The token that the user chose, or else a new token."""
     own = os.environ.get(NAMED_BY)
     if own is None:
         return secrets.token_urlsafe(32)
@@ -34,8 +34,8 @@ def token_for_a_port() -> str:
 
 
 def is_let_in(request: Request, token: str) -> bool:
-    """Whether a request is a launch with the token; False for requests that are answered without it. Raises
-    Unanswerable for any other request, and Stranger for a launch with another token."""
+    """Whether a request is a launch with the token; False for a request that needs no token. Raises Unanswerable for
+    any other request, and Stranger for a launch with another token."""
     if request.command in BEFORE:
         return False
     if request.command not in OPENING:

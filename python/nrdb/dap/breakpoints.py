@@ -1,5 +1,4 @@
-"""Requests about breakpoints: at lines, at kinds of steps, at functions, at cells, and at steps at which something went
-wrong."""
+"""Requests about breakpoints: at lines, kinds of steps, functions, cells, and steps at which something went wrong."""
 
 from netrev_words.plain import plain
 from netrev_words.vocabulary import KINDS
@@ -78,7 +77,7 @@ def set_functions(target: Target, _: Numbering, request: Request) -> Body:
 
 
 def is_function(asked: Body) -> bool:
-    """Whether a breakpoint may be at a function. Its name is then not that of a kind of step."""
+    """Whether a breakpoint may be at a function: its name isn't that of a kind of step."""
     return isinstance(asked.get("name"), str) and asked["name"] not in KINDS
 
 
@@ -108,7 +107,7 @@ def set_data(target: Target, _: Numbering, request: Request) -> Body:
 
 
 def set_filters(target: Target, _: Numbering, request: Request) -> Body:
-    """Sets the exception filters, which stop the session before the steps that they select."""
+    """Sets the exception filters, which stop a move before the steps that they select."""
     names = request.arguments.get("filters") or []
     if not isinstance(names, list) or not all(isinstance(name, str) for name in names):
         raise Unanswerable(texts.FILTERS)

@@ -27,7 +27,7 @@ Maker = Optional[int]  # who makes a step: a goroutine's number, or None for the
 
 
 class Debuggee:
-    """A session over a recording of its own, and its text."""
+    """The session of a recording that an editor debugs, and the recording's text."""
 
     def __init__(self, session: Session, recording: Recording, printer: Collecting, path: str):
         self.session, self.recording, self.printer = session, recording, printer
@@ -56,16 +56,17 @@ class Debuggee:
         return self.step(low)
 
     def maker(self, number: int) -> Maker:
-        """The goroutine that makes a step; None for the network and the clock."""
+        """The goroutine that makes a step; None if the network or the clock makes it."""
         step = self.step(number)
         return step.argument("g") if step else None
 
     def maker_here(self) -> Maker:
-        """The maker of the next step; at the end, of the last step."""
+        """The maker of the next step; at the end of the recording, the maker of the last step."""
         return self.maker(min(self.position + 1, self.length))
 
     def last_step_of(self, maker: Maker) -> int:
-        """The last step of this maker up to the position; 0 if the maker has made none or the step is far away."""
+        """The last step of this maker up to the position; 0 if the maker has made no step, or if the step is far
+        away."""
         if maker is not None:
             return last_steps(self.recording, self.position, [maker])[maker]
         numbers = range(self.position, max(self.position - FAR, 0), -1)

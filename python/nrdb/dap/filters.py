@@ -1,5 +1,4 @@
-"""The editor's exception filters, which select the steps before which a move stops because something goes wrong
-there."""
+"""The editor's exception filters. They select steps at which something goes wrong; a move stops before such a step."""
 
 from bisect import bisect_left, bisect_right
 from enum import Enum
@@ -15,7 +14,7 @@ from .messages import Body
 
 
 class Filter(Enum):
-    """The filters, each with the name that the protocol passes on."""
+    """The filters, each with its name in the protocol."""
 
     SUSPECTS = "suspects"
     TIMEOUTS = "timeouts"
@@ -84,7 +83,7 @@ class Filters:
         return {one: sorted(wrong) for one, wrong in found.items()}
 
     def _positions(self) -> list[int]:
-        """The positions before the steps at which the set filters stop, in rising order."""
+        """The positions at which the filters that are set stop, in rising order."""
         return sorted({wrong.step - 1 for one in self._set for wrong in self._all[one]})
 
     def nearest(self, position: int, forwards: bool) -> Optional[int]:

@@ -1,5 +1,5 @@
 """Breakpoints in the program's own source. They stop before the steps at which, according to NAME.where, a goroutine
-reaches a line or a function. Like the filters, they belong to nrdb and use no marks of netrev."""
+reaches a line or a function. Like the filters, these breakpoints belong to nrdb and use no marks of netrev."""
 
 from bisect import bisect_left, bisect_right
 from functools import cached_property
@@ -21,8 +21,8 @@ FUNCTIONS = "functions"  # in place of a file
 
 
 class Hits:
-    """A breakpoint: its number, the positions at which a goroutine reaches it, in rising order, its condition, its hit
-    count and its message."""
+    """A breakpoint: its number, the rising positions at which a goroutine reaches it, and its condition, hit count and
+    message."""
 
     def __init__(self, number: int, session: Session, reached: Sequence[int], wish: Wish):
         self.number = number
@@ -35,7 +35,7 @@ class Hits:
 
 
 class GoLines:
-    """The breakpoints in the program's source, by file, and those at its functions."""
+    """The breakpoints in the program's source by file, and the breakpoints at its functions."""
 
     def __init__(self, debuggee: Debuggee, roots: Roots, logpoints: LogPoints):
         self._debuggee, self._roots, self._logpoints = debuggee, roots, logpoints
@@ -56,8 +56,8 @@ class GoLines:
         self._logpoints.clear(path)
 
     def positions(self, path: str, line: int) -> list[int]:
-        """The positions at which a goroutine reaches a line of a file; raises Unanswerable if no step comes from the
-        line, as the prompt does."""
+        """The positions at which a goroutine reaches a line of a file; raises Unanswerable, with the prompt's message,
+        if no step comes from the line."""
         lines = self.lines(path)
         if line not in lines:
             name = plain(Path(path).name) or "that file"

@@ -1,5 +1,5 @@
-"""The beginnings of connections to a port. Several run at once, each in a thread of its own, until a launch carries the
-token. A connection without the token therefore doesn't delay an editor."""
+"""The beginnings of connections to a port. Several handshakes run at once, each in a thread of its own until its launch
+carries the token. A connection without the token therefore doesn't delay an editor."""
 
 import socket
 from contextlib import ExitStack, suppress
@@ -17,7 +17,7 @@ MOST_BYTES = 65_536  # the most bytes that a connection may send before it has n
 
 
 class Connection:
-    """A connection, and the requests of its editor so far."""
+    """A connection, and the requests that its editor has sent so far."""
 
     def __init__(self, connected: socket.socket, token: str):
         self._connected, self._token, self._opened = connected, token, ExitStack()
@@ -61,7 +61,7 @@ class Connection:
 
 
 class Handshakes:
-    """The connections to a port. Connections that have named the token are queued, and served one after the other."""
+    """The connections to a port. Connections that have sent the token are queued, and served one after the other."""
 
     def __init__(self, listening: socket.socket, token: str):
         self._listening, self._token = listening, token
@@ -71,7 +71,7 @@ class Handshakes:
         Thread(target=self._accept, daemon=True).start()
 
     def next(self) -> Connection:
-        """The next connection that has named the token."""
+        """The next connection that has sent the token."""
         return self._admitted.get()
 
     def _accept(self) -> None:
@@ -100,7 +100,7 @@ class Handshakes:
     def _shake(self, connection: Connection) -> None:
         """Begins a connection, in a thread of its own."""
         is_admitted = False
-        # (the other end has gone, or has sent something that isn't a message)
+        # (an error means that the other end has gone, or has sent something that isn't a message)
         with suppress(Malformed, OSError, ValueError):
             is_admitted = connection.admitted()
         is_admitted = self._ended(connection) and is_admitted
@@ -110,7 +110,7 @@ class Handshakes:
             connection.close()
 
     def _ended(self, connection: Connection) -> bool:
-        """Marks a connection's handshake as ended. Returns False if it had ended before."""
+        """Marks a connection's handshake as ended. Returns False if it had ended already."""
         with self._lock:
             late = self._begun.pop(connection, None)
         if late:

@@ -1,5 +1,5 @@
-"""Reads an editor's messages while nrdb works on a request. A thread reads the messages, so `pause`, `cancel` and
-`disconnect` take effect at once: by a signal, they stop the work, which runs in the main thread."""
+"""Reads an editor's messages while nrdb works on a request. A thread reads the messages, so that `pause`, `cancel` and
+`disconnect` take effect at once: a signal stops the work, which runs in the main thread."""
 
 import signal
 import threading
@@ -13,7 +13,7 @@ from .messages import Malformed, Request, Wire
 
 ENDING = ("disconnect", "terminate")
 CANCEL, PAUSE = "cancel", "pause"
-# What a pause stops: moves, and lines typed in the console.
+# A pause stops only moves and lines typed in the console.
 MOVES = ("continue", "reverseContinue", "next", "stepIn", "stepBack", "stepOut", "goto", "restart", "configurationDone")
 PAUSED = (*MOVES, "evaluate")
 SIGNAL = signal.SIGUSR1
@@ -31,14 +31,15 @@ class Source(Protocol):
         """Context for the work on this request."""
 
     def ends(self, request: Request) -> bool:
-        """Whether a request must not be started, because the editor ends the session or has cancelled the request."""
+        """Whether a request must not be started, because the editor is ending the session or has cancelled the
+        request."""
 
     def close(self) -> None:
         """Ends the reading, because no more requests are needed."""
 
 
 class Reading:
-    """Reads a request after the previous request has been answered, and reads nothing in between."""
+    """Reads each request only after the previous request has been answered."""
 
     def __init__(self, wire: Wire):
         self.request = wire.request
@@ -131,8 +132,8 @@ class Hearing:
                 return
 
     def _hand_on(self, came: Request | Exception | None, size: int) -> None:
-        """Passes on a message of this many bytes when the queue has room. If the message is urgent, also signals the
-        main thread at once."""
+        """Passes on a message of this many bytes when the queue has room. An urgent message also signals the main
+        thread at once."""
         is_urgent = isinstance(came, Request) and came.command in (*ENDING, CANCEL, PAUSE)
         if isinstance(came, Request) and is_urgent:
             self._urgent.append(came)
@@ -150,7 +151,7 @@ def stops(request: Request, heard: Request) -> bool:
 
 
 def is_cancelled_by(request: Request, heard: Request) -> bool:
-    """Whether an arrived message cancels a request, named by its number or by its progress."""
+    """Whether an arrived message cancels a request, which it names by number or by progress."""
     if heard.command != CANCEL:
         return False
     named = heard.arguments.get("requestId"), heard.arguments.get("progressId")

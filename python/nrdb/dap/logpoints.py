@@ -1,5 +1,6 @@
-"""Breakpoints that print a message when a move passes them, instead of stopping the move. They belong to nrdb and use
-no marks of netrev. A cell's name in braces is replaced by the cell's value at the position, from `netrev changes`."""
+"""Breakpoints that print a message when a move passes them, instead of stopping the move. These breakpoints belong to
+nrdb and use no marks of netrev. A cell's name in braces is replaced by the cell's value at the position, from `netrev
+changes`."""
 
 from typing import Iterator, NamedTuple, Sequence
 
@@ -48,7 +49,7 @@ class LogPoints:
             yield f"and {len(hits) - MOST} messages more"
 
     def _filled(self, message: str, position: int) -> str:
-        """A message in which the names in braces are replaced by their values."""
+        """A message, with the names in braces replaced by values."""
         return IN_BRACES.sub(lambda found: self._value(found[1].strip(), position), message)
 
     def _value(self, named: str, position: int) -> str:

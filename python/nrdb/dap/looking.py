@@ -32,7 +32,7 @@ def thread_of(maker: Maker) -> int:
 
 
 def maker_of(thread: int) -> Maker:
-    """The maker that a thread number stands for; raises Unanswerable if no maker has that number."""
+    """The maker with this thread number; raises Unanswerable if no maker has that number."""
     if thread == NETWORK:
         return None
     if thread > GOIDS:
@@ -52,7 +52,7 @@ class Frame:
 
 @dataclass(frozen=True)
 class Cells:
-    """Cells of one object: the whole machine, a goroutine, a socket or a descriptor."""
+    """The cells of an object: the whole machine, a goroutine, a socket or a descriptor."""
 
     of: Of
     number: int = 0
@@ -109,8 +109,8 @@ class Handles:
 
 
 class Looks:
-    """Reads values at the session's position. `goes_first` says whether the program's own line, if known, comes before
-    the recording's line."""
+    """Reads values at the session's position. If `goes_first`, the program's own line, if known, comes before the
+    recording's line."""
 
     def __init__(self, debuggee: Debuggee, goes_first: bool, roots: Roots):
         self._debuggee, self._goes_first, self._roots = debuggee, goes_first, roots
@@ -121,8 +121,8 @@ class Looks:
         return self._debuggee.session.world()
 
     def threads(self) -> list[Body]:
-        """The threads in this order: goroutines that aren't gone, each with what it does and, if known, its function
-        and line of the program; waiting goroutines without steps; the network with the clock."""
+        """The threads: first the goroutines that aren't gone, then waiting goroutines without steps, and last the
+        network with the clock. Each goroutine has what it does and, if known, its function and line of the program."""
         world, recording = self._world, self._debuggee.recording
         statuses = world.of_each(range(world.made(Of.GOROUTINE)), "gor")
         there = [goroutine for goroutine, (status,) in statuses.items() if status != "gone"]
@@ -178,8 +178,8 @@ class Looks:
         return self._ordered(stack, [self._call_frame(frame, call) for call in stack.calls], [first, *labels])
 
     def _ordered(self, stack: Stack, calls: list[Body], others: list[Body]) -> list[Body]:
-        """The frames in the order of calls, after the other frames. If the program's own line goes first, its callers
-        follow, then the other frames, and last the calls inside Go."""
+        """The other frames, followed by the frames of the stack's calls. If the program's own line goes first, its
+        callers follow, then the other frames, and last the calls inside Go."""
         own = next((at for at, call in enumerate(stack.calls) if call.of == OF_THE_PROGRAM), None)
         if not self._goes_first or own is None:
             return [*others, *calls]
@@ -211,7 +211,7 @@ class Looks:
         return {"id": self.handles.give(frame), "name": words, "presentationHint": "label", "line": 0, "column": 0}
 
     def scopes(self, frame: int) -> list[Body]:
-        """The scopes of a frame: its own objects, the machine, and everything."""
+        """The scopes of a frame: the frame's own objects, the machine, and everything."""
         thing = self.handles.take(frame)
         if not isinstance(thing, Frame):
             raise Unanswerable(texts.NOT_A_FRAME)
@@ -290,7 +290,7 @@ class Looks:
         return None if cell is None else str(self.cells([cell])[0]["value"])
 
     def meaning(self, text: str) -> Optional[str]:
-        """The meaning of a word of the recording under the mouse pointer: a cell's value, or a kind of step."""
+        """The meaning of a word of the recording under the mouse pointer, which may be a cell or a kind of step."""
         word = text.strip().strip('"')
         if word in KINDS:
             return f"{KINDS[word].usage}: {KINDS[word].says}"

@@ -1,4 +1,4 @@
-"""The breakpoints of an editor as marks of netrev, with conditions that nrdb checks."""
+"""An editor's breakpoints as marks of netrev, with conditions that nrdb checks."""
 
 from enum import Enum
 from typing import Sequence
@@ -61,7 +61,7 @@ class Marks:
         return self._numbers[sort, wish.what]
 
     def holding(self, numbers: Sequence[str]) -> list[str]:
-        """Those of the marks that hit at the session's position which have no condition or a condition that holds."""
+        """The marks that hit at the session's position, except marks with a condition that isn't true."""
         marks = {number: mark for mark, number in self._numbers.items()}
         met = self._session.holding(numbers)  # according to the conditions that were set in the console
         return [number for number in met if number not in marks or self._holds(marks[number])]
@@ -70,7 +70,7 @@ class Marks:
         return any(self._stops(wish) for wish in self._wishes[mark])
 
     def _stops(self, wish: Wish) -> bool:
-        """Whether a breakpoint that has been reached stops at the session's position."""
+        """Whether a breakpoint that is reached at the session's position stops there."""
         if wish.times is None:
             return wish.condition is None or self._session.holds(wish.condition)
         if wish not in self._counted:

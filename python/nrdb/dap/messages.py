@@ -1,4 +1,4 @@
-"""The protocol's messages: JSON after a header with its length, sent in both directions."""
+"""The protocol's messages: Each message is JSON after a header with its length. Messages go in both directions."""
 
 import json
 from dataclasses import dataclass, field
@@ -15,7 +15,7 @@ Body = dict[str, Any]
 
 
 class Malformed(Exception):
-    """Raised, with the reason, if the input isn't a message. The end of such an input is unknown, so nothing after it
+    """Raised, with the reason, if the input isn't a message. Where such an input ends is unknown, so nothing after it
     can be read."""
 
 
@@ -58,7 +58,7 @@ class Request:
 
 
 class Wire:
-    """The two streams to the editor. Several threads may write messages, and one may read them."""
+    """The two streams to the editor. Several threads may write messages, but only one thread may read them."""
 
     def __init__(self, reader: BinaryIO, writer: BinaryIO, most: Optional[int] = None):
         self._reader, self._writer = reader, writer
@@ -82,8 +82,8 @@ class Wire:
                 return _request(message)
 
     def _length(self) -> Optional[int]:
-        """The length in the header; None at the end of the input. Any line that isn't the protocol's ends the input,
-        because a browser's request for a web page begins with such a line."""
+        """The length in the header; None at the end of the input. Any other line ends the input, because a browser's
+        request for a web page begins with such a line."""
         found: dict[bytes, bytes] = {}
         while (line := self._reader.readline(LONGEST_HEADER)) not in (b"\r\n", b"\n"):
             if not line:

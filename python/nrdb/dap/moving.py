@@ -1,5 +1,5 @@
-"""The editor's moves, each made of one line or several lines to netrev, with their destinations and the reasons for
-their stops."""
+"""The editor's moves, their destinations, and the reasons for their stops. Each move sends one or more lines to
+netrev."""
 
 from typing import Callable, NamedTuple, Optional, Sequence
 
@@ -30,16 +30,16 @@ class Stop(NamedTuple):
 
 
 def text_of(stop: Stop, recording: Recording) -> str:
-    """The text of a stop: for an exception, its description; at the end, the first failure, or what all goroutines wait
-    for. Empty for a long recording, because an editor waits for the answer."""
+    """The text of a stop. For an exception, it is the exception's description; at the end, the first failure, or what
+    all goroutines wait for. It is empty for a long recording, because an editor waits for the answer."""
     if stop.reason == "exception":
         return stop.says
     return root_sentence(recording) if stop.says == AT_THE_END and recording.length <= MOST_STEPS else ""
 
 
 class Moves:
-    """Moves of a session. They pass marks whose conditions don't hold. A pause stops a move at the position that netrev
-    has reached. `tells` is called with the progress of a long move."""
+    """Moves of a session. They pass marks with conditions that aren't true. A pause stops a move at the position that
+    netrev has reached. `tells` is called with the progress of a long move."""
 
     def __init__(
         self,
@@ -73,8 +73,8 @@ class Moves:
         return self._arrived(f"goto {position}", reply, move_of("goto", reply), [], why)
 
     def next_of(self, maker: Maker) -> Stop:
-        """Goes to the position just before the next step of a goroutine, or of the network, after the step that it is
-        about to make."""
+        """Makes the step that a goroutine, or the network, is about to make, and goes on to the position just before
+        its next step."""
         numbers = range(self._debuggee.position + 2, self._debuggee.length + 1)
         try:
             with self._interrupts.at_once():
@@ -96,8 +96,8 @@ class Moves:
         return self.run(True, goal.position)
 
     def run(self, forwards: bool, target: Optional[int] = None) -> Stop:
-        """Goes to the nearest position in a direction at which a mark hits or a filter stops, or to the target, or else
-        to the end."""
+        """Goes to the nearest position in a direction at which a mark hits or a filter stops. It goes no further than
+        the target, if given, or the end."""
         begun = self._debuggee.position
         stood = self._session.netrev.marks()
         try:
@@ -145,7 +145,7 @@ class Moves:
             self.tells(here, self._debuggee.length)
 
     def _go(self, position: int) -> str:
-        """netrev's reply to the move to a position. This move is made in pieces, too."""
+        """netrev's reply to the move to a position. Like a search, the move is made in pieces."""
         here = self._session.stands().position
         while abs(position - here) > PIECE:
             self._interrupts.check()
@@ -166,7 +166,7 @@ class Moves:
         return Stop("pause", f"at {position}")
 
     def _bound(self, forwards: bool, target: Optional[int]) -> Optional[int]:
-        """The position at which a move ends in any case, whatever hits beyond it."""
+        """The position at which a move ends at the latest; None if only a mark or the end stops it."""
         position = self._debuggee.position
         filtered = self._filters.nearest(position, forwards)
         places = self._go_lines.nearest(position, forwards), self._session.breaks.nearest(position, forwards)
@@ -193,14 +193,14 @@ class Moves:
         return self._end_or("step", move)
 
     def _end_or(self, reason: str, move: Move) -> Stop:
-        """The stop at an end of the recording, or else the stop for this reason."""
+        """The stop at an end of the recording; elsewhere, the stop for this reason."""
         if not move.is_end:
             return Stop(reason, f"at {move.position}")
         return Stop("pause", AT_THE_END if move.position else "the recording's start")
 
     def _face_forwards(self) -> None:
-        """Sets the session's direction to forwards, whatever the user typed in the console, because the editor has its
-        own commands for both directions."""
+        """Sets the session's direction to forwards, even if the user has reversed it in the console, because the editor
+        has commands for both directions."""
         if self._session.stands().direction == "reverse":
             self._session.ask("set exec-direction forward")
 
@@ -212,5 +212,5 @@ class Moves:
 
 
 def told(wrong: Sequence[Failure]) -> str:
-    """The errors, one sentence each."""
+    """Text about the errors."""
     return "; ".join(f"{one.sort}: {one.says}" for one in wrong)

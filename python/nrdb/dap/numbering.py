@@ -1,4 +1,4 @@
-"""Line numbers as the editor counts them: from 1, or from 0 if the editor asks for that."""
+"""Line numbers as the editor counts them: from 1, or from 0 if the editor requests it."""
 
 from typing import NamedTuple
 
@@ -7,7 +7,8 @@ from .messages import Body, Request, Unanswerable
 
 
 class Numbering(NamedTuple):
-    """The numbers from which the editor counts lines and columns; a recording's are counted from 1."""
+    """The numbers from which the editor counts lines and columns. A recording's lines and columns are counted from
+    1."""
 
     first: int = 1
 

@@ -1,5 +1,5 @@
-"""Finds the files that NAME.where names: in the folder of the program's source, or, for Go's own files, in Go's
-folder."""
+"""Finds the files that NAME.where names. They are in the folder of the program's source or, if they are Go's own files,
+in Go's folder."""
 
 import os
 from pathlib import Path
@@ -9,7 +9,7 @@ SOURCES_OF_GO = "src"  # the subfolder in the folder of a Go release
 
 
 class Roots(NamedTuple):
-    """The folder to which the program's file names are relative, and Go's folder, if known."""
+    """The folder of the program's files, to which their names are relative, and Go's folder, if known."""
 
     program: Path
     go: Optional[Path] = None
@@ -19,7 +19,7 @@ class Roots(NamedTuple):
         return next((path for path in self._places(file) if os.path.isfile(path)), None)
 
     def is_at(self, file: str, wanted: Path) -> bool:
-        """Whether a file that the recorder named is the one at this path."""
+        """Whether a file that the recorder named is the file at this path."""
         if any(whole(path) == wanted for path in self._places(file)):
             return True
         return self.go is None and str(wanted).endswith(f"/{SOURCES_OF_GO}/{file}")

@@ -26,9 +26,9 @@ OF_ATTACH = ("program", "address", "source", "sourceRoot", "goRoot", TOKEN)
 
 @dataclass(frozen=True)
 class Launch:
-    """The arguments of a launch: the recording, the position of the first stop, whether the program's lines are shown
-    before the recording's lines, and the folders of the program's source and of Go. An attach has the address of a
-    shared session instead of a first stop."""
+    """The arguments of a launch: the recording, the position of the first stop, and the folders of the program's source
+    and of Go. If `goes_first`, the program's lines are shown before the recording's lines. An attach has the address of
+    a shared session instead of a first stop."""
 
     recording: str
     stop_at: Optional[int | str]
@@ -57,7 +57,7 @@ class Launch:
 
     @staticmethod
     def _shown(given: dict[str, Any]) -> tuple[bool, Optional[str], Optional[str]]:
-        """The arguments that launches and attaches share: whether the program's lines come first, and the two
+        """The arguments that a launch and an attach share: whether the program's lines come first, and the two
         folders."""
         source = given.get("source", SOURCES[0])
         if source not in SOURCES:

@@ -1,5 +1,5 @@
 """Breakpoints as an editor requests them: the mark, a condition, a hit count, and a message instead of a stop. All of
-these depend only on the position, so they act alike in both directions."""
+these depend only on the position, so they have the same effect in both directions."""
 
 import re
 from bisect import bisect_left
@@ -31,15 +31,15 @@ def condition_of(text: str) -> Condition:
 
 
 class HitCount(NamedTuple):
-    """A hit count. Of the times that a breakpoint is reached, counted from the recording's start, it selects those at
-    which the breakpoint stops."""
+    """A hit count. It selects the times at which a breakpoint stops, of all times at which it is reached, counted from
+    the recording's start."""
 
     relation: str
     number: int
 
     @classmethod
     def of(cls, text: str) -> "HitCount":
-        """The hit count in a text: 3 or == 3, >= 3, < 3, or % 3 for every third time."""
+        """The hit count in a text, such as 3 or == 3, >= 3, < 3, or % 3 for every third time."""
         found = HIT_COUNT.fullmatch(text.strip())
         number = number_of(found[2]) if found else None
         if found is None or number is None or (found[1] == "%" and not number):
@@ -66,8 +66,8 @@ class Wish:
     message: str = ""
 
     def stops(self, session: Session, positions: Sequence[int]) -> list[int]:
-        """The positions at which the breakpoint stops or prints its message, among the positions at which it is
-        reached, in rising order."""
+        """Of the rising positions at which the breakpoint is reached, the positions at which it stops or prints its
+        message."""
         condition, times = self.condition, self.times
         met = [one for one in positions if condition is None or session.holds(condition, one)]
         return [one for count, one in enumerate(met, 1) if times is None or times.holds(count)]

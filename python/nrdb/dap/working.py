@@ -14,8 +14,8 @@ TITLES = {"launch": texts.READING, "attach": texts.JOINING, "evaluate": "nrdb an
 
 
 class Work:
-    """The work on one request. If the work takes long, a thread reports it to the editor, because the main thread
-    writes nothing before the work is done."""
+    """The work on one request. If the work takes long, a thread reports that to the editor, because the main thread
+    writes nothing until the work is done."""
 
     def __init__(self, wire: Wire, request: Request, shows_progress: bool):
         self._wire, self._request, self._shows_progress = wire, request, shows_progress
@@ -25,7 +25,7 @@ class Work:
         Thread(target=self._tell, daemon=True).start()
 
     def tells(self, position: int, length: int) -> None:
-        """Records the progress of the work and does nothing else, because the work may be stopped anywhere."""
+        """Records the progress of the work. It does nothing else, because the work may be stopped anywhere."""
         self._position, self._length = position, length
 
     def responds(self, body: Body) -> None:
@@ -34,15 +34,15 @@ class Work:
             self._wire.respond(self._request, body)
 
     def refuses(self, why: str) -> bool:
-        """Answers a request that failed. Returns whether the request had been answered before, so that the failure must
-        still be reported."""
+        """Answers a request that failed. Returns whether the request had been answered already, so that the failure
+        must still be reported."""
         if self._ends():
             return True
         self._wire.refuse(self._request, why)
         return False
 
     def _ends(self) -> bool:
-        """Ends the reports on the work. Returns whether the request was answered already."""
+        """Ends the reports on the work. Returns whether the request has been answered already."""
         with self._lock:
             self._done.set()
             if self._is_shown:
