@@ -1,5 +1,5 @@
-"""The times at which bytes arrived at a socket and left it. A recorder of Go doesn't see these times: it writes the
-bytes just before the read or write that shows them, although the event that reported the bytes came earlier. In other
+"""The times at which bytes arrived at a socket and left it. A recorder of Go doesn't see these times. It writes the
+bytes just before the read or write that shows them, although the event that reported them came earlier. In other
 schedules, such bytes therefore come with that event."""
 
 from dataclasses import replace
@@ -16,14 +16,14 @@ JUST_BEFORE = 0.4
 
 
 class Tries(NamedTuple):
-    """The step numbers, in rising order, of the tries at one side of a socket, and of the tries that found nothing."""
+    """The steps of the tries at one side of a socket, and of the tries that found nothing, in rising order."""
 
     all: list[int]
     in_vain: list[int]
 
 
 def with_events(script: Script) -> Script:
-    """The script, with bytes moved to the event before them if no later event reports these bytes."""
+    """The script, in which bytes are moved to the event before them if no later event reports them."""
     tries = _tries(script)
     network = {}
     for s, row in script.network.items():
@@ -54,7 +54,8 @@ def _note(script: Script, operation: Operation, found: dict[tuple[int, str], Tri
 
 
 def _due(item: Item, told: list[Event], tries: Optional[Tries]) -> float:
-    """The due time: just before the first event since the last failed try, if a try comes before the next event."""
+    """The due time of an arrival. If a try comes before the next event, it is just before the first event since the
+    last failed try."""
     if tries is None:
         return item.due
     number, side = item.event.number, SIDE_OF[item.event.kind]

@@ -1,5 +1,5 @@
-"""The machine's state during a schedule, with a cache of the effects of steps. If a step reads the same values as in
-the recorded run or in an earlier schedule, it has the same effect, so only new steps are given to the model."""
+"""The machine's state during a schedule, with a cache of the effects of steps. A step that reads the same values as in
+the recorded run or in an earlier schedule has the same effect, so the model only makes new steps."""
 
 from typing import Any, NamedTuple, Optional
 
@@ -12,8 +12,8 @@ from .runs import Made
 Looked = tuple[Any, ...]  # a step, with all values that the step reads
 MOST_KEPT = 20_000
 
-# the position of the argument by which a kind of step names a goroutine, a socket or a descriptor; OWN: the goroutine's
-# status names the object
+# the position of the argument by which a kind of step names a goroutine, a socket or a descriptor; OWN means that the
+# goroutine's status names the object
 OWN, NONE = 0, -1
 SOCKETS = ("sysread", "syswrite", "closewrite", "incref", "increfclose", "decref", "rwlock", "rwunlock")
 DESCRIPTORS = ("pollreset", "waitbegin", "setdeadline", "evict")
@@ -35,8 +35,8 @@ OF_TIMERS = {"next_number", "timers"}  # the objects that timed steps may create
 
 
 class Effect(NamedTuple):
-    """The effect of a step: the values that it read, the values that it gave goroutines, sockets and descriptors, its
-    changes to the timers, and the change in the number of parked goroutines."""
+    """The effect of a step: the values that it read, the new values of goroutines, sockets and descriptors, its changes
+    to the timers, and the change in the number of parked goroutines."""
 
     looked: Looked
     made: Made
@@ -46,7 +46,7 @@ class Effect(NamedTuple):
 
 
 class Board(Machine):
-    """The machine's state during a schedule. It is changed in place, and has the attributes of a World."""
+    """The machine's state during a schedule. The board is changed in place, and has the attributes of a World."""
 
     __slots__ = ("is_recorded", "recorded", "further")
 
@@ -108,8 +108,8 @@ class Board(Machine):
         return step, status, self.descs[d]
 
     def _effect(self, looked: Looked, made: Made, waiters: int) -> Optional[Effect]:
-        """The values that the last step read and changed; None if the step changed a value that the cache doesn't
-        cover, or that the step didn't read."""
+        """The effect of the last step; None if the step changed a value that the cache doesn't cover, or that the step
+        didn't read."""
         changed = {(of, place): old for of, place, old in reversed(self.changes)}
         wholes = {of for of, place in changed if place == WHOLE} - {"waiters"}
         if None in changed.values() or not wholes <= (OF_TIMERS if made.step[0] in TIMED else set()):
@@ -127,6 +127,6 @@ class Board(Machine):
 
 
 def _named(step: Step, at: int, status: Optional[Status]) -> int:
-    """The number of an object, from an argument of a step or from its goroutine's status."""
+    """The number of an object, from a step's argument or from the status of the step's goroutine."""
     named: Any = step[at] if at != OWN else status[1] if status else -1
     return int(named)

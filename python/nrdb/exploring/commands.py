@@ -46,8 +46,8 @@ class Explored(NamedTuple):
 
 
 def explored(session: Session, most: int = MOST, is_of_failures: bool = False) -> Explored:
-    """Runs schedules near the recorded one, and writes the schedules that end with a suspect. If none does, writes
-    those in which a call fails that succeeded in the recording."""
+    """Runs schedules near the recorded one, and writes the schedules that end with a suspect. If there are none, writes
+    the schedules in which a call fails that succeeded in the recording."""
     recording = session.text()
     if recording.length > MOST_STEPS:
         raise Misused(messages.TOO_LONG.format(most=MOST_STEPS))
@@ -125,7 +125,7 @@ class Keeping:
         return [*lines, unless]
 
     def _shortened(self, file: str, finding: Finding) -> str:
-        """Reduces a finding's recording; returns the line about the reduced one."""
+        """Reduces a finding's recording; returns the line about the reduced recording."""
         whole = Recording.read(file)
         short = f"{Path(file).stem}-short.jsonl"
         reducing = Reducing(whole, self.session.path, self.session.program, self.session.interrupts.check)
@@ -135,8 +135,8 @@ class Keeping:
             return str(wrong)
 
     def _wanted(self, whole: Recording, finding: Finding) -> Wanted:
-        """The target of the reduced recording: the finding's suspect; the goroutine that hangs, after both settings of
-        its deadline; or the call that fails, with its cause."""
+        """The target of the reduced recording. It is the finding's suspect, or the goroutine that hangs after both
+        settings of its deadline, or the call that fails, with its cause."""
         if finding.suspect:
             shown = [one for one in suspects_of(whole).suspects if one.is_shown]
             subjects = [one.subject for one in shown]

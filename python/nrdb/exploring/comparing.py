@@ -1,6 +1,6 @@
-"""Compares a schedule's state with the recorded run, to find out whether the schedule has returned to it, so that both
-continue in the same way. The numbers of sockets and descriptors may differ between the two, and so may values that
-nothing can read any more."""
+"""Compares a schedule's state with the recorded run. If the schedule has returned to the recorded run, both continue in
+the same way. The numbers of sockets and descriptors may differ between them, and so may values that nothing can read
+any more."""
 
 from typing import NamedTuple
 
@@ -30,7 +30,7 @@ class Numbered(NamedTuple):
         return status[0], which.get(status[1], -1), *status[2:]
 
     def timer(self, timer: Timer) -> tuple[int, int, str, str, bool]:
-        """A timer in comparable form, with whether the timer belongs to its descriptor's last setting."""
+        """A timer in comparable form, with a flag: whether it belongs to its descriptor's last setting."""
         own = self.board.descs[timer.desc].sequences[SIDES.index(timer.side)]
         use = self.numbers.named()[1].get(timer.desc, -1)
         return timer.when, use, timer.side, timer.function, timer.sequence == own
@@ -59,7 +59,7 @@ def _have_alike_statuses(one: Numbered, other: Numbered, are_same: bool) -> bool
 
 
 def _have_alike_sockets(one: Numbered, other: Numbered) -> bool:
-    """Whether all sockets are the same, except for sockets that are dead in both states."""
+    """Whether all sockets are the same, except sockets that are dead in both states."""
     sockets, its_sockets = one.board.sockets, other.board.sockets
     for which, number in one.numbers.sockets.items():
         socket, its = sockets[number], its_sockets[other.numbers.sockets[which]]

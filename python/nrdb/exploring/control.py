@@ -1,5 +1,5 @@
-"""The control flow of a goroutine's calls. The goroutine's next step follows from its operation and its status. The
-place where the goroutine continues follows from the machine's answer."""
+"""The control flow of a goroutine's calls. A goroutine's next step follows from its operation and its status. Where the
+goroutine continues follows from the machine's answer."""
 
 from bisect import bisect_right
 from typing import NamedTuple, Optional
@@ -18,8 +18,8 @@ About = tuple[bool, int]  # True and a socket, or False and a use of a descripto
 
 
 class Place(NamedTuple):
-    """The place of a goroutine: its operation, the number of the operation's recorded steps that the goroutine has
-    made, how far the operation's tries have come, and whether the goroutine waits or has to destroy the descriptor."""
+    """The place of a goroutine in its script. `operation` is its current operation, and `made` the number of that
+    operation's recorded steps that it has made."""
 
     operation: int = 0
     made: int = 0
@@ -30,7 +30,7 @@ class Place(NamedTuple):
 
 
 def number_of(operation: Operation, place: Place, kind: str) -> int:
-    """The number in the recording of the step of this kind that a goroutine makes next; 0 if the recording has no such
+    """The number that a goroutine's next step, of this kind, has in the recording; 0 if the recording doesn't have that
     step."""
     made = place.made
     return operation.steps[made] if made < len(operation.kinds) and operation.kinds[made] == kind else 0
@@ -47,7 +47,7 @@ def next_number(operations: list[Operation], place: Place) -> float:
 
 
 class Stream:
-    """The bytes of a write, and the tries that were made at each of them."""
+    """The bytes of a write, and the tries that began at each byte."""
 
     def __init__(self, operation: Operation) -> None:
         self.tries: dict[int, list[bytes]] = {}
@@ -69,11 +69,11 @@ class Stream:
 
 
 class NotMade(Exception):
-    """Raised if the object of a step doesn't exist yet, so that another goroutine must first make the object."""
+    """Raised if the object of a step doesn't exist yet. Another goroutine must first make it."""
 
 
 class Numbers:
-    """The numbers of the sockets and uses of descriptors in a schedule, and the `fdseq` of each use."""
+    """The numbers in a schedule of sockets and of uses of descriptors, and the `fdseq` of each use."""
 
     def __init__(self) -> None:
         self.sockets: dict[int, int] = {}
@@ -159,14 +159,14 @@ def next_step(
 
 
 def _about(sort: Sort, operation: Operation) -> Optional[About]:
-    """The object that the first step of this kind names."""
+    """The object that the first step of this kind of operation names."""
     of = NAMES[sort].of
     return (True, operation.socket) if of == "s" else (False, operation.use) if of == "d" else None
 
 
 def is_about(status: Status, place: Place, operation: Operation) -> Optional[About]:
-    """The object whose number the next step needs; None if the goroutine's status has the number, or if the step has no
-    object."""
+    """The object of which the next step needs the number; None if the goroutine's status has the number, or if the step
+    has no object."""
     if status[0] in BY_STATUS:
         return None
     return _about(Sort.WAIT if place.is_waiting else operation.sort, operation)
@@ -196,7 +196,7 @@ def behind(
 
 
 def _following(place: Place, status: str) -> Place:
-    """The place after the end of an operation: at the next operation, unless the goroutine still owes a release or a
+    """The place after an operation has ended: at the next operation, unless the goroutine still owes a release or a
     destroy."""
     return place if status == "owing" or place.destroys >= 0 else Place(place.operation + 1)
 

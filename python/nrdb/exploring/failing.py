@@ -1,6 +1,5 @@
-"""Calls that fail: a call that succeeded in the recording ends with an error in a schedule, because a deadline has
-passed or a close came first. It isn't known what the goroutine does afterwards, so such a schedule ends with that
-call."""
+"""Calls that fail. A call that succeeded in the recording ends with an error in a schedule, because a deadline has
+passed or a close came first. What the goroutine does afterwards is unknown, so the schedule ends with that call."""
 
 from bisect import bisect_left
 from enum import Enum
@@ -31,7 +30,7 @@ FAULTS: dict[str, dict[tuple[Any, ...], Why]] = {
 }
 OVER = ("rwunlock", "pollclose")  # steps with which a failed call ends
 
-# the operation at which a call begins, keyed by a goroutine and each operation of the call
+# for a goroutine and each operation of a call, the operation at which that call begins
 Watched = dict[tuple[int, int], int]
 
 
@@ -46,8 +45,8 @@ class Failed(NamedTuple):
 
 
 class Reason(NamedTuple):
-    """The step of a schedule that makes a call fail, and the number of calls that had succeeded under the same
-    deadline."""
+    """The step of a schedule that makes a call fail, and the number of calls that had succeeded under the same deadline
+    before."""
 
     step: int
     served: int
@@ -70,7 +69,7 @@ def watched(script: Script) -> Watched:
 
 
 def went_well(script: Script, call: list[Operation]) -> bool:
-    """Whether the recording has all steps of a call, and none of these failed or found the end of the stream."""
+    """Whether the recording has all steps of a call, and no step failed or found the end of the stream."""
     if len(call) < 2 or not (call[0].steps and call[-1].steps):
         return False
     steps = [pair for operation in call for pair in zip(operation.kinds, operation.steps)]
@@ -79,8 +78,8 @@ def went_well(script: Script, call: list[Operation]) -> bool:
 
 
 def failing_delays(script: Script) -> list[Delay]:
-    """Delays of calls that succeeded: until another goroutine next closes their socket, until another goroutine next
-    sets a deadline in the past, and until the deadline of an earlier call has passed."""
+    """Delays of calls that succeeded. They last until another goroutine next closes the socket, until another goroutine
+    next sets a deadline in the past, or until the deadline of an earlier call has passed."""
     sets, closes, ends = _of_socket(script, Sort.SET), _of_socket(script, Sort.CLOSE), ends_of(script)
     found: list[Delay] = []
     for (g, at), begins in script.watched.items():
@@ -103,7 +102,7 @@ def _until(before: int, later: Iterator[int]) -> list[Delay]:
 
 
 def _of_socket(script: Script, sort: Sort) -> dict[int, list[tuple[int, Operation]]]:
-    """The operations of a kind that have steps, keyed by socket and in order, each with its goroutine."""
+    """The operations of a kind that have steps, each with its goroutine; keyed by socket, and in order."""
     found: dict[int, list[tuple[int, Operation]]] = {}
     for g, operations in enumerate(script.goroutines):
         for operation in operations:
@@ -132,8 +131,8 @@ def ends_of(script: Script) -> dict[tuple[int, str], set[int]]:
 
 
 def reason_of(script: Script, failed: Failed, steps: list[Made]) -> Optional[Reason]:
-    """The reason why a call failed in a schedule. None if the failure isn't worth reporting: a future deadline that was
-    set for this call alone would also pass in the recorded order if the bytes came late."""
+    """The reason why a call failed in a schedule. The result is None if the failure isn't worth reporting: a future
+    deadline that was set for this call alone would pass in the recorded order too if the bytes came late."""
     if failed.why is Why.BROKEN:
         return Reason(failed.step, 0)
     call = script.goroutines[failed.goroutine][failed.begins]
@@ -158,7 +157,7 @@ def stays_of(script: Script, failed: Failed, reason: Reason, steps: list[Made]) 
 
 
 def _numbers(script: Script, sort: Sort, call: Operation) -> set[int]:
-    """The steps that set a deadline for a call or close its socket, so that it may fail."""
+    """The steps that may make a call fail: they set a deadline for it, or close its socket."""
     return {
         operation.steps[0]
         for _, operation in _of_socket(script, sort).get(call.socket, [])
@@ -167,7 +166,7 @@ def _numbers(script: Script, sort: Sort, call: Operation) -> set[int]:
 
 
 def faults_of(script: Script) -> Iterator[tuple[int, int, Why]]:
-    """The calls that failed in the recording: the goroutine, the first operation, and the reason."""
+    """The calls that failed in the recording, each with its goroutine, its first operation, and the reason."""
     for g, operations in enumerate(script.goroutines):
         for begins, operation in enumerate(operations):
             if operation.sort is Sort.LOCK and operation.steps:

@@ -1,5 +1,5 @@
-"""Runs schedules, and keeps the schedules that end with a suspect or with a call that hangs, one for each rule and
-place."""
+"""Runs schedules, and keeps the schedules that end with a suspect or with a call that hangs or fails, one for each rule
+and place."""
 
 from bisect import bisect_left, bisect_right
 from collections import Counter
@@ -32,7 +32,7 @@ Key = tuple[Any, ...]
 
 
 class Played(NamedTuple):
-    """A schedule that was run: its steps, and the numbers of its objects."""
+    """A schedule that was run, with its steps and the numbers of its objects."""
 
     steps: list[Made]
     world: World
@@ -160,7 +160,7 @@ class Exploring:
         return self._all_of(player)
 
     def _with_the_rest(self, player: Player, copy: Player) -> Played:
-        """The result of a schedule that has returned to the recorded run with the same numbers. It ends with the
+        """The result of a schedule that has returned to the recorded run with the same numbers, and so ends with the
         recorded steps."""
         steps = self._steps[: player.before] + player.steps + self._steps[copy.before :]
         recorded = self.recorded
@@ -196,13 +196,13 @@ class Exploring:
             yield Finding(key, None, -1, schedule, played, reason)
 
     def _place(self, g: int, begins: int) -> Any:
-        """The place where a call begins: the program's line if known, otherwise the goroutine and the socket."""
+        """The place where a call begins: the program's line if known, else the goroutine and the socket."""
         operation = self.script.goroutines[g][begins]
         return self.line_of(operation.steps[0]) or (g, operation.socket)
 
     def _counts(self, suspect: Suspect, played: Played) -> bool:
-        """Whether a suspect counts as a finding: the suspect depends on the order of steps, and a goroutine that was
-        woken wrongly doesn't continue by itself."""
+        """Whether a suspect counts as a finding: it depends on the order of steps, and a goroutine that was woken
+        wrongly doesn't continue by itself."""
         if not suspect.is_shown or suspect.rule not in ORDERED:
             return False
         if suspect.rule not in (LOST_WAKE_UP, TAKEN_BACK) or suspect.goroutine is None:
@@ -220,7 +220,7 @@ class Exploring:
         return status[2] == "r" and (bool(socket.buffers[0]) or socket.peer_closed)
 
     def _key(self, suspect: Suspect, played: Played) -> Key:
-        """The rule and the place of a finding: the program's line at fault if known, otherwise the rule's object."""
+        """The rule and the place of a finding: the program's line at fault if known, else the rule's object."""
         if line := self.line_of(played.steps[suspect.step - 1].number):
             return suspect.rule, line
         back = {number: socket for socket, number in played.sockets.items()}

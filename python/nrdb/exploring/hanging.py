@@ -1,6 +1,6 @@
-"""Calls that hang: a goroutine is parked without a deadline in a call that a deadline ended in the recording. The
-schedule must have set that deadline too. If it didn't, because the goroutine that sets the deadline hangs or waits, the
-call hangs for another reason."""
+"""Calls that hang. A goroutine is parked without a deadline in a call that a deadline ended in the recording. The
+schedule must have set that deadline too. If the goroutine that sets the deadline hangs or waits instead, the call hangs
+for another reason."""
 
 from typing import Optional
 
@@ -50,8 +50,8 @@ def _sets(script: Script, operation: Operation) -> list[int]:
 
 
 def moved_by(script: Script, g: int, place: Place, steps: list[Made]) -> tuple[int, int]:
-    """Two of these steps, for a goroutine that hangs: the step that set the deadline which ended its call in the
-    recording, and the step that moved this deadline."""
+    """Two of the steps before a goroutine hangs: the step that set the deadline which ended its call in the recording,
+    and the step that moved this deadline."""
     ended, sets = ended_by(script, g, place), set(_sets(script, script.goroutines[g][place.operation]))
     set_at = next(at for at, made in enumerate(steps, 1) if made.number == ended)
     return set_at, max(at for at, made in enumerate(steps, 1) if made.number in sets)

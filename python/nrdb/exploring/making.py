@@ -16,7 +16,7 @@ CAUSES = ("syswrite", "closewrite", "pollopen", "evict", "pollclose")  # steps t
 
 
 def script_of(recording: Recording) -> Script:
-    """The script of a recording. The recording must have answers."""
+    """The script of a recording with answers."""
     events = Events(recording)
     limits = Limits(*(recording.limits[key] for key in Limits._fields))
     seen: dict[int, int] = {}
@@ -53,8 +53,7 @@ def _mark_raw(goroutines: list[list[Operation]], lines: Lines) -> None:
 
 
 def _others(events: Events, openers: set[int]) -> tuple[dict[int, list[Item]], list[Item], list[Item]]:
-    """The steps that no known goroutine made: the steps of the network and the clock, and the steps of unknown
-    goroutines."""
+    """The steps that no known goroutine made: steps of the network, the clock and unknown goroutines."""
     network: dict[int, list[Item]] = {}
     clock: list[Item] = []
     made: list[Item] = []

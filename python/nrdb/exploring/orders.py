@@ -1,6 +1,6 @@
-"""The orders that every schedule keeps: the steps that must precede a goroutine's steps, by the recorder's view of the
-program's order, and the steps to which the network may react. Both are stored for operations: an operation begins after
-another has ended."""
+"""The orders that every schedule keeps. Some steps must precede a goroutine's steps, as the recorder saw the program
+order them, and some steps must precede the network's reactions to them. The orders are kept between operations: one
+operation begins after another operation has ended."""
 
 from typing import NamedTuple, Optional, Sequence
 
@@ -12,14 +12,14 @@ Key = tuple[float, int]  # a due time, and the place among the actions with the 
 
 
 class Where(NamedTuple):
-    """The owner of a step, and the operation that the step belongs to."""
+    """The goroutine that made a step, and the operation to which the step belongs."""
 
     goroutine: int
     operation: int
 
 
 def places_of(goroutines: list[list[Operation]]) -> dict[int, Where]:
-    """The owner and operation of each recorded step of a goroutine."""
+    """The goroutine and the operation of each recorded step that goroutines made."""
     return {
         number: Where(g, at)
         for g, operations in enumerate(goroutines)
@@ -29,8 +29,8 @@ def places_of(goroutines: list[list[Operation]]) -> dict[int, Where]:
 
 
 def orders_of(goroutines: list[list[Operation]], pairs: Optional[Pairs]) -> Optional[list[list[Order]]]:
-    """For each goroutine, the operations of other goroutines that must precede its operations, in order; None if the
-    recording doesn't have the program's orders."""
+    """For each goroutine, the operations of other goroutines that must precede its own operations, in order; None if
+    the recording doesn't have the program's order."""
     if pairs is None:
         return None
     where = places_of(goroutines)
@@ -43,9 +43,9 @@ def orders_of(goroutines: list[list[Operation]], pairs: Optional[Pairs]) -> Opti
 
 
 class Waiting:
-    """The goroutines and sockets that wait for a goroutine. When that goroutine continues, each waiter checks again:
-    goroutines at once, and the network for its sockets when its action is due. If all waiters would only wait again,
-    none of them checks, and only their order is updated."""
+    """The goroutines and sockets that wait for a goroutine. When that goroutine continues, the waiting goroutines check
+    again at once, and the network checks again for its sockets when its action is due. If all of them would only wait
+    again, none checks, and only their order is updated."""
 
     def __init__(self) -> None:
         self.first: list[int] = []  # goroutines
@@ -79,8 +79,8 @@ class Waiting:
                 self.network = []
 
     def look_again(self, due: Key) -> int:
-        """Records that all waiters have checked again without success. Returns the number of checks by the network that
-        will from now on be made when they are due."""
+        """Records that all waiters have checked again without success. Returns how many of the network's checks will be
+        made, from now on, when they are due."""
         for actor, which in self.later:
             (self.first if actor == GOROUTINE else self.network).append(which)
         self.later = []
@@ -96,13 +96,13 @@ class Waiting:
         return bool(self.network) or any(actor != GOROUTINE for actor, _ in self.later)
 
     def row(self) -> list[tuple[int, int]]:
-        """All waiters, except those that check again when their actions are due."""
+        """All waiters, except sockets that check again when their actions are due."""
         network = self.network if self.again is None else []
         return [*((GOROUTINE, g) for g in self.first), *((NETWORK, s) for s in network), *self.later]
 
 
 class Passing:
-    """The player's progress in the order, and the waiters for each goroutine."""
+    """The player's progress in the orders, and the goroutines and sockets that wait for each goroutine."""
 
     def __init__(self, orders: Optional[list[list[Order]]], causes: list[Cause], places: list[Place]) -> None:
         self.orders, self.causes, self.places = orders, causes, places
@@ -117,13 +117,13 @@ class Passing:
         return made
 
     def is_as(self, other: "Passing") -> bool:
-        """Whether the same goroutines wait for the same other goroutines in both."""
+        """Whether, in both runs, the same goroutines and sockets wait for the same goroutines."""
         rows, its_rows = ({g: one.row() for g, one in each.waiting.items()} for each in (self, other))
         return rows == its_rows
 
     def has_still_to_go_on(self, g: int) -> Optional[int]:
-        """The goroutine that, by the program's order, must continue before another goroutine makes its next step; None
-        if no goroutine must."""
+        """The goroutine that must continue, by the program's order, before goroutine `g` makes its next step; None if
+        no goroutine must."""
         if self.orders is None:
             return None
         row, at, operation = self.orders[g], self.passed[g], self.places[g].operation
@@ -157,7 +157,7 @@ class Passing:
             waiting.until = min(waiting.until, self.waits_until(which))
 
     def is_still_awaited(self, g: int, waiting: Waiting) -> bool:
-        """Whether all waiters for a goroutine must still wait although the goroutine has continued."""
+        """Whether all waiters for a goroutine must wait on, although the goroutine has continued."""
         place = self.places[g]
         if place.operation > waiting.until:
             return False
@@ -184,7 +184,7 @@ class Passing:
 
 
 def causes_of(goroutines: list[list[Operation]], kinds: Sequence[str]) -> list[Cause]:
-    """The steps that another actor may answer, in order."""
+    """The steps to which another actor may react, in order."""
     return sorted(
         Cause(number, g, at, place)
         for g, operations in enumerate(goroutines)

@@ -20,7 +20,7 @@ class Others:
         self.script = script
         self.places: dict[tuple[int, int], int] = defaultdict(int)
         self.told: set[int] = set()  # the events that have come, by their numbers in the recording
-        # keyed by a socket's number and side: whether bytes or a close came that no event has reported
+        # for a socket's number and side, whether bytes or a close came that no event has reported yet
         self.fresh: dict[tuple[int, str], bool] = {}
         self.closed: set[int] = set()  # the numbers of sockets on which no goroutine can begin to wait any more
         self.tries: dict[int, int] = {}
@@ -32,11 +32,11 @@ class Others:
         return made
 
     def is_as(self, other: "Others") -> bool:
-        """Whether the other one has made the same progress."""
+        """Whether both have made the same progress."""
         return self._untold() == other._untold() and self.places == other.places
 
     def is_the_same_as(self, other: "Others") -> bool:
-        """Whether the other one continues in exactly the same way."""
+        """Whether both continue in exactly the same way."""
         mine = self.places, self.told, self.fresh, self.closed, self.tries
         return mine == (other.places, other.told, other.fresh, other.closed, other.tries)
 
@@ -49,7 +49,7 @@ class Others:
         return self.script.clock if actor == CLOCK else self.script.made
 
     def beginnings(self) -> Iterator[tuple[int, int, float]]:
-        """The actors that have actions, each with the time of its first action."""
+        """The actors that have actions, each with the due time of its first action."""
         for actor, which in [(CLOCK, 0), (MADE, 0), *((NETWORK, s) for s in self.script.network)]:
             if row := self._row(actor, which):
                 yield actor, which, row[0].due
@@ -66,7 +66,7 @@ class Others:
         self.places[actor, which] += 1
 
     def see(self, step: Step, board: Board) -> None:
-        """Records, after each step, the bytes that came and that no event has reported yet."""
+        """Records, after a step, whether bytes or a close came that no event has reported yet."""
         kind = step[0]
         if kind in ("arrive", "peerclose"):
             self.fresh[step[1], "r"] = True
@@ -83,8 +83,8 @@ class Others:
     # ---- steps
 
     def steps_of(self, item: Item, board: Board, numbers: Numbers) -> Optional[list[Step]]:
-        """The steps of an action that is due. An empty list if the action has no place in this schedule, and None if
-        the action must wait. Raises NotMade if the action's object doesn't exist yet."""
+        """The steps of an action that is due. The result is empty if the action has no place in this schedule, and None
+        if the action must wait. Raises NotMade if the action's object doesn't exist yet."""
         kind, arguments = item.event.kind, item.event.arguments
         if kind in ("spawn", "sockopen"):
             return [(kind, *arguments)]
@@ -134,7 +134,7 @@ class Others:
         return [(kind, s, *value)]
 
     def _again(self, item: Item) -> Optional[list[Step]]:
-        """Makes an action wait that lacks room or bytes. After some tries, drops the action."""
+        """Lets an action wait for room or bytes; after some tries, drops the action."""
         number = item.event.number
         self.tries[number] = self.tries.get(number, 0) + 1
         return None if self.tries[number] < MOST_TRIES else []
@@ -150,7 +150,7 @@ class Others:
         return [("tick", max(due, board.clock)), *[("pop",)] * going, *[("fire", 0)] * going] if going else []
 
     def left(self, board: Board, numbers: Numbers) -> Iterator[Step]:
-        """The steps that remain if no goroutine continues: due timers, and events for bytes and closes that came."""
+        """The steps that remain when no goroutine continues: due timers, and events for bytes and closes that came."""
         if board.firings:
             yield "fire", 0
         if board.timers and board.timers[0].when <= board.clock:

@@ -33,7 +33,7 @@ class Player(Standing):
             self._push(due, actor, which)
 
     def run(self, until: float, most: int) -> None:
-        """Runs everything that is due before a time. Stops after this number of steps."""
+        """Runs everything that is due before a time, until `most` steps have been made."""
         heap = self._heap
         most -= self.before
         self._in_order = None
@@ -57,8 +57,7 @@ class Player(Standing):
     # ---- goroutines
 
     def _needs_no_wait(self, g: int) -> bool:
-        """Whether a goroutine's event has come already, so that its call continues without a wait. If so, lets the call
-        continue."""
+        """If a goroutine's event has come already, lets its call continue without a wait. Returns whether it did."""
         place = self.places[g]
         operation = self.script.goroutines[g][place.operation]
         if operation.sort is not Sort.WAIT or place.is_waiting or operation.is_raw:
@@ -150,7 +149,7 @@ class Player(Standing):
             self._push_goroutine(g)
 
     def _note(self, g: int, place: Place, answer: Answer, status: Status) -> None:
-        """Stores a goroutine's turn in the recorded run, if other schedules may take the same turn."""
+        """Stores a goroutine's turn in the recorded run if other schedules may take the same turn."""
         number, step, behind_it = self.steps[-1].number, self.steps[-1].step, self.places[g]
         if step[0] in UNLIKE or answer == ("last",) or place.destroys >= 0 or behind_it.destroys >= 0:
             return
@@ -177,13 +176,12 @@ class Player(Standing):
         self._push(due, GOROUTINE, g)
 
     def _let_its_deadline_pass(self, g: int) -> None:
-        """Advances the clock to the deadline that applies to a goroutine's next step, if any, so that timers go
-        off."""
+        """Advances the clock to the deadline of a goroutine's next step, if it has one, so that timers go off."""
         for step in self.others.passed(self.board, self.following[g]):
             self._apply(step, 0)
 
     def _passes(self, g: int) -> None:
-        """Lets the goroutines continue that waited for a goroutine which has now continued."""
+        """A goroutine has continued: lets the goroutines continue that waited for it."""
         waiting = self.passing.waiting.get(g)
         if waiting is None:
             return
@@ -204,7 +202,7 @@ class Player(Standing):
             del self.passing.waiting[g]
 
     def _looks(self, g: int, which: int, rest: Waiting) -> None:
-        """Checks, for a goroutine that waits for another goroutine, whether the other one has continued far enough."""
+        """Checks whether a goroutine has continued far enough for another goroutine that waits for it."""
         until = self.passing.waits_until(which)
         if self.places[g].operation > until:
             self._push_goroutine(which)
@@ -226,7 +224,7 @@ class Player(Standing):
                 self._push(self.now, NETWORK, s)
 
     def _look_again(self) -> None:
-        """Schedules the steps that lacked an object, after a step has made an object."""
+        """Schedules the steps that lacked an object, since a step has made an object."""
         lacking, self.lacking = self.lacking, []
         for actor, which in lacking:
             if actor == GOROUTINE:
@@ -284,8 +282,8 @@ class Player(Standing):
             self._push(following.due, actor, which)
 
     def _is_held_back(self, actor: int, which: int, event: Event) -> bool:
-        """Whether a due action must wait. The network waits for the steps to which it may react, and a new goroutine
-        whose parent is unknown waits for the goroutines that pause."""
+        """Whether a due action must wait. The network waits for the steps to which it may react. A new goroutine waits
+        for the goroutines that pause if its parent is unknown."""
         if actor == NETWORK:
             if (cause := self.passing.has_still_to_cause(event.number)) is not None:
                 self.passing.wait(cause, actor, which, (self.now, self._at))

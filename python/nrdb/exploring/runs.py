@@ -6,14 +6,14 @@ from netrev_words.recording import Answer, Step
 
 
 class Delay(NamedTuple):
-    """A pause of a goroutine before its step with this number, until after the recorded time of another step."""
+    """A pause of a goroutine: before its step `before`, it waits until after the recorded time of step `until`."""
 
     before: int
     until: int
 
 
 class Made(NamedTuple):
-    """A step that was made, its answer, and its number in the recording; 0 if the recording doesn't have the step."""
+    """A step that was made, its answer, and its number in the recording (0: the recording doesn't have the step)."""
 
     step: Step
     answer: Answer
@@ -21,4 +21,4 @@ class Made(NamedTuple):
 
 
 class Impossible(Exception):
-    """Raised if a step of a call doesn't apply. Such a schedule isn't a schedule of these calls."""
+    """Raised if a step of a call doesn't apply: the schedule isn't possible for these calls."""

@@ -1,6 +1,6 @@
 """The schedules to try: the recorded schedule with a few delays. In a delay, a goroutine pauses until another actor has
-made a step at the same part of the same socket. Each delay is first tried alone; then two or three delays are tried
-together, drawn by a seed."""
+made a step at the same part of the same socket. Each delay is first tried alone. Then two or three delays, drawn by a
+seed, are tried together."""
 
 import random
 from bisect import bisect_left, bisect_right
@@ -26,7 +26,7 @@ OF_THING = {
 }
 THING_OF = {kind: thing for thing, kinds in OF_THING.items() for kind in kinds}
 SIDE_OF = {"arrive": "r", "peerclose": "r", "sysread": "r", "drain": "w", "syswrite": "w", "closewrite": "w"}
-# two steps about a wait are paired only if one of them is of these kinds, because no other goroutine can enter the wait
+# two steps about a wait are paired only if one of them is of such a kind, because no other goroutine can enter the wait
 # in between
 TO_OTHERS = frozenset(("setdeadline", "evict", "pollevent", "fire"))
 
@@ -34,7 +34,7 @@ Thing = tuple[int, str, str]  # a socket, a part of it, and a side
 
 
 class Schedule(NamedTuple):
-    """The delays of a schedule, and the seed that drew them; 0 for a single delay."""
+    """The delays of a schedule, and the seed that drew them (0 for a single delay)."""
 
     delays: tuple[Delay, ...]
     seed: int
@@ -56,7 +56,7 @@ class Touched(NamedTuple):
     kind: str
 
     def matters_to(self, other: "Touched") -> bool:
-        """Whether the other step is another actor's, and the order of the two steps may matter."""
+        """Whether the other step is by another actor, and the order of the two steps may matter."""
         if self.who == other.who:
             return False
         return THING_OF[self.kind] != WAIT or self.kind in TO_OTHERS or other.kind in TO_OTHERS
@@ -85,7 +85,7 @@ def touched(script: Script) -> dict[Thing, list[Touched]]:
 
 
 def single_delays(script: Script) -> list[Delay]:
-    """All delays of one step until a step of another actor, nearest first."""
+    """All delays of a step until a step of another actor, nearest first."""
     by_distance: list[set[Delay]] = [set() for _ in range(NEAR)]
     for steps in touched(script).values():
         for at, one in enumerate(steps):
@@ -116,8 +116,8 @@ def _of_sort(script: Script, sort: Sort) -> Iterator[tuple[int, Operation]]:
 
 
 def schedules(delays: list[Delay], most: int) -> Iterator[Schedule]:
-    """Different schedules, with the nearest delays first: at most this number of them, and fewer if the seeds give no
-    new ones."""
+    """At most `most` different schedules, those with the nearest delays first. There are fewer if the seeds yield no
+    new schedules."""
     for delay in delays[:most]:
         yield Schedule((delay,), 0)
     in_order = sorted(delays)

@@ -1,6 +1,6 @@
 """A script: what each goroutine, the network and the clock did in a recording, without the order between them. A
 goroutine's script is a list of operations, which are the parts of its calls. If the machine's answer differs from the
-recorded one, the goroutine continues with another operation than the next."""
+recorded answer, the goroutine may continue with an operation other than the next."""
 
 from dataclasses import dataclass, field
 from typing import Any, NamedTuple, Optional
@@ -13,7 +13,8 @@ from ..reducing.events import Event, Timer
 
 @dataclass
 class Operation:
-    """A part of a call: its object, its recorded steps, and the place where its goroutine continues if it fails."""
+    """A part of a call: its object, its recorded steps, and the operation with which its goroutine continues if this
+    one fails."""
 
     sort: Sort
     socket: int
@@ -59,9 +60,9 @@ class Cause(NamedTuple):
 
 @dataclass
 class Script:
-    """The operations of each goroutine; the actions of the network at each socket; timers and the clock; and the steps
-    of unknown goroutines. The numbers are those of the recording, except that descriptors are replaced by their
-    uses."""
+    """What all actors do: the operations of each goroutine, the network's actions at each socket, timers and the clock,
+    and the steps of unknown goroutines. Objects have their numbers in the recording, but uses stand in for
+    descriptors."""
 
     limits: Limits
     length: int
@@ -73,8 +74,8 @@ class Script:
     ordinals: list[int]  # for each use, its ordinal among the uses of its descriptor, from 0
     causes: list[Cause]
     answers: list[tuple[Any, ...]]
-    # for each goroutine, the orders that the recorder saw the program impose; None if the recording doesn't have them
+    # for each goroutine, the orders that the recorder saw the program impose; None if the recording has no orders
     orders: Optional[list[list[Order]]] = None
-    # the places at which calls may fail: for a goroutine and an operation of a call that succeeded, the operation at
-    # which the call begins
+    # the calls that may fail: for a goroutine and each operation of a call that succeeded, the operation at which the
+    # call begins
     watched: dict[tuple[int, int], int] = field(default_factory=dict)

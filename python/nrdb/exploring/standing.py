@@ -23,7 +23,7 @@ Itself = TypeVar("Itself", bound="Standing")
 
 class Turn(NamedTuple):
     """A goroutine's turn in the recorded run: its place before the turn, the answer, and its status and place after the
-    turn. If its next step was scheduled at once: that step, the step's object and the object's number."""
+    turn. If its next step was scheduled at once, the turn has that step, the step's object and the object's number."""
 
     place: Place
     answer: Answer
@@ -67,7 +67,7 @@ class Standing:
         self._streams: dict[tuple[int, int], Stream] = {}
 
     def copy(self: Itself, delays: tuple[Delay, ...]) -> Itself:
-        """A copy of the state, from which the run continues under other delays."""
+        """A copy of the state, from which a run continues under other delays."""
         made = object.__new__(type(self))
         made.__dict__.update(self.__dict__)
         made.until = {delay.before: delay.until + 0.5 for delay in delays}
@@ -100,8 +100,8 @@ class Standing:
         )
 
     def is_the_same_as(self, other: "Standing") -> bool:
-        """Whether everything that decides how this run continues, including the numbers, equals the other run. Both
-        then make exactly the same steps."""
+        """Whether this run and the other run agree in everything that decides how they continue, including the numbers.
+        If so, both make exactly the same steps."""
         return (
             self.places == other.places
             and self.board.is_as(other.board)

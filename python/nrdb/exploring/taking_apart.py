@@ -68,8 +68,8 @@ class TakenApart:
         self.operations.append(Operation(sort, socket, use, side, values))
 
     def _supposed_try(self, socket: int, use: int, side: str) -> None:
-        """Adds the tries that a call would have made if its descriptor hadn't been closing or its deadline hadn't
-        passed."""
+        """Adds the tries that a call would have made. The recording doesn't show them, because the descriptor was
+        closing or the deadline had passed."""
         if socket not in self.asked:
             self._supposed(Sort.WAIT, socket, use, side)
         elif side == "r":
@@ -200,7 +200,7 @@ def goroutines_of(events: Events, count: int) -> list[list[Operation]]:
 
 
 def _rests(events: Events, count: int) -> list[bool]:
-    """For each goroutine, whether it is at rest at the end."""
+    """Whether each goroutine is at rest at the end."""
     rests = [True] * count
     for event, rest in zip(events.all, events.rests):
         if event.named("g") is not None:
@@ -227,7 +227,7 @@ def _finish(operations: list[Operation], is_at_rest: bool) -> None:
 
 
 def _end(operations: list[Operation], open_ones: list[int], at: int) -> None:
-    """Sets where a goroutine continues if the operations that this one ends fail, or if the tries in between fail."""
+    """Sets where a goroutine continues if the operations that this one ends, or the tries in between, fail."""
     ending = operations[at]
     for begun in reversed(open_ones):
         one = operations[begun]

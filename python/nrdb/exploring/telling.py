@@ -36,7 +36,7 @@ class Telling:
         return f"goroutine {g}{in_call} pauses before {before} (step {delay.before}) until {self._until(delay.until)}"
 
     def unless(self, finding: Finding) -> str:
-        """The line about the facts that aren't known about a finding."""
+        """The line that says what isn't known about a finding."""
         unless = UNLESS + (UNKNOWN if self.script.orders is None else LEFT_UNKNOWN)
         g = finding.suspect.goroutine if finding.suspect else None
         if g is None or finding.key[0] != LOST_WAKE_UP:
@@ -72,7 +72,7 @@ class Telling:
         return f"{call.name} on socket {call.socket}"
 
     def finding(self, at: int, finding: Finding, times: int, file: str) -> list[str]:
-        """The lines about a finding that was written to a file, without netrev's answer."""
+        """The lines about a finding that was written to a file, except netrev's answer."""
         lines = [f"{at}. {self._head(finding, file)}"]
         delays = finding.schedule.delays
         for one in delays:

@@ -16,7 +16,7 @@ from .finding import Exploring, Key
 from .schedules import Schedule, schedules
 from .scripts import Script
 
-# more processes are worth it from this number of steps on, summed over schedules as long as the recording
+# from this number of steps on, more processes are worth it; each schedule counts as long as the recording
 WORTH_IT = 100_000
 SECONDS = 0.2  # seconds between two messages
 LENGTH = 8  # the number of bytes that encode a message's length
@@ -24,8 +24,8 @@ CODE = f"import sys; sys.path[:0] = {sys.path!r}; from nrdb.exploring.workers im
 
 
 class Best(NamedTuple):
-    """The simplest schedule with a finding, the index of that schedule among all schedules, and the index of the first
-    schedule with that finding."""
+    """The simplest schedule with a finding, its index among all schedules, and the index of the first schedule with
+    that finding."""
 
     measure: tuple[int, int]
     at: int
@@ -37,7 +37,7 @@ class Best(NamedTuple):
 
 
 class Told(NamedTuple):
-    """The findings of a process since its last report, and whether this report is the process's last."""
+    """The findings of a process since its last report, and whether this is its final report."""
 
     is_all: bool
     played: int
@@ -57,7 +57,7 @@ class Share(NamedTuple):
     of: int
 
     def play(self, exploring: Exploring, best: dict[Key, Best], behind: int = 0) -> Iterator[None]:
-        """Runs the schedules of the share, except for those that ran before, and keeps the simplest schedule of each
+        """Runs the schedules of the share, except the first `behind` schedules, and keeps the simplest schedule of each
         finding. Yields after each schedule."""
         mine = islice(enumerate(schedules(exploring.delays, self.most)), self.which + behind * self.of, None, self.of)
         for at, schedule in mine:
@@ -72,8 +72,8 @@ def processors() -> int:
 
 
 def play_all(exploring: Exploring, share: Share, tell: Callable[[], None]) -> None:
-    """Runs this number of schedules, on all processors if that is worth it, and calls `tell` now and then. If a process
-    ends early, for example for lack of memory, the rest of its share runs here."""
+    """Runs the schedules of the whole share, on all processors if that is worth it, and calls `tell` now and then. If a
+    process ends early, for example for lack of memory, the rest of its share runs here."""
     if share.of < 2 or share.script.length * share.most < WORTH_IT:
         exploring.run(share.most, tell)
         return
@@ -105,7 +105,7 @@ def _keep(exploring: Exploring, best: dict[Key, Best]) -> None:
 
 
 class Working:
-    """A process that runs a share until the process is dropped."""
+    """A process that runs a share until it is dropped."""
 
     def __init__(self) -> None:
         words = [sys.executable, "-c", CODE]
@@ -116,13 +116,13 @@ class Working:
         self.has_told_all = False
 
     def give(self, share: Share) -> None:
-        """Sends the process its share, after all processes have been started."""
+        """Sends the process its share. By then all processes have been started."""
         self.share = share
         with suppress(BrokenPipeError), self.given as to:
             to.write(pickle.dumps(share))
 
     def hear(self, exploring: Exploring, best: dict[Key, Best]) -> bool:
-        """Reads a report. Returns False if the process has ended, even in the middle of a report."""
+        """Reads a report. Returns False if the process has ended, perhaps in the middle of a report."""
         head = self.told.read(LENGTH)
         size = int.from_bytes(head, "big")
         data = self.told.read(size) if len(head) == LENGTH else b""
