@@ -1,5 +1,5 @@
-"""The breaks at places of the program. They are nrdb's own and use none of netrev's marks. After netrev has moved past
-such a break, nrdb goes back to the break."""
+"""The breaks at places of the program. These breaks are nrdb's own and use none of netrev's marks. If netrev has moved
+past such a break, nrdb goes back to it."""
 
 import re
 from bisect import bisect_left, bisect_right
@@ -15,7 +15,7 @@ NUMBER = re.compile(rf"{LETTER}\d+")
 
 @dataclass
 class Break:
-    """A break: its number, its place, and whether its first stop deletes it."""
+    """A break: its number, its place, and whether it is temporary, so that its first stop deletes it."""
 
     number: str
     place: Place
@@ -61,7 +61,7 @@ class Breaks:
         return [one for one in here if self.is_met(one.number, position)]
 
     def hit(self, position: int) -> list[Break]:
-        """The breaks that stop at a position. Also deletes the temporary breaks among them."""
+        """Returns the breaks that stop at a position, and deletes the temporary breaks among them."""
         found = self.at(position)
         for one in found:
             if one.is_temporary:
@@ -70,8 +70,8 @@ class Breaks:
 
 
 def names_a_place(recording: Optional[Recording], words: list[str]) -> bool:
-    """Whether a command of netrev names a place of the program, a break at a place, or all marks. nrdb answers such a
-    command itself."""
+    """Whether a netrev command names a place of the program, a break at a place, or all marks, so that nrdb answers
+    it."""
     name, *rest = words
     if name in ("break", "tbreak"):
         return is_place(recording, rest)
@@ -79,7 +79,7 @@ def names_a_place(recording: Optional[Recording], words: list[str]) -> bool:
 
 
 def beyond(place: Place, position: int, forwards: bool) -> Optional[int]:
-    """The first position of a place beyond a position, in a direction."""
+    """The nearest position in a direction at which a place is reached."""
     rows = place.positions
     at = bisect_right(rows, position) if forwards else bisect_left(rows, position) - 1
     return rows[at] if 0 <= at < len(rows) else None

@@ -18,15 +18,15 @@ MOST_NEAR = 5  # the most lines that are named if the requested line has no step
 
 
 class Place(NamedTuple):
-    """A line or a function as it was typed, and the positions before the steps at which a goroutine reaches it, in
-    rising order."""
+    """A line or a function as it was typed, and the rising positions before the steps at which a goroutine reaches
+    it."""
 
     spelled: str
     positions: list[int]
 
 
 class Places:
-    """The places of a recording."""
+    """The lines and functions of the program from which a recording's steps come."""
 
     def __init__(self, recording: Recording) -> None:
         self._recording, self._lines = recording, recording.lines
@@ -61,8 +61,8 @@ class Places:
 
     def _positions(self, keys: Callable[[Stack], set[Key]]) -> dict[Key, list[int]]:
         """For each key, the positions before the steps at which a goroutine reaches a stack with that key. If the
-        goroutine's stack had the key at its previous step too, the goroutine reaches the key again only if one of its
-        calls begins."""
+        goroutine's previous step had the same key, the goroutine reaches the key again only if a call begins at the
+        step."""
         of_stack = {number: keys(stack) for number, stack in self._lines.stacks.items()}
         found: dict[Key, list[int]] = {}
         before: dict[int, set[Key]] = {}
@@ -105,7 +105,7 @@ def is_file(known: str, spelled: str) -> bool:
 
 
 def is_function(call: Call, name: str) -> bool:
-    """Whether a call is of the function with this name. The name may lack the package or the package's path.
+    """Whether a call calls the function with this name. The name may lack the package or the package's path.
     `hub.broadcast` also matches `(*hub).broadcast`."""
     return any(
         function == spelled or function.endswith((f"/{spelled}", f".{spelled}"))

@@ -11,12 +11,13 @@ ROUND = 5
 
 
 def source_of(file: str, beside: str) -> Path:
-    """The path of a file of NAME.where, in the folder in which nrdb was started, or else in the recording's folder."""
+    """The path of a file that NAME.where names: relative to the folder in which nrdb was started, or else to the
+    recording's folder."""
     return Path(file) if os.path.isfile(file) or os.path.isabs(file) else Path(beside).parent / file
 
 
 def text_round(recording: Recording, path: Path, line: int) -> list[str]:
-    """The source around a line, with the line marked, and whether the file has changed since the recording."""
+    """The source around a line, which is marked, and whether the file has changed since the recording."""
     lines = lines_of(path)
     if lines is None:
         return []
