@@ -1,6 +1,6 @@
 """nrdb's own commands, one function each. Each function gets the session and the words after the command, and raises
-Misused if the words are wrong. Modules that most sessions don't need are imported on first use, so that the prompt
-appears sooner."""
+Misused if the words are wrong. Modules that few sessions need are imported on first use, so that the prompt appears
+sooner."""
 
 import re
 from fnmatch import fnmatchcase
@@ -30,7 +30,7 @@ UNITS = {"ns": 1, "us": 1_000, "ms": 1_000_000, "s": 1_000_000_000}
 
 
 def taken_number(name: str, words: list[str]) -> int:
-    """The only argument of a command, which must be a number."""
+    """The number that is a command's only argument."""
     number = number_of(words[0]) if len(words) == 1 else None
     if number is None:
         raise Misused(messages.NUMBER.format(usage=usage(name)))
@@ -38,7 +38,7 @@ def taken_number(name: str, words: list[str]) -> int:
 
 
 def taken_cell(name: str, words: list[str]) -> tuple[str, list[str]]:
-    """The cell that these words begin with, and the words after it."""
+    """The cell with which these words begin, and the words after it."""
     for length in (2, 1):
         if len(words) >= length and (cell := cell_of(words[:length])):
             return cell, words[length:]
@@ -157,7 +157,7 @@ def taken_position(session: Session, words: list[str]) -> int:
 
 
 def taken_conditions(name: str, words: list[str]) -> dict[str, str]:
-    """The cells that the words name, each with the required value."""
+    """The cells that the words name, each with its required value."""
     cell, rest = taken_cell(name, words)
     ends = (
         at for at, word in enumerate(rest) if word in ("&&", "and") and rest[at + 1 : at + 2] and rest[at + 1] in CELLS

@@ -98,7 +98,7 @@ def answer_commands(session: Session, words: list[str]) -> None:
 
 
 def answer_condition(session: Session, words: list[str]) -> None:
-    """Sets or removes the condition of a mark. A command without a number, as `save breakpoints` writes it, means the
+    """Sets or removes the condition of a mark. A command without a number, such as `save breakpoints` writes, means the
     mark set last."""
     marks = {mark.number: mark.sort for mark in session.netrev.marks()}
     standing = [*marks, *session.breaks.standing]

@@ -1,4 +1,4 @@
-"""Commands of nrdb that write files or explore other schedules. Most sessions don't need them, so their modules are
+"""Commands of nrdb that write files or explore other schedules. Few sessions need these commands, so their modules are
 imported on first use."""
 
 from netrev_words.vocabulary import number_of

@@ -27,7 +27,7 @@ def answer_where(session: Session, words: list[str]) -> None:
 
 
 def answer_goroutine(session: Session, words: list[str]) -> None:
-    """Chooses a goroutine; without words, shows the chosen goroutine, or else the goroutine of the last step."""
+    """Chooses a goroutine. Without an argument, shows the chosen goroutine, or else the goroutine of the last step."""
     recording, position = session.text(), session.stands().position
     name = named(words) if words else session.goroutine or of_step(session, position)
     if name is None:

@@ -27,7 +27,7 @@ def place_of(session: Session, spelled: str) -> Place:
 
 
 def of_place(name: str, otherwise: Answering) -> Answering:
-    """The answer to a command that also accepts a place."""
+    """The answer to a command that may have a place as its argument."""
 
     def answer(session: Session, words: list[str]) -> Optional[bool]:
         return (OF_PLACES[name] if is_place(session.recording, words) else otherwise)(session, words)
@@ -54,7 +54,7 @@ def answer_delete(session: Session, words: list[str]) -> None:
 
 
 def delete_all(session: Session) -> None:
-    """Deletes netrev's marks and the breaks at places of the program, and prints what it deleted."""
+    """Deletes netrev's marks and the breaks at places of the program, and prints what was deleted."""
     gone = []
     for mark in session.netrev.marks():
         if not session.ask(f"delete {mark.number}").startswith("fault"):
@@ -81,7 +81,7 @@ def go_to_place(name: str, forwards: bool) -> Answering:
 
 
 def answer_history(session: Session, words: list[str]) -> None:
-    """Lists the times at which goroutines reached a place, up to the position."""
+    """Lists the positions, up to the session's, at which goroutines reached a place."""
     recording, place, position = session.text(), place_of(session, words[0]), session.stands().position
     past = [one for one in place.positions if one <= position]
     rows = [row_of(recording, one) for one in past[-MOST:]]
@@ -120,8 +120,8 @@ def calls_of(recording: Recording) -> list[Call]:
 
 
 def stack_at(session: Session) -> Stack:
-    """The stack of the chosen goroutine. If none is chosen, the stack of the last step, or, before a place of the
-    program, the stack of the next step."""
+    """The stack of the chosen goroutine. If no goroutine is chosen, it is the stack of the last step. If a move stopped
+    at a place of the program, it is the stack of the next step."""
     if session.goroutine:
         found = stack_of(session.text(), session.goroutine, session.stands().position)
         return found.stack if found else Stack((), None)

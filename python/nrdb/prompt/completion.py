@@ -23,8 +23,8 @@ VALUES = {"gor": STATUSES, "rg": ["nil", "ready", "wait"], "wg": ["nil", "ready"
 
 
 def completions(line: str, session: Session) -> list[str]:
-    """The completions of the last word of a line. Other commands, separated by `;`, may precede that word. While netrev
-    is answering, numbers aren't completed."""
+    """The completions of the last word of a line. Other commands, separated by `;`, may precede that word. Numbers
+    aren't completed while netrev is answering."""
     words = line.rpartition(";")[2].split(" ")
     *before, last = words
     found = candidates(
@@ -92,7 +92,7 @@ def candidates(
 
 
 def of_cell(rest: list[str], numbers: Callable[[Of], list[str]]) -> list[str]:
-    """The words that can follow these words, which begin a cell."""
+    """The words that can follow these words, with which a cell begins."""
     if not rest:
         return list(CELLS)
     cell = CELLS.get(rest[0])

@@ -1,4 +1,4 @@
-"""The pager: after output has filled the screen, it waits for a key, as in GDB. `pagination off` turns it off."""
+"""The pager: when output has filled the screen, it waits for a key, as in GDB. `pagination off` turns it off."""
 
 import io
 import os
@@ -28,7 +28,7 @@ class Paged(io.TextIOBase):
         return len(text)
 
     def _write(self, line: str) -> None:
-        """Writes a line, or the rest of a line. If the screen is full, asks first."""
+        """Writes a line, or the rest of a line. If the screen is full, first waits for a key."""
         rows, columns = self._screen()
         if rows >= LEAST and self._lines >= rows - 1 and not self._goes_on and self._is_on():
             self._ask()

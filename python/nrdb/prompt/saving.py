@@ -1,4 +1,4 @@
-"""`save breakpoints FILE`: writes lines that set the current marks again when `source FILE` runs the lines."""
+"""`save breakpoints FILE`: writes lines that set the current marks again when `source FILE` runs them."""
 
 from typing import Iterator
 
@@ -11,7 +11,7 @@ from .answers_of_calls import usage
 
 
 def answer_save(session: Session, words: list[str]) -> None:
-    """Writes netrev's marks, the breaks at places of the program, and the lines that run when these hit."""
+    """Writes netrev's marks, the breaks at places of the program, and the lines that run when a mark hits."""
     if len(words) != 2 or words[0] != "breakpoints":
         raise Misused(usage("save"))
     lines = list(lines_of_marks(session))
@@ -34,6 +34,6 @@ def lines_of_marks(session: Session) -> Iterator[str]:
 
 
 def condition_line(session: Session, number: str) -> Iterator[str]:
-    """The line that sets a mark's condition. It comes after the line that sets the mark."""
+    """The line that sets a mark's condition, for use after the line that sets the mark."""
     if condition := session.conditions.get(number):
         yield f"condition {condition.cell} {condition.value}"

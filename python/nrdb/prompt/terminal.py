@@ -57,7 +57,7 @@ class Terminal:
             self._save()
 
     def _open(self) -> None:
-        """Prints what failed or hangs in the whole recording, whatever the session's position is."""
+        """Prints what failed or hangs in the whole recording, regardless of the session's position."""
         recording = self.session.recording
         if recording is None or recording.length > MOST_STEPS:
             return
