@@ -15,7 +15,7 @@ USAGE = "reduce OUT.jsonl [N | CELL VALUE]"
 
 
 def reduced_file(session: Session, words: list[str]) -> str:
-    """Reduces the recording to the file that the first word names, and returns the lines about the file."""
+    """Writes the reduced recording to the file that the first word names, and returns the lines about the file."""
     if not words or not words[0].endswith(".jsonl"):
         raise Misused(messages.REDUCE.format(usage=USAGE))
     made = reduced(session, words[0], wanted_by(session, words[1:]))
@@ -44,7 +44,7 @@ def answer_report(session: Session, words: list[str]) -> None:
 
 
 def has_suspects(session: Session) -> bool:
-    """Whether a rule about cells finds a suspect, so that the recording can be reduced to this suspect."""
+    """Whether a rule about cells found the suspect, so that the recording can be reduced to it."""
     return any(suspect.is_shown for suspect in suspects_of(session.text()).suspects)
 
 

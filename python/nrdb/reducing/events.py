@@ -1,5 +1,5 @@
-"""A recording's steps with the objects that they name. Goroutines and sockets are named by number; descriptors by use,
-because their numbers are reused; timers by use and side. A step therefore keeps its meaning if other steps are
+"""A recording's steps with the objects that they name. Goroutines and sockets are named by number, descriptors by use
+(because their numbers are reused), and timers by use and side. A step therefore keeps its meaning if other steps are
 removed."""
 
 from functools import partial
@@ -17,8 +17,8 @@ NUMBERED = ("spawn", "sockopen", "pollopen")  # kinds whose answer is the number
 
 
 class Event(NamedTuple):
-    """A step: its number, its kind, its arguments with uses instead of descriptors, its answer, the timer of a `pop` or
-    a `fire`, and the difference between an event's tag and the descriptor's own tag."""
+    """A step: its number, its kind, its arguments (with uses instead of descriptors), and its answer. A `pop` or a
+    `fire` has its timer. A `pollevent` has the difference between its tag and the descriptor's own tag."""
 
     number: int
     kind: str
@@ -34,8 +34,8 @@ class Event(NamedTuple):
 
 
 class Rest(NamedTuple):
-    """The state of a step's goroutine after the step: whether the goroutine is idle or gone, and the number of
-    references that it holds."""
+    """The state of a step's goroutine after the step: whether it is idle or gone, and the number of references that it
+    holds."""
 
     is_at_rest: bool
     holds: int
@@ -68,19 +68,19 @@ class Events:
         self.kept_for_ever = {hold.step for holds in notes.holds.values() for hold in holds}
 
     def use_at(self, descriptor: int, step: int) -> Optional[int]:
-        """The last use of a descriptor that was opened by a step up to this one."""
+        """The last use of a descriptor that was opened up to this step."""
         found = [at for at, use in enumerate(self.uses) if use.descriptor == descriptor and use.opened <= step]
         return found[-1] if found else None
 
     def socket_of(self, event: Event) -> Optional[int]:
-        """The socket of an event. The event names the socket directly, or by its descriptor or timer."""
+        """The socket of an event. An event names its socket directly, or by a descriptor or timer."""
         if (socket := event.named("s")) is not None:
             return socket
         use = event.timer[0] if event.timer else event.named("d")
         return None if use is None else self.uses[use].socket
 
     def _rests(self, kind: str, notes: Notes, *arguments: Any) -> Look:
-        """The function that stores the facts about a step's goroutine."""
+        """The function that stores a goroutine's state after a step."""
         if kind not in OF_A_GOROUTINE:
             return lambda step: self.rests.append(Rest(True, 0))
         goroutine = notes.goroutine(arguments[0])

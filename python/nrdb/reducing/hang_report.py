@@ -1,5 +1,5 @@
-"""A report in Markdown about a recording without suspects: what all goroutines wait for, or why calls failed; the tree
-of the goroutines that wait; and the stacks and calls of these goroutines. The recording isn't reduced."""
+"""A report in Markdown about a recording without suspects. It says what all goroutines wait for, or why calls failed,
+and shows the tree of waiting goroutines with their stacks and calls. The recording isn't reduced."""
 
 from pathlib import Path
 from typing import NamedTuple, Optional
@@ -28,7 +28,7 @@ MOST_GOROUTINES, MOST_CALLS = 4, 5
 
 
 class Story(NamedTuple):
-    """The contents of a report: its title, sentences, the tree, the goroutines, and the command to type next."""
+    """The contents of a report: the title, the sentences, the tree, the goroutines, and the command to type next."""
 
     title: str
     says: list[str]
@@ -38,7 +38,7 @@ class Story(NamedTuple):
 
 
 def story_of(session: Session) -> Optional[Story]:
-    """The story of a recording: the first failure, or else the first hang; None if neither is known."""
+    """The story of a recording, about the first failure or else the first hang; None if neither is known."""
     recording = session.text()
     graph = graph_at(recording, recording.length)
     failed = failures_of(recording)
@@ -82,7 +82,7 @@ def hang_report(session: Session, story: Story, picture: Path) -> tuple[str, str
 
 
 def of_goroutine(session: Session, name: Name) -> list[str]:
-    """A goroutine's stack at the end, the source around the stack's line, and the goroutine's last calls."""
+    """A goroutine's stack at the end, the source around the program's line in it, and the goroutine's last calls."""
     recording = session.text()
     found = stack_of(recording, name, recording.length)
     if found is None:

@@ -1,5 +1,5 @@
-"""Replays some of a recording's units with the Python model of the machine, with new numbers for the objects of each
-step. If a step of a unit doesn't apply or has a different answer, the unit is removed too."""
+"""Replays some of a recording's units with the Python model of the machine. The objects of the steps get new numbers.
+If a step of a unit doesn't apply or has a different answer, the unit is removed too."""
 
 from bisect import bisect_left
 from typing import Any, Callable, Iterable, Optional
@@ -20,8 +20,8 @@ Step = tuple[Any, ...]
 
 
 class Player:
-    """The Python model of the machine after some of the events. The player keeps the last replay, and a replay with the
-    same beginning continues from there."""
+    """The Python model of the machine after some of the events. The player keeps the last replay, so that the next
+    replay can continue from their common beginning."""
 
     def __init__(self, events: Events, units: list[Unit], limits: Limits, check: Callable[[], None]) -> None:
         self.events, self.units, self.limits, self.check = events, units, limits, check
@@ -39,7 +39,7 @@ class Player:
         self.world = World(limits)
 
     def _identities(self) -> dict[int, int]:
-        """For each event that makes an object, the number of the goroutine, socket or use."""
+        """For each event that makes a goroutine, a socket or a use, the object's number."""
         counts = {"spawn": 1, "sockopen": 0, "pollopen": 0}
         found = {}
         for place, event in enumerate(self.events.all):
@@ -72,7 +72,7 @@ class Player:
         return left
 
     def _common(self, wanted: list[int]) -> int:
-        """The number of events at the beginning that the last replay and this one have in common."""
+        """The number of events with which both the last replay and this replay begin."""
         at = 0
         for one, other in zip(self.chosen, wanted):
             if one != other:
@@ -143,7 +143,7 @@ class Player:
         return tuple(step)
 
     def _is_next(self, event: Event) -> bool:
-        """Whether the first timer that is due belongs to the event."""
+        """Whether the first timer in the machine is the timer of the event."""
         assert event.timer
         first = self.world.timers[0] if self.world.timers else None
         return first is not None and (self.numbers["d"].get(event.timer[0]), event.timer[1]) == (first.desc, first.side)

@@ -21,8 +21,8 @@ from .writing import answered_by, taken, write_recording
 
 
 class Wanted(NamedTuple):
-    """The target: the suspect with this number; a cell with a value, up to a step; a goroutine that hangs, after steps
-    that must stay; or only steps that must stay."""
+    """The target of a reduction: the suspect with this number, a cell with a value at a step, a goroutine that hangs
+    after steps that must stay, or only steps that must stay."""
 
     suspect: int
     cell: str
@@ -33,8 +33,8 @@ class Wanted(NamedTuple):
 
 
 class Reduced(NamedTuple):
-    """A reduced recording: the numbers of its steps in the original, the numbers of removed units of each kind, and
-    whether the reduction ran to its end."""
+    """A reduced recording: the numbers that its steps had in the original, the number of removed units of each kind,
+    and whether the reduction ran to its end."""
 
     path: str
     numbers: list[int]
@@ -65,7 +65,7 @@ def reduced(session: Session, path: str, wanted: Wanted) -> Reduced:
 
 
 def reduced_of(reducing: Reducing, path: str, wanted: Wanted) -> Reduced:
-    """Writes the reduction of any recording to the path, as `reduced` does."""
+    """Writes the reduced form of any recording to the path, as `reduced` does for a session's."""
     recording, of, program, check = reducing
     answered = answered_recording(program, recording, wanted.until)
     events = Events(answered)
@@ -85,7 +85,7 @@ def reduced_of(reducing: Reducing, path: str, wanted: Wanted) -> Reduced:
 
 
 def answered_recording(program: str, recording: Recording, until: int) -> Recording:
-    """The first steps of the recording, with netrev's answers."""
+    """The recording's steps up to `until`, with netrev's answers."""
     status, text = answered_by(program, "upgrade", recording.data)
     if status:
         raise Misused(messages.REFUSED.format(fault=text.decode("utf-8", "replace").strip()))
@@ -122,7 +122,7 @@ def wanted_by(session: Session, words: list[str]) -> Wanted:
 
 
 def _last_with(session: Session, cell: str, value: str) -> int:
-    """The session's position, if the cell has this value there; otherwise the last position at which the cell has it. A
+    """The session's position, if the cell has this value there, else the last position at which it has the value. A
     missing object has no value."""
     changes, length = session.changes(), session.text().length
 

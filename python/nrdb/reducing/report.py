@@ -39,7 +39,7 @@ def shell_words(*words: str) -> str:
 
 
 def code(text: str) -> str:
-    """Text as a span of code. The span's backticks are more than any run of backticks in the text."""
+    """Text as a span of code. The span's delimiters have more backticks than any run of backticks in the text."""
     fence = "`" * (1 + max(map(len, re.findall("`+", text)), default=0))
     return f"{fence}{plain(text)}{fence}" if len(fence) == 1 else f"{fence} {plain(text)} {fence}"
 
@@ -73,13 +73,13 @@ def report_of(session: Session, wanted: Wanted, reduced: Reduced) -> tuple[str, 
 
 
 def _diagram(recording: Recording, story: Optional[Data]) -> list[str]:
-    """The steps as a diagram, unless the recording has too many."""
+    """The steps as a diagram, unless the recording has too many steps."""
     told = sequence(recording, story)
     return [f"```mermaid\n{told}\n```"] if told else []
 
 
 def _of_cell(scout: Scout, recording: Recording, wanted: Wanted) -> list[str]:
-    """The head of the report of a cell."""
+    """The head of a report about a cell."""
     return [
         f"# {wanted.cell} has the value {shown(wanted.value)}",
         f"So it has at the end of {recording.length} steps.",
@@ -87,7 +87,7 @@ def _of_cell(scout: Scout, recording: Recording, wanted: Wanted) -> list[str]:
 
 
 def _of_suspect(session: Session, table: Table, wanted: Wanted) -> list[str]:
-    """The head of the report of a suspect."""
+    """The head of a report about a suspect."""
     before = suspects_table(session.looks(), session.text()).rows
     whole = [row.values for row in before if row.values][wanted.suspect - 1]
     here = next(row.values for row in table.rows if row.values and row.values["rule"] == whole["rule"])
@@ -118,7 +118,7 @@ def _steps(recording: Recording, reduced: Reduced) -> list[str]:
 
 
 def _told(step: Step, is_wide: bool) -> str:
-    """A step with its answer. If the step's goroutine has a column of its own, without the goroutine."""
+    """A step with its answer. The goroutine is left out if it has a column of its own."""
     words = str(step).split()
     if is_wide and step.kind in OF_A_GOROUTINE:
         del words[1]

@@ -1,5 +1,5 @@
 """Removes units while the target still shows: first all units except those near the target, then whole goroutines,
-sockets and runs of units. It first removes half of them at a time, and then fewer."""
+sockets and runs of units. At first half of the candidates are removed at a time, then fewer."""
 
 from typing import Iterable, Iterator, Optional
 
@@ -30,7 +30,7 @@ class Shrinking:
         return self.player.played >= self._budget
 
     def run(self) -> set[int]:
-        """Removes units until none can be removed or the budget is used up, and returns those that remain."""
+        """Removes units until none can be removed or the budget is used up, and returns the units that remain."""
         for candidate in self._beginnings():
             if (settled := self._showing(candidate)) is not None:
                 self.kept = settled
@@ -52,8 +52,8 @@ class Shrinking:
         return settled if self.target.shows(self.player) else None
 
     def _thin(self, candidates: Iterable[int]) -> bool:
-        """Removes as many candidates as possible, last ones first: all at once, then halves, and so on. Returns whether
-        it removed any."""
+        """Removes as many candidates as possible, the last candidates first. It tries all at once, then halves, and so
+        on. Returns whether it removed any."""
         left = sorted(candidates, key=lambda unit: self.units[unit].events[0], reverse=True)
         size, has_changed = len(left), False
         while size and not self.is_done:
@@ -68,7 +68,7 @@ class Shrinking:
         return has_changed
 
     def _idle_ticks(self) -> list[int]:
-        """The ticks that another tick follows before any timer starts or any deadline is set."""
+        """The ticks after which no timer starts and no deadline is set before the next tick."""
         found, is_needed = [], False
         for unit in sorted(self.kept, key=lambda unit: self.units[unit].events[0], reverse=True):
             kinds = {self.events.all[place].kind for place in self.units[unit].events}
@@ -81,9 +81,9 @@ class Shrinking:
         return found
 
     def _beginnings(self) -> Iterator[set[int]]:
-        """Sets of units to begin with, small ones first: the units of the target's socket and goroutine that are near
-        the target; all units of that socket and goroutine; the units of all goroutines that use the socket; and all
-        units."""
+        """The sets of units with which to begin, small sets first: units near the target, of its socket and goroutine
+        or of all goroutines that use the socket; then all units of the socket and the goroutine; then all units of
+        those goroutines; and last all units."""
         near = self._about({self.target.socket}, {self.target.goroutine})
         users = {event.named("g") for event in self.events.all if self.events.socket_of(event) == self.target.socket}
         wide = self._about({self.target.socket}, users)
@@ -117,5 +117,5 @@ class Shrinking:
         }
 
     def _whole(self, units: set[int]) -> set[int]:
-        """These units, and all units that they need."""
+        """The given units, and all units that they need."""
         return self.player.needs.with_needed(units)

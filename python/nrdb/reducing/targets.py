@@ -34,7 +34,7 @@ class Target(ABC):
 
 
 class SuspectTarget(Target):
-    """A suspect. The same rule must find it about the same objects, with no less weight and no lower rank."""
+    """A suspect. The same rule must find it for the same objects, with no less weight and no lower rank."""
 
     def __init__(self, events: Events, suspect: Suspect, rank: int) -> None:
         self.suspect, self.rank = suspect, rank
@@ -56,7 +56,7 @@ class SuspectTarget(Target):
 
 
 class CellTarget(Target):
-    """A cell that has a value after the last remaining step. Numbers in the value are those of the recording."""
+    """A cell that has a value after the last remaining step. Numbers in the value are the recording's."""
 
     def __init__(self, events: Events, cell: str, wanted: str, position: int) -> None:
         name, *number = cell.split()
@@ -126,5 +126,5 @@ class StepsTarget(Target):
 
 
 def _back(numbers: dict[int, int], number: int) -> int:
-    """The object with this number. If several objects had the number, the last one."""
+    """The object with this number. If several objects have had the number, it is the last of them."""
     return max(which for which, its in numbers.items() if its == number)

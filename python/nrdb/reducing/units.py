@@ -1,5 +1,5 @@
-"""Units, which are steps that are removed together: a goroutine's call, from rest to rest; bytes that come or go, with
-their event; a timer that starts, with the run of its function; and any other step by itself."""
+"""Units, which are steps that are removed together: the steps of a goroutine's call, bytes that come or go with their
+event, and a timer that starts with the run of its function. Any other step is a unit by itself."""
 
 from enum import Enum
 from typing import Iterable, NamedTuple, Optional
@@ -13,7 +13,7 @@ SIDE_OF = {"arrive": "r", "peerclose": "r", "drain": "w"}
 
 
 class Sort(Enum):
-    """The kinds of units, each with its singular and plural as text."""
+    """The kinds of units, each with its name in singular and plural."""
 
     CALL = "call", "calls"
     GOROUTINE = "goroutine", "goroutines"
@@ -24,7 +24,7 @@ class Sort(Enum):
 
 
 class Unit(NamedTuple):
-    """Events that belong together, by their indices in the list of all events, in rising order."""
+    """Events that belong together: their indices in the list of all events, in rising order."""
 
     sort: Sort
     events: list[int]
@@ -57,7 +57,7 @@ def _calls(events: Events) -> list[Unit]:
 
 
 def _frees(events: Events, calls: Optional[list[Unit]], event: Event) -> bool:
-    """Whether the event frees the descriptor whose last reference the goroutine's last call gave up."""
+    """Whether the event frees a descriptor, and the goroutine's last call gave up the descriptor's last reference."""
     return event.kind == "pollclose" and calls is not None and events.all[calls[-1].events[-1]].answer == LAST
 
 
@@ -109,11 +109,11 @@ class Needs:
                     self.of[unit].add(made_by)
 
     def with_needed(self, units: Iterable[int]) -> set[int]:
-        """These units, and all units that they need."""
+        """The given units, and all units that they need."""
         return _closure(units, self.of)
 
     def with_needing(self, units: Iterable[int]) -> set[int]:
-        """These units, and all units that need them."""
+        """The given units, and all units that need them."""
         return _closure(units, self.by)
 
 

@@ -43,7 +43,7 @@ def taken(program: str, player: Player, has_answers: bool) -> bytes:
 
 
 def text_of(world: World, buf: int, steps: Sequence[tuple[Step, Answer]], has_answers: bool) -> bytes:
-    """The text of steps that led to this state, with the limits that the steps need."""
+    """The text of the steps that led to this state, with the limits that the steps need."""
     gor, sock, desc = (max(len(made), 1) for made in (world.goroutines, world.sockets, world.descs))
     limits = Limits(gor, sock, desc, buf)
     header = {"netrev": 2 if has_answers or _needs_answers(steps) else 1, **limits._asdict()}
@@ -53,7 +53,7 @@ def text_of(world: World, buf: int, steps: Sequence[tuple[Step, Answer]], has_an
 
 
 def _needs_answers(steps: Sequence[tuple[Step, Answer]]) -> bool:
-    """Whether any of these steps can only be in a recording of version 2."""
+    """Whether one of these steps can only be in a recording of version 2."""
     return any(step[0] == "closewrite" for step, _ in steps)
 
 
