@@ -169,7 +169,7 @@ def program_frames(stack: Stack) -> Frames:
 
 def place_in(function: str, frames: Frames) -> Optional[Place]:
     """The innermost call of a function in a stack. If a function literal or a deferred call of the function is running,
-    the line is the one there; for a deferred call, that is the line of its `defer` statement."""
+    the result has the line at which that is. A deferred call is at its `defer` statement."""
     for at, call in enumerate(frames):
         if call.function == function:
             inner = frames[at - 1] if at and frames[at - 1].function.startswith(f"{function}.") else call
@@ -205,8 +205,8 @@ def has_ended(recording: Recording, name: Name) -> bool:
 
 
 def current_in(function: str, path: Path, stack: Optional[Stack]) -> Optional[tuple[Call, Frames]]:
-    """The line at which a goroutine is now in a call of the function by these callers, and the goroutine's frames in
-    the program; None if it is in no such call."""
+    """If a goroutine is now in a call of the function by these callers, its line there and its frames in the program;
+    else None."""
     frames = program_frames(stack) if stack else ()
     for at, call in enumerate(frames):
         if call.function == function and frames[at + 1 :] == path:

@@ -12,8 +12,8 @@ MOST_BALANCES = 3  # the most sentences
 
 
 def kept_says(recording: Recording, balances: list[Balance]) -> list[str]:
-    """Sentences about the goroutines whose calls kept what they took. Of the goroutines that a `go` statement started,
-    the sentences name the lines that only these passed."""
+    """Sentences about the goroutines whose calls kept what they took. They also name the lines that only these
+    goroutines passed, and none of the others that the same `go` statement started."""
     kept = [one for one in balances if one.missing > 0]
     if not kept:
         return []

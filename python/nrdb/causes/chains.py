@@ -15,7 +15,7 @@ MOST_LINKS = 4
 
 
 def chain_says(index: Index, call: Call, need: Need, position: int) -> list[str]:
-    """The sentences about the goroutines of the chain, starting with the one that a failed call needed."""
+    """The sentences about the goroutines of the chain, starting with the goroutine that the failed call needed."""
     waiters = waiters_during(index, position)
     needs, told = Needs(index, waiters, position), list(need.says)
     says, seen, by = list[str](), {Name(call.goroutine)}, need.by

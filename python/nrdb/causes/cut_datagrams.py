@@ -97,8 +97,8 @@ def cause_of(index: Index, pair: CutDatagram, others: int) -> Cause:
 
 def cut_says(index: Index, call: Call, position: int) -> list[str]:
     """Sentences about a Read that waits for a datagram. If the last datagram that the Read's goroutine sent was cut,
-    the sentences say so, and what the receiver did next. Otherwise, if the last datagram that the goroutine received
-    was cut, they say that."""
+    the sentences say so, and say what the receiver did next. Otherwise they say so if the last datagram that the
+    goroutine received was cut."""
     wrote = index.last_use(call.socket, call.first, ("Write",)) if is_datagram(index, call.socket) else None
     pair = next((one for one in cut_datagrams(index) if wrote and one.wrote is wrote), None)
     if pair is None or pair.wrote.goroutine != call.goroutine or pair.read.last > position:

@@ -1,4 +1,4 @@
-"""Deadlines of waiting calls that haven't passed yet. A call with such a deadline ends by itself."""
+"""Deadlines that lie ahead of waiting calls. A call with such a deadline ends by itself."""
 
 from collections import defaultdict
 from functools import lru_cache

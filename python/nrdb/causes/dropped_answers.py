@@ -56,7 +56,7 @@ def dropped_answer(index: Index, wait: Waiting, hands: Mapping[int, list[Hand]])
 def hands_of(recording: Recording, wait: Waiting, waiters: Mapping[Name, Waiter]) -> list[Hand]:
     """The goroutines that wait to read and that pass on what they read. Such a goroutine has put values into channels
     from which others took them at the waiter's line, or it is in a function in which another goroutine has done so. If
-    no goroutine has put such a value, the result has the goroutines in a function with a line that would."""
+    no goroutine has put such a value, the result has the goroutines in functions whose source does so."""
     readers = {name: waiter for name, waiter in waiters.items() if waiter.call and waiter.call.name == "Read"}
     lines, own = recording.lines, wait.stack.own()
     taken = {
@@ -108,7 +108,7 @@ def by_source(recording: Recording, wait: Waiting, readers: Mapping[Name, Waiter
 
 
 def request_of(index: Index, wait: Waiting, socket: int) -> Optional[Call]:
-    """The last Write of a goroutine to a socket before it waits. If it made none, the first Write of a goroutine to
+    """The last Write of a goroutine to a socket before it waits. If it made no Write, the first Write of a goroutine to
     which it passed its request."""
     calls = [] if wait.name.is_goid else index.by_goroutine.get(wait.name.number, [])
     writes = [one for one in calls if one.name == "Write" and one.socket == socket and one.moved and one.last]

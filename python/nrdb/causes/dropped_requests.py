@@ -18,7 +18,7 @@ from .words import place_in
 
 
 class Taken(NamedTuple):
-    """A goroutine that took a request and waits for the next one, and the line at which it would send an answer."""
+    """A goroutine that took a request and waits for the next request, and the line at which it would send an answer."""
 
     taker: Waiter
     use: Use
@@ -57,7 +57,7 @@ def answered_before(recording: Recording, wait: Waiting) -> int:
 
 def left_to_a_timer(recording: Recording, taker: Waiter) -> str:
     """Words about a goroutine that took a request and waits in a select: it perhaps answers when a timer goes off, and
-    nothing resets that timer. Empty if the program's source has no such timer."""
+    nothing resets that timer. The text is empty if the program's source has no such timer."""
     says = timers_of_select(recording, taker.wait) if taker.wait else []
     is_skipped = taker.wait is not None and bool(says) and ways_past_reset(recording, taker.wait)
     return f"Perhaps {taker.name} keeps it until a timer goes off. {says[0]}" if is_skipped else ""

@@ -88,7 +88,7 @@ def kept_by_a_handler(recording: Recording, stack: Stack) -> list[str]:
 
 
 def causes_of_ended(index: Index) -> list[Cause]:
-    """The requests that weren't sent because their contexts had ended, as causes."""
+    """Causes for the requests that weren't sent because their contexts had ended."""
     return [cause for one in ended_before(index) if (cause := cause_of(index, one))]
 
 

@@ -64,7 +64,7 @@ def need_of(index: Index, wait: Waiting, found: list[int], own: Call, number: in
 
 
 def ended_before(recording: Recording, wait: Waiting, file: str, givings: list[Giving]) -> Iterator[int]:
-    """The goroutines that ended without passing a line that gives, latest first. If the waiter started some of these
+    """The goroutines that ended without passing one of these lines, latest first. If the waiter started some of these
     goroutines, the result has only those."""
     waiter, passed, numbers = goid_of(recording, wait.name), lines_of(recording), {one.number for one in givings}
     ended = [goid for goid, known in recording.lines.goroutines.items() if known.last >= 0 and known.made]

@@ -86,7 +86,7 @@ def unasked(index: Index, call: Call) -> list[str]:
 
 def unanswered(index: Index, call: Call, other: int, position: int) -> list[str]:
     """Sentences about a Read whose request was read and not answered: the goroutine that read the request had answered
-    earlier ones, and then read again or did something else without a Write."""
+    earlier requests. This time it read again, or did something else, without a Write."""
     wrote = index.last_use(call.socket, call.first, ("Write",))
     if wrote is None or wrote.goroutine != call.goroutine or not wrote.moved:
         return []

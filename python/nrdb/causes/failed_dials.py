@@ -25,7 +25,7 @@ class UnconnectedSocket(NamedTuple):
 
 
 def failed_dial(index: Index, goroutine: int) -> Optional[UnconnectedSocket]:
-    """The last Dial of a goroutine, if that Dial failed. None if a later Dial succeeded."""
+    """The last Dial of a goroutine, if that Dial failed; None if a later Dial succeeded."""
     lines, calls = index.recording.lines, index.by_goroutine.get(goroutine, ())
     failed = [
         one for one in calls

@@ -63,7 +63,7 @@ def cause_of(index: Index, call: Call, deep: int = 0) -> Cause:
 
 
 def of_timeout(index: Index, call: Call, begins: str) -> Cause:
-    """The cause of a timeout. It says which goroutine set the deadline and when, which calls succeeded under that
+    """The cause of a timeout. The text says which goroutine set the deadline and when, which calls succeeded under that
     deadline before, and what the call waited for."""
     recording = index.recording
     step = recording.step(call.cause)

@@ -1,5 +1,5 @@
-"""The sum that goroutines added to a WaitGroup, and the goroutines that called Done. The module finds the number of
-missing calls, and the goroutines that ended without a call."""
+"""How much goroutines added to a WaitGroup, and which goroutines called Done. The module finds how many calls of Done
+are missing, and the goroutines that ended without calling it."""
 
 from collections import Counter
 from typing import NamedTuple, Optional
@@ -15,7 +15,7 @@ MOST_PLACES, MOST_KINDS = 2, 2
 
 
 class Count(NamedTuple):
-    """The sums that goroutines added to a WaitGroup and subtracted from it."""
+    """The uses of a WaitGroup that added to its count, and the uses that subtracted from it."""
 
     added: list[Use]
     done: list[Use]
@@ -56,7 +56,7 @@ def count_says(recording: Recording, count: Count) -> str:
 
 
 def places_of(recording: Recording, uses: list[Use]) -> str:
-    """The lines at which most goroutines called Add or Done."""
+    """The lines at which goroutines called Add or Done most often."""
     often = Counter[str]()
     for use in uses:
         if place := place_in(recording.lines.stacks[use.stack]).partition(", called")[0]:

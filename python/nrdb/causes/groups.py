@@ -124,8 +124,8 @@ class Groups:
         return [count_says(self._recording, count), *ended] if count and ended else []
 
     def _in_order(self, members: list[Member], count: Optional[Count]) -> list[Member]:
-        """The goroutines that may call Done, starting with those that haven't called it yet. If goroutines that called
-        Add started some of these goroutines afterwards, the result has only those."""
+        """The goroutines that may call Done, first those that haven't called it yet. If goroutines that called Add
+        started some of these goroutines afterwards, the result has only those."""
         if count is None:
             return members
         started = started_by(self._recording, count)
@@ -164,8 +164,8 @@ class Groups:
 
     def _started(self, waiter: Waiter) -> list[Member]:
         """Goroutines that wait or sleep and were started by a function that the waiter is in, or by the function around
-        such a literal. If no such goroutine exists, the result has the goroutines that another literal of that
-        function, or a WaitGroup, started."""
+        it if that function is a literal. If no such goroutine exists, the result has the goroutines that another
+        literal of that function, or a WaitGroup, started."""
         inside = {call.function for call in waiter.stack.calls if call.of == OF_THE_PROGRAM}
         outer = set(map(outermost, inside))
         made = [(name, stack.made) for name, stack in self._stacks if stack.made]

@@ -40,8 +40,8 @@ INDENT = "  "
 
 
 def hang_says(graph: WaitGraph, hang: Hang) -> list[str]:
-    """The sentences about a hang, without its tree: the first one sums up the hang, the others say why it doesn't
-    end."""
+    """The sentences about a hang, without its tree. The first sentence sums up the hang, and the others say why it
+    doesn't end."""
     recording = graph.recording
     if hang.is_deadlock:
         members = zip(members_words(recording, hang), hang.needs, ahead_says(graph, hang))

@@ -109,9 +109,9 @@ def unflushed(recording: Recording, stack: Stack) -> Iterator[tuple[str, bool]]:
 
 
 def writes_of(lines: Lines, call: LineCall, within: range, is_innermost: bool) -> Iterator[tuple[str, bool]]:
-    """The lines of a function that write to its ResponseWriter, starting with the last one before the goroutine's line.
-    The goroutine's own line counts only if it calls no function of the program, since such a function may produce the
-    text to write."""
+    """The lines of a function that write to its ResponseWriter, starting with the last such line before the goroutine's
+    own. The goroutine's own line counts only if it calls no function of the program, since such a function may produce
+    the text to write."""
     named = next((match[1] for number in within if (match := WRITER.search(code_at(lines, number)))), None)
     if named is None:
         return

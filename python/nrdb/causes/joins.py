@@ -1,5 +1,5 @@
-"""Hangs that explain a failed call or follow from it: hangs of the goroutine at the other end, or of the goroutine that
-waited for the failed one."""
+"""Hangs that explain a failed call or follow from it: hangs of the call's goroutine, of the goroutine at the other end,
+or of goroutines that wait for the call's goroutine."""
 
 from typing import Iterator, NamedTuple, Optional
 

@@ -1,4 +1,4 @@
-"""Paths on which a call keeps what it took, from the program's source. The call took a value from a pool or a semaphore
+"""Paths in the program's source on which a call keeps what it took. The call took a value from a pool or a semaphore
 and didn't give it back, or it got a net/http response and doesn't close its body."""
 
 import re

@@ -1,5 +1,5 @@
-"""Loop variables that goroutines share, from the program's source. In a module whose language version is older than Go
-1.22, a loop has one variable for all its rounds."""
+"""Loop variables that goroutines share, found in the program's source. In a module whose language version is older than
+Go 1.22, a loop has one variable for all its rounds."""
 
 import os
 import re

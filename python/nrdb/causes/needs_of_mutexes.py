@@ -124,8 +124,8 @@ class NeedsOfMutexes:
         return [holder for holder in self._found[lock, numbers] if holder.name != waiter.name]
 
     def _found_for(self, lock: Call, numbers: frozenset[int], last: set[Name]) -> list[Holder]:
-        """The goroutines that may hold a mutex. Those that wait for the same mutex are left out, unless such a
-        goroutine itself holds it."""
+        """The goroutines that may hold a mutex. Goroutines that wait for the same mutex are left out, unless they hold
+        it themselves."""
         locks = {lock}.union(*map(self._ledger.lines_of, numbers))
         had = {name for number in numbers for name in self._ledger.had(number)}
         found = list[Holder]()

@@ -1,4 +1,4 @@
-"""Buffered readers that a function makes anew in each call, from the program's source. Bytes that the previous reader
+"""Buffered readers that, by the program's source, a function makes anew in each call. Bytes that the previous reader
 had read ahead are lost with that reader, and the other end waits for answers to them."""
 
 import re

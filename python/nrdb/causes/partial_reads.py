@@ -1,5 +1,5 @@
-"""Reads whose count is perhaps ignored, from the program's source. A goroutine waits to read, and lines of its function
-read once into a slice of exactly the wanted length, although a Read returns whatever has arrived."""
+"""Reads with a count that, by the program's source, the program perhaps ignores. A goroutine waits to read, and lines
+of its function read once into a slice of exactly the wanted length, although a Read returns whatever has arrived."""
 
 import re
 from typing import Optional

@@ -1,4 +1,5 @@
-"""The goroutine that serves a net/http request for whose response another waits, if both are in the recording."""
+"""The goroutine that serves a net/http request for whose response another goroutine waits, if both are in the
+recording."""
 
 from typing import Optional
 

@@ -1,5 +1,5 @@
 """Calls of net/rpc that are done but weren't delivered. The client of net/rpc puts a finished call into the channel
-that the caller of Go passed, but only if that channel has room."""
+that its caller passed to Client.Go, but only if that channel has room."""
 
 import re
 

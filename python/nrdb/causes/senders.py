@@ -26,7 +26,7 @@ class Giving(NamedTuple):
 
 def later_giver(recording: Recording, wait: Waiting, stacks: Iterable[tuple[Name, Stack]]) -> Optional[Need]:
     """The need, if another goroutine may do the awaited operation later. If no line of the file does the operation, the
-    need says so. None if the source isn't available."""
+    need says so. The result is None if the source isn't available."""
     own = wait.stack.own()
     if not own or own[0].of != OF_THE_PROGRAM or len(wait.objects) != 1 or wait.objects[0].use not in WORDS:
         return None

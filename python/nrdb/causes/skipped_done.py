@@ -126,7 +126,7 @@ def is_by(recording: Recording, use: Use, rounds: Rounds) -> bool:
 
 
 def is_free(recording: Recording, waits: Waits, use: Use, position: int) -> bool:
-    """Whether the goroutine that took a value has ended, or waits for the next one."""
+    """Whether the goroutine that took a value has ended, or waits for the next value."""
     wait = waits.at(name_of_goid(recording.lines, use.goid), position)
     waits_there = wait is not None and any(at.object == use.object for at in wait.objects)
     return waits_there or has_ended(recording, use)

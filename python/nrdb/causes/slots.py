@@ -72,8 +72,8 @@ def is_behind(taken: Stack, call: Call) -> bool:
 
 
 def leaving_line(lines: Lines, call: Call, leavings: list[Giving]) -> int:
-    """The line of a function that gives a slot back, itself or by calling a function that does, after a call or in a
-    deferred function; 0 if no line does."""
+    """The line of a function, after a call or in a deferred function, that gives a slot back or calls a function that
+    does; 0 if no line does."""
     within = range_of(lines, call)
     helpers = {
         named[1]

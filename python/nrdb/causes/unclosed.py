@@ -67,7 +67,8 @@ def unclosed(recording: Recording, wait: Waiting, stacks: Iterable[tuple[Name, S
 
 
 def ways_without(source: Lines, closing: Closing, name: str) -> list[Way]:
-    """The paths of a function on which it doesn't close a channel that it makes, although it has a line that does."""
+    """The paths of a function on which it doesn't close a channel that it makes, although another path closes the
+    channel."""
     field = re.escape(name.rpartition(".")[2])
     makes, closes = rf"\b{field}\b(?::| :?=) *make\(chan\b", rf"\bclose\((?:[\w.]+\.)?{field}\)"
     if not any(re.search(makes, source[number - 1]) for number in closing.within if number < closing.number):

@@ -108,8 +108,7 @@ class Hang(NamedTuple):
 
 
 class WaitGraph:
-    """The graph at a position: the waiters, their needs, the edges, and the hangs, ordered so that the hang with the
-    most waiters comes first."""
+    """The graph at a position: the waiters, their needs, the edges, and the hangs in their order."""
 
     def __init__(self, recording: Recording, position: int) -> None:
         index = index_of(recording)
@@ -284,9 +283,8 @@ def waiters_of(hang: Hang) -> Iterator[Waiter]:
 
 def order(hang: Hang) -> tuple[bool, bool, int, int, int]:
     """The sort key of hangs. Hangs of Go's own code come last, and before them the hangs of goroutines that may have
-    nothing to do. The others are ordered by rank: certain deadlocks, but for Reads that wait for one another without a
-    reason; hangs with a known reason; all other hangs. Equal ranks are ordered by the number of goroutines that
-    wait."""
+    nothing to do. All others are ordered by rank: certain deadlocks, hangs with a known reason, Reads that certainly
+    wait for one another, other hangs. Equal ranks are ordered by the number of waiters."""
     is_certain = hang.is_deadlock and hang.certainty > Certainty.PERHAPS and not hang.until
     are_reads = all(root.call and root.call.name in READING for root in hang.roots)
     has_reason = hang.has_reason and (hang.is_deadlock or hang.waiting > 0 or hang.needs[0].is_odd)
