@@ -73,8 +73,7 @@ class Adapter:
         }  # fmt: skip
 
     def serve(self, begun: Sequence[Request] = ()) -> None:
-        """Answers requests until the editor disconnects, first those of `begun`; its `initialize` was answered
-        already."""
+        """Answers requests until the editor disconnects, first `begun`, whose `initialize` has been answered."""
         with closing(self._source), self._opened:
             for request in begun:
                 self._initialize(request) if request.command == "initialize" else self._guarded(request)
@@ -134,7 +133,7 @@ class Adapter:
             return self._outcome(request)
 
     def _look_for_others(self, request: Request) -> None:
-        """Reports it if another front has moved the shared session."""
+        """Reports the new position if another front has moved the shared session."""
         with self._source.work(request, self._interrupts):
             moved = self._target.debuggee.others_moved()
         if moved is not None:

@@ -87,7 +87,7 @@ def place_words(stack: Optional[Stack]) -> str:
 
 
 class Handles:
-    """The numbers by which the editor names objects. A number is valid until the next move, and never reused."""
+    """The numbers by which the editor names objects. A number is valid until the next move, and is never reused."""
 
     def __init__(self) -> None:
         self._things: dict[int, Thing] = {}

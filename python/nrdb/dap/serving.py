@@ -33,8 +33,8 @@ def serve(wire: Wire, program: str, begun: Sequence[Request] = ()) -> int:
 
 
 def source_of(wire: Wire) -> Source:
-    """The source of the requests. In the main thread, another thread reads them during the work. Elsewhere they are
-    read directly, because only the main thread can be interrupted."""
+    """The source of the requests. If the main thread does the work, another thread reads them meanwhile. Otherwise they
+    are read directly, because only the main thread can be interrupted."""
     if current_thread() is main_thread():
         return Hearing(wire)
     return Reading(wire)
