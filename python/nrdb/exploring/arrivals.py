@@ -54,8 +54,8 @@ def _note(script: Script, operation: Operation, found: dict[tuple[int, str], Tri
 
 
 def _due(item: Item, told: list[Event], tries: Optional[Tries]) -> float:
-    """The due time of an arrival. If a try comes before the next event, it is just before the first event since the
-    last failed try."""
+    """The due time of an arrival. If a try comes before the next event, the due time is just before the first event
+    since the last failed try."""
     if tries is None:
         return item.due
     number, side = item.event.number, SIDE_OF[item.event.kind]

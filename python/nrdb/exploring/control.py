@@ -69,7 +69,7 @@ class Stream:
 
 
 class NotMade(Exception):
-    """Raised if the object of a step doesn't exist yet. Another goroutine must first make it."""
+    """Raised if the object of a step doesn't exist yet. Another goroutine must first make the object."""
 
 
 class Numbers:
@@ -165,8 +165,8 @@ def _about(sort: Sort, operation: Operation) -> Optional[About]:
 
 
 def is_about(status: Status, place: Place, operation: Operation) -> Optional[About]:
-    """The object of which the next step needs the number; None if the goroutine's status has the number, or if the step
-    has no object."""
+    """The object whose number the next step needs; None if the goroutine's status has the number, or if the step has no
+    object."""
     if status[0] in BY_STATUS:
         return None
     return _about(Sort.WAIT if place.is_waiting else operation.sort, operation)

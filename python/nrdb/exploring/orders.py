@@ -157,7 +157,7 @@ class Passing:
             waiting.until = min(waiting.until, self.waits_until(which))
 
     def is_still_awaited(self, g: int, waiting: Waiting) -> bool:
-        """Whether all waiters for a goroutine must wait on, although the goroutine has continued."""
+        """Whether all waiters for a goroutine must keep waiting although the goroutine has continued."""
         place = self.places[g]
         if place.operation > waiting.until:
             return False

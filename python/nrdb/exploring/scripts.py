@@ -40,8 +40,8 @@ class Item(NamedTuple):
 
 
 class Order(NamedTuple):
-    """An order between operations of two goroutines: the first goroutine's operation begins after the other's has
-    ended."""
+    """An order between operations of two goroutines: one goroutine's operation begins after the other goroutine's
+    operation has ended."""
 
     operation: int
     other: int

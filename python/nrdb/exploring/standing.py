@@ -89,7 +89,7 @@ class Standing:
         heapify(self._heap)
 
     def is_as(self, other: "Standing") -> bool:
-        """Whether this state equals the other one, so that both runs continue in the same way."""
+        """Whether this state equals the other state, so that both runs continue in the same way."""
         return (
             self.places == other.places
             and self.off == other.off

@@ -16,7 +16,7 @@ from .finding import Exploring, Key
 from .schedules import Schedule, schedules
 from .scripts import Script
 
-# from this number of steps on, more processes are worth it; each schedule counts as long as the recording
+# the number of steps from which more processes are worth it, if each schedule is as long as the recording
 WORTH_IT = 100_000
 SECONDS = 0.2  # seconds between two messages
 LENGTH = 8  # the number of bytes that encode a message's length
