@@ -21,7 +21,7 @@ Step = tuple[Any, ...]
 
 class Player:
     """The Python model of the machine after some of the events. The player keeps the last replay, so that the next
-    replay can continue from their common beginning."""
+    replay can continue after their common beginning."""
 
     def __init__(self, events: Events, units: list[Unit], limits: Limits, check: Callable[[], None]) -> None:
         self.events, self.units, self.limits, self.check = events, units, limits, check

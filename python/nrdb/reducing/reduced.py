@@ -65,7 +65,7 @@ def reduced(session: Session, path: str, wanted: Wanted) -> Reduced:
 
 
 def reduced_of(reducing: Reducing, path: str, wanted: Wanted) -> Reduced:
-    """Writes the reduced form of any recording to the path, as `reduced` does for a session's."""
+    """Writes the reduced form of any recording to the path, as `reduced` does for a session's recording."""
     recording, of, program, check = reducing
     answered = answered_recording(program, recording, wanted.until)
     events = Events(answered)
