@@ -20,7 +20,7 @@ class Ranked(NamedTuple):
 
 
 def suspects_of(recording: Recording) -> Ranked:
-    """The suspects by the rules about cells, which are all rules but those about calls."""
+    """The suspects by the rules about cells, which are all rules except the rules about calls."""
     prepare(recording)
     return by_cells(Run(Notes(recording)))
 

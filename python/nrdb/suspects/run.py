@@ -66,7 +66,7 @@ class Run:
         return self.changes.value(f"gor {g}", position).split()
 
     def statuses(self, place: str) -> list[tuple[int, list[str]]]:
-        """The goroutines in a place at the end, each with the other words of its status."""
+        """The goroutines whose status names this place at the end, each with the other words of the status."""
         found = ((g, one.status.split()) for g, one in self.notes.goroutines.items())
         return [(g, words) for g, (at, *words) in found if at == place]
 
@@ -89,8 +89,8 @@ class Run:
         return f"the peer closed at step {self.notes.peer[s]}" if s in self.notes.peer else ""
 
     def stalled(self, g: int) -> str:
-        """Words for how long a goroutine has paused that could continue, if that is too long compared with other pauses
-        in its status; else empty."""
+        """Words for how long a goroutine that could continue has paused, if that is too long compared with earlier
+        pauses in its status; else empty."""
         known = self.notes.pauses.get(self.notes.status(g))
         longest = known.longest if known and known.count >= MANY else None
         pause = self.end - max(self.notes.goroutines[g].last, self.since(g))

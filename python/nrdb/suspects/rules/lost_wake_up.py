@@ -28,7 +28,7 @@ def rule(run: Run) -> Iterator[Suspect]:
         about = lost.pop(throw, None)
         for suspect in suspects:
             of_a_goroutine(run, suspect)
-            # (since Go's own Accept tries again after each pollreset)
+            # (Go's own Accept tries again after each pollreset, and so loses no wake-up)
             if is_accepting(run.recording, suspect) or is_parked(run, suspect) and about is None:
                 suspect.weight = Weight.DOUBTFUL
             if about:
