@@ -146,7 +146,7 @@ def program_calls(stack: Stack) -> str:
 
 def names_data(recording: Recording, window: Window) -> dict[int, str]:
     """The function that each goroutine of the window runs: the outermost function of the program in one of its calls,
-    or else the outermost function there."""
+    or else the outermost function of any kind."""
     names: dict[int, str] = {}
     own: set[int] = set()
     for call in shown_calls(recording, window) if recording.lines else ():

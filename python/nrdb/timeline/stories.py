@@ -21,7 +21,7 @@ HANGS, FAILED = "hangs", "failed"
 
 
 def stories_data(scout: Scout, recording: Recording) -> tuple[list[Data], list[Data]]:
-    """The suspects, and the stories of the calls that hang or failed. The latter are empty if the recording has
+    """The suspects, and the stories of the calls that hang or failed. The second list is empty if the recording has
     suspects."""
     suspects = list(suspects_data(scout, recording))
     return suspects, [] if suspects else list(causes_data(recording))

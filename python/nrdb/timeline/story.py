@@ -79,8 +79,8 @@ def wakes_of(recording: Recording, runs: Runs) -> list[list[Any]]:
 
 
 def lines_data(recording: Recording, window: Window) -> Data:
-    """The program's lines, each stored once, and the index of its line for each step since the first position. Empty if
-    the recording has no lines."""
+    """The program's lines, each stored once, and, for each step since the first position, the index of the step's line.
+    The result is empty if the recording has no lines."""
     if not recording.lines:
         return {}
     texts: dict[str, int] = {"": 0}
@@ -104,8 +104,8 @@ def marks_of(listed: list[Listed], recording: Recording, window: Window, runs: R
 
 
 def ticks_of(changes: RecordedChanges) -> list[list[int]]:
-    """The steps at which the clock advanced, each with its time. If the clock advanced too often, only some of these
-    steps at regular distances, and the last step."""
+    """The steps at which the clock advanced, each with its time. If the clock advanced too often, the result has only
+    the last step, and some steps at regular distances."""
     ticks = changes.changes_of("clock")
     every = -(-len(ticks) // MOST_TICKS) or 1
     shown = [*ticks[::every], *(ticks[-1:] if (len(ticks) - 1) % every else [])]
@@ -114,8 +114,8 @@ def ticks_of(changes: RecordedChanges) -> list[list[int]]:
 
 def times_of(recording: Recording, window: Window, most: int) -> Data:
     """The recorder's times after the steps of a window; in a long window, only after steps at equal distances. `every`
-    is that distance, counted from the first position. `ns` has the differences between consecutive times. Empty if the
-    recorder had no times."""
+    is that distance, counted from the first position. `ns` has the differences between consecutive times. The result is
+    empty if the recorder had no times."""
     times = recording.lines.times
     if not times:
         return {}
