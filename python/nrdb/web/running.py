@@ -1,5 +1,5 @@
 """Runs the page's session in the calling thread. It answers lines one after the other, checks whether other users have
-moved the session, and reports it if netrev is gone."""
+moved the session, and reports when netrev is gone."""
 
 import json
 import queue
