@@ -96,8 +96,8 @@ class Use(NamedTuple):
 
 class Timer(NamedTuple):
     """A timer that a goroutine made, reset or stopped. `object` is its channel (0 if the timer calls a function), and
-    `step` is the last step before. `due` is the time at which the timer goes off (-1 if it was stopped). For a timer
-    without a channel, the recording has only the call that made it."""
+    `step` is the last step before that. `due` is the time at which the timer goes off (-1 if it was stopped). For a
+    timer without a channel, the recording has only the call that made it."""
 
     object: int
     goid: int
@@ -138,7 +138,7 @@ class FailedDial(NamedTuple):
 
 class Held(NamedTuple):
     """A mutex that is locked at the end of the recording: the goroutine that locked it, how it is held (READ: for
-    reading), the stack that locked it, and the last step before."""
+    reading), the stack that locked it, and the last step before that."""
 
     object: int
     goid: int
@@ -245,8 +245,8 @@ class AllGoroutines:
             self._owned[goid] = number
 
     def goid_of(self, number: int, step: Optional[int] = None) -> int:
-        """Go's number for the goroutine that has `number` in the recording at a step. Without a step, for the last
-        goroutine that had it. 0 if unknown."""
+        """Go's number for the goroutine that has `number` in the recording at a step. Without a step, the result is for
+        the last goroutine that had it. It is 0 if unknown."""
         if step is None or number not in self.owners:
             return self._goids.get(number, 0)
         return next((goid for taken, goid in reversed(self.owners[number]) if taken < max(step, 1)), 0)

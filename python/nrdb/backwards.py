@@ -16,7 +16,7 @@ GOROUTINES = rb'\[\s*"(?:%s)"\s*,\s*(\d+)\b' % "|".join(OF_A_GOROUTINE).encode()
 
 
 def takings(recording: Recording, until: int, locks: Collection[Lock]) -> dict[Lock, Step]:
-    """The steps that took these locks, each held at a position. The step is the first `rwlock` after the last
+    """For each of these locks, which are held at a position, the step that took it: the first `rwlock` after the last
     `rwunlock`."""
     sought, taking = set(locks), dict[Lock, int]()
     if sought:

@@ -13,7 +13,7 @@ WINDOW = 2**14  # the number of bytes of lines that are parsed at once; they fit
 
 
 def next_step(text: str, place: int) -> int:
-    """The place at which the lines of the next step after a place begin; -1 if the text ends first."""
+    """The place, after a given place, at which the lines of the next step begin; -1 if the text ends first."""
     line = text.find("\n", place)
     step = text[line + 1 : text.find(" ", line) + 1]
     while step and text.startswith(step, line + 1):
@@ -90,8 +90,8 @@ class ChangedLines:
         return found
 
     def changes_of(self, cell: str, until: Optional[int] = None) -> Iterator[tuple[int, str]]:
-        """The steps that changed a cell, in rising order, with the new values. If `until` is given, only steps up to
-        that position."""
+        """The steps that changed a cell, in rising order, with the new values. If `until` is given, the result has only
+        steps up to that position."""
         named = b" %s = " % cell.encode()
         end = len(self._lasts) if until is None else bisect_right(self._lasts, until) + 1
         for piece in self.pieces[:end]:

@@ -23,7 +23,7 @@ def grouped(rows: list[Row], who_has: Callable[[int, str], str]) -> list[Row]:
 
 
 def _likeness(values: dict[str, Any]) -> Optional[Hashable]:
-    """A key that all goroutines have which wait for the same lock or event; None if the goroutine doesn't sleep."""
+    """A key that is equal for goroutines that wait for the same lock or event; None if the goroutine doesn't sleep."""
     if values.get("elsewhere"):
         return (values["waits_for"], *_place(values))
     name, *rest = values["status"].split()

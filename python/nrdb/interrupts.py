@@ -1,4 +1,4 @@
-"""Ctrl-C. Ctrl-C during a query takes effect only after nrdb has read the whole reply. A long search checks for it
+"""Ctrl-C. Ctrl-C during a query takes effect only after nrdb has read the whole reply. A long search checks for Ctrl-C
 between two queries. A second Ctrl-C while netrev doesn't answer ends the session."""
 
 import signal
@@ -62,7 +62,7 @@ class Interrupts:
         self._came = False
 
     def give_up(self) -> None:
-        """Raises GivenUp. Each later request raises it too."""
+        """Raises GivenUp, as does each later request."""
         self._is_given_up = True
         self.check_given_up()
 

@@ -72,7 +72,7 @@ class Timeout(NamedTuple):
 
 class Hold(NamedTuple):
     """A reference to a socket: the goroutine that holds it, the step that took it, and that step's kind. If the step
-    also took a lock, `side` is the lock's."""
+    also took a lock, `side` is the lock's side."""
 
     goroutine: int
     step: int

@@ -136,8 +136,8 @@ def given(notes: Notes, g: int, s: int, side: str = "") -> Note:
 
 
 def fitting(holds: list[Hold], g: int, side: str) -> Hold:
-    """The reference that a goroutine gives up: its own last reference of this kind. If it has none, another
-    goroutine's, because Go only counts references."""
+    """The reference that a goroutine gives up: its own last reference of this kind. If it has none, the reference is
+    another goroutine's, because Go only counts references."""
     of_the_sort = [one for one in holds if one.side == side]
     mine = [one for one in of_the_sort if one.goroutine == g]
     return (mine or of_the_sort or holds)[-1]

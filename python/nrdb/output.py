@@ -111,7 +111,7 @@ class Printer(ABC):
 
     @abstractmethod
     def echo(self, line: str) -> None:
-        """Prints a line that wasn't typed, in the way in which the prompt would show it."""
+        """Prints a line that wasn't typed, as the prompt would show it."""
 
     @abstractmethod
     def reply(self, line: str, reply: Reply, words: str) -> None:

@@ -48,7 +48,7 @@ def runs_of(session: Answering, lines: Sequence[str]) -> Iterator[Sequence[str]]
 
 
 def end_of_queries(lines: Sequence[str], first: int) -> int:
-    """The end of the queries that begin at a line, limited to as many as are sent together."""
+    """The end of the run of queries that begins at a line. A run has at most as many queries as are sent together."""
     size = 0
     for at in range(first, min(first + MOST, len(lines))):
         query = query_of(lines[at])

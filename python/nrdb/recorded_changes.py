@@ -127,7 +127,8 @@ class RecordedChanges:
         return [self.value(cell, position) for cell in cells]
 
     def steps_of(self, cell: str, until: Optional[int] = None) -> "array[int]":
-        """The steps that changed a cell, in rising order. If `until` is given, only steps up to that position."""
+        """The steps that changed a cell, in rising order. If `until` is given, the result has only steps up to that
+        position."""
         return array("I", (step for step, _ in self.changes_of(cell, until)))
 
     def nearest(
@@ -140,7 +141,8 @@ class RecordedChanges:
         return next((step for step in ways if are_wanted(self.values(step, cells))), None)
 
     def changes_of(self, cell: str, until: Optional[int] = None) -> list[tuple[int, str]]:
-        """The steps that changed a cell, with the new values. If `until` is given, only steps up to that position."""
+        """The steps that changed a cell, with the new values. If `until` is given, the result has only steps up to that
+        position."""
         self._wait(until)
         if self._is_asked_little():
             return list(self._lines.changes_of(cell, until))

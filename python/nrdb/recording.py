@@ -79,7 +79,7 @@ def shortened(text: str) -> str:
 
 
 class Recording:
-    """A recording's text. Steps are parsed when they are needed, because a recording may have a million."""
+    """A recording's text. Steps are parsed when they are needed, because a recording may have a million steps."""
 
     def __init__(self, data: bytes):
         self.data = data
@@ -218,7 +218,8 @@ class Recording:
             yield map(rows.__getitem__, lines)
 
     def steps_of(self, kinds: tuple[str, ...], until: int, socket: Optional[int] = None) -> Iterator[Step]:
-        """The steps of these kinds up to a position. If a socket is given, only the steps at that socket."""
+        """The steps of these kinds up to a position. If a socket is given, the result has only the steps at that
+        socket."""
         for number, values in self.arrays_like(kinds, until, socket):
             step = self._made(number, values)
             if step.kind in kinds and socket in (None, step.argument("s")):
@@ -253,7 +254,8 @@ class Recording:
         return self._numbers_at(places, self._numbers[1], begin)
 
     def _numbers_at(self, places: Iterable[int], line: int, begin: int) -> Iterator[int]:
-        """The numbers of the steps at these places of the text, which rise and begin at the beginning of a line."""
+        """The numbers of the steps at these places of the text, in rising order. The first search begins at `begin`,
+        where line `line` begins."""
         for place in places:
             line += self.data.count(b"\n", begin, place)
             begin = place

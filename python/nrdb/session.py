@@ -212,7 +212,7 @@ class Session:
 
     def back_to_a_break(self, sent: str, reply: Reply) -> Reply:
         """The reply to a move. If the move passed a break at a place of the program, the session moves back to that
-        break, and the result is the reply to that."""
+        break, and the result is the reply to this second move."""
         if not self.breaks.standing or not MOVED.fullmatch(reply.first):
             return reply
         position = move_of(sent, reply.first).position

@@ -37,7 +37,7 @@ class Refused(Exception):
 
 
 class Strange(Exception):
-    """Raised for a reply that netrev never gives, because another program answers."""
+    """Raised for a reply that netrev never sends: another program must have answered."""
 
     def __init__(self, line: str, reply: str):
         shown = reply if len(reply) <= SHOWN else f"{reply[: SHOWN - 2]}.."

@@ -12,7 +12,7 @@ from .output import Row, Table
 from .recording import Recording, Step
 from .words import SIDES
 
-# the steps that arm, stop and run timers, and those that reuse descriptors or advance the clock
+# steps that arm, stop and run timers, and steps that reuse descriptors or advance the clock
 FOLLOWED = frozenset(("pollopen", "pollclose", "setdeadline", "evict", "tick", "pop", "fire"))
 
 
@@ -94,7 +94,7 @@ def timer_words(recording: Recording, step: Step) -> str:
 
 
 def timers_beside(recording: Recording, position: int) -> Table:
-    """The timers of the last step and of the next one."""
+    """The timers of the last step and of the next step."""
     rows = []
     for number in (position, position + 1):
         step = recording.step_or_none(number)

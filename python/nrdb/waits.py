@@ -102,7 +102,7 @@ class Waits:
             some.sort(key=lambda wait: (wait.first, wait.begin))
 
     def at(self, name: Name, position: int) -> Optional[Waiting]:
-        """The wait in which a goroutine is at a position."""
+        """The wait that a goroutine is in at a position."""
         some = self.of.get(name, [])
         last = bisect_right(some, position, key=FIRST) - 1
         return some[last] if last >= 0 and some[last].is_at(position) else None

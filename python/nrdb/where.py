@@ -165,7 +165,7 @@ class Lines(AllGoroutines):
             self.times = array("q")
 
     def _add(self, line: dict[str, Any]) -> None:
-        """Adds a line after the first one."""
+        """Adds a line other than the first."""
         if "call" in line:
             self._calls[line["call"]] = Call(*(typed(line[name], sort) for name, sort in OF_CALL.items()))
         elif "stack" in line:
