@@ -1,5 +1,6 @@
-"""A session of nrdb with an event at some point of its communication with netrev: its output must be the same as without the event, or a
-part of that. `tests.test_interrupts` uses a model of netrev, `tests.program.nrdb.test_slow` the built program."""
+"""Runs a session of nrdb in which an event happens at some point of its communication with netrev. The session's output
+must be the same as without the event, or a part of that output. `tests.test_interrupts` uses a model of netrev, and
+`tests.program.nrdb.test_slow` uses the built program."""
 
 import io
 import json
@@ -76,7 +77,7 @@ class Played(NamedTuple):
         return self.told()
 
     def told(self) -> Events:
-        """The events since the last call; if the session has ended, those before its end."""
+        """The events that were printed since the last call."""
         return [json.loads(line) for line in self.out.getvalue().splitlines()]
 
     def end(self) -> None:
@@ -122,7 +123,7 @@ class Disturbances(unittest.TestCase, Generic[Of]):
         return played
 
     def probed(self, lines: Sequence[str]) -> tuple[int, Events]:
-        """The session's state after these lines, without an event, and its output there."""
+        """The session's state after these lines, and its output there, if no event happens."""
         played = self.begun()
         played.run(*lines)
         told = played.session.stood, played.run(*PROBES)
@@ -138,7 +139,8 @@ class Disturbances(unittest.TestCase, Generic[Of]):
         return played.weather.count - before, right
 
     def disturbed(self, command: str, action: Action[Of], count: int) -> Iterator[tuple[int, Played, Events, bool]]:
-        """For each point of a command at which this event happens: the session after it, the output, and whether the session goes on."""
+        """For each point of a command, yields what follows if this event happens there: the point, the session, the
+        output, and whether the session continues."""
         for point in range(count):
             played = self.begun()
             played.weather.left, played.weather.action = point, action
@@ -155,7 +157,7 @@ class Disturbances(unittest.TestCase, Generic[Of]):
             played.end()
 
     def check(self, commands: Sequence[str], actions: Sequence[Action[Of]]) -> int:
-        """Checks that the output during these commands and after them is right, whichever event happens at whichever point. Returns how
+        """Checks that the output during and after these commands is right for each event at each point. Returns how
         many sessions ended."""
         given_up = 0
         for command in commands:

@@ -1,4 +1,4 @@
-"""The examples, from the only list of them, examples/README.md."""
+"""The examples, as listed in examples/README.md."""
 
 import re
 from pathlib import Path
@@ -24,12 +24,12 @@ class Example(NamedTuple):
         return self.beside("jsonl")
 
     def beside(self, ending: str) -> Path:
-        """The file beside it with this ending."""
+        """The file beside the recording that has the same name and this extension."""
         return EXAMPLES / f"{self.name}.{ending}"
 
 
 def example_of(name: str, said: str) -> Example:
-    """The example of a row with this name and this text in the column of suspects."""
+    """The example in the row with this name, whose suspects column has this text."""
     refused = REFUSED_AT.fullmatch(said)
     if refused:
         return Example(name, None, int(refused[1]))

@@ -1,5 +1,6 @@
-"""Records the programs of tools/go/samples/causes, oversights, roots, turns, gone, skips, joins, sizes, sources, hands and chains with the `go`
-on the PATH, bad and good, and reports whether the first output has the line of each bug:
+"""Uses the `go` on the PATH to record the programs of tools/go/samples/causes, oversights, roots, turns, gone, skips,
+joins, sizes, sources, hands and chains, each with and without its bug. Reports whether the first output names the line
+of each bug:
 
     python3 python tests.go_caused [FOLDER]    keeps the recordings in FOLDER, as in python/tests/caused
 """
@@ -69,7 +70,7 @@ NAMES = {
 
 
 def source_of(name: str) -> pathlib.Path:
-    """The source of the program that has a bug."""
+    """The source of the program with this name."""
     return next(source for source, names in NAMES.items() if name in names)
 
 
@@ -104,7 +105,8 @@ def recorded(go: Go, program: pathlib.Path, words: list[str], name: pathlib.Path
 
 
 def of_one(go: Go, program: pathlib.Path, name: str, folder: pathlib.Path) -> tuple[bool, int]:
-    """Records a program bad and good, and prints a line; returns whether its bug is named, and how many suspects the good run has."""
+    """Records a program with and without its bug, and prints a line. Returns whether the bug is named, and the number
+    of suspects in the good run."""
     bad, good = (folder / f"{name}-{kind}.jsonl" for kind in ("bad", "good"))
     ended = recorded(go, program, [name, "bad"], bad), recorded(go, program, [name, "good"], good)
     is_named = bug_line(name) in "\n".join(first_words(Recording.read(str(bad)), name))

@@ -1,5 +1,5 @@
-"""netrev-go with a real Go, in situations in which a run could be lost: a program that execs another one, and what its children inherit. It
-needs Go and netrev; `make real` runs it."""
+"""Tests netrev-go with a real Go in situations in which a run could be lost: for example, a program execs another
+program, or its children inherit its environment. It needs Go and netrev; `make real` runs it."""
 
 import os
 import pathlib

@@ -1,7 +1,7 @@
-"""Sends netrev-go SIGQUIT, SIGHUP, SIGTERM and SIGKILL in turn, at random times of `run` and of `test`, and counts the runs that are lost.
-It needs Go and netrev.
+"""Sends netrev-go SIGQUIT, SIGHUP, SIGTERM and SIGKILL in turn, at random times during `run` and `test`, and counts the
+runs that are lost. It needs Go and netrev.
 
-    python3 python tests.go_killed [--runs N] [--seed S] [RELEASE ..]    prints a line for each run, and the sums"""
+    python3 python tests.go_killed [--runs N] [--seed S] [RELEASE ..] prints a line for each run, and the totals"""
 
 import argparse
 import os
@@ -69,8 +69,8 @@ class Trial:
         return run.stderr
 
     def run(self, number: int, command: str, sent: signal.Signals, seconds: float) -> str:
-        """Makes one run, with a signal this many seconds after the program's beginning, or netrev-go's; returns its status and its
-        outcome."""
+        """Makes one run, and sends a signal this many seconds after the program has begun, or, if the number is
+        negative, after netrev-go has begun. Returns the run's status and outcome."""
         errors = self.folder / f"errors {number}"
         with errors.open("w") as file:
             running = subprocess.Popen(

@@ -1,5 +1,5 @@
-"""Changes that a future release of Go may have, planted into a copy of Go 1.27: doctor names each, and nothing is recorded. It needs
-netrev, and Go 1.27 or Debian's packages of it; `make real` runs it."""
+"""Plants changes that a future release of Go may have into a copy of Go 1.27: doctor must name each change, and nothing
+may be recorded. It needs netrev, and Go 1.27 or Debian's packages of it; `make real` runs it."""
 
 import contextlib
 import os
@@ -22,7 +22,7 @@ CHECKED = """		errcode = netpollcheckerr(pd, int32(mode))
 			return errcode
 		}
 """
-# for each change: the replacements in files, each made wherever its text occurs, and doctor's message
+# for each change, the texts to replace in files, at all their occurrences, and doctor's message
 PLANTED: dict[str, tuple[list[Change], str]] = {
     "a renamed call": (
         [(POLL, {"netpollcheckerr(": "netpollerror("})],

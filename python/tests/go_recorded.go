@@ -1,5 +1,6 @@
-// Scenes on one processor whose log is the same in each run (go_recorded.py): connections of each kind, deadlines,
-// queues for a lock, channels, timers, WaitGroups, locks and dials, and at the end notes of open descriptors.
+// Runs scenes on one processor, so that the log is the same in each run (go_recorded.py). The scenes have connections
+// of each kind, deadlines, queues for a lock, channels, timers, WaitGroups, locks and dials, and at the end notes of
+// open descriptors.
 package main
 
 import (
@@ -230,7 +231,8 @@ func held(mutex, unlocked *sync.Mutex, shared, written *sync.RWMutex) {
 	runtime.Gosched()
 }
 
-// open makes connections in each state that notes have; it sets the last one's deadlines again until there are notes.
+// open makes a connection in each state that notes can have, and sets the last connection's deadlines repeatedly until
+// the log has notes.
 func open() {
 	a, b := pair("tcp4", "127.0.0.1:0")
 	for i := 0; i < 2; i++ {

@@ -1,12 +1,13 @@
-"""Servers that run until their ring has been overwritten many times, and then have a bug: netrev must accept the recording of `netrev-go
-watch` or `snapshot`; the recording must contain the connection with the bug, which is older than the oldest point; and the output must name
-the bug's line.
+"""Runs servers until their ring has been overwritten many times; then a bug occurs. netrev must accept the recording
+that `netrev-go watch` or `snapshot` makes. The recording must contain the connection with the bug, which is older than
+the oldest point, and the output must name the bug's line.
 
     python3 python tests.go_servers [--seconds N] [--points N] [--connections N] [--pause N] [--stuck T] [--gopath FOLDER] [--keep FOLDER] [NAME ..]
 
-The servers are samples of tools/go: `keep` needs only Go, `stream` needs Debian's golang-google-grpc-dev below GOPATH, and `pool` needs
-Debian's golang-github-lib-pq-dev there and PostgreSQL (postgresql). The bug comes after N seconds. It prints a line for each server; with
---keep the recordings and the output about them stay. The exit status is 1 if a server fails.
+The servers are samples of tools/go: `keep` needs only Go; `stream` needs Debian's golang-google-grpc-dev below GOPATH;
+`pool` needs PostgreSQL (postgresql), and Debian's golang-github-lib-pq-dev below GOPATH. The bug comes after N seconds.
+It prints a line for each server. --keep keeps the recordings and the output about them. The exit status is 1 if a
+server fails.
 """
 
 import argparse
@@ -37,8 +38,8 @@ POSTGRES = "/usr/lib/postgresql/*/bin"
 
 @dataclass(frozen=True)
 class Server:
-    """A sample with a bug: the options of the watch that waits for the bug, or None if a snapshot is made after it; and the expected
-    output, in which {line} is the place of the bug."""
+    """A sample with a bug. It has the options of the `watch` that waits for the bug, or None if a snapshot is made
+    after the bug, and the expected output, in which {line} is the bug's place."""
 
     sample: str
     bug: str
@@ -87,7 +88,7 @@ def free_port() -> int:
 
 @contextmanager
 def database(folder: pathlib.Path) -> Iterator[dict[str, str]]:
-    """The environment for a PostgreSQL client. The server refuses to run as root; in that case another user runs it."""
+    """The environment for a PostgreSQL client. The server refuses to run as root, so root runs it as another user."""
     commands = max(pathlib.Path("/").glob(POSTGRES.lstrip("/")), default=None)
     if commands is None:
         sys.exit("PostgreSQL isn't here: apt-get install postgresql")
@@ -176,7 +177,8 @@ def ran(
 
 
 def late_suspects(printed: str, name: pathlib.Path) -> str:
-    """The suspects, in case netrev-go didn't wait for them because an unproved netrev is slow."""
+    """nrdb's output about the suspects if netrev-go didn't wait for it, as happens with a slow, unproved netrev;
+    otherwise empty."""
     if "for the suspects" not in printed:
         return ""
     words = [str(ROOT / "nrdb"), "--suspects", str(name.with_suffix(".jsonl"))]

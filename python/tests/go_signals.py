@@ -1,4 +1,5 @@
-"""Copies of a log on SIGUSR2, which a program's owner turns on. It needs Go and netrev; `make real` runs it."""
+"""Tests copies of a log that a program makes on SIGUSR2 if its owner has turned that on. It needs Go and netrev; `make
+real` runs it."""
 
 import os
 import pathlib
@@ -11,7 +12,7 @@ from typing import Callable
 from netrev_go.logfile import read_log
 from tests.go_tool import Tool, program
 
-# echoes bytes as long as it runs; with an argument it has a signal handler of its own
+# sends itself bytes until it is killed; if it has an argument, it also handles SIGUSR2
 RUNS = program(
     "\tif len(os.Args) > 1 {\n\t\tasked := make(chan os.Signal, 1)\n\t\tsignal.Notify(asked, syscall.SIGUSR2)\n"
     '\t\tgo func() {\n\t\t\tfor range asked {\n\t\t\t\tfmt.Println("asked")\n\t\t\t}\n\t\t}()\n\t}\n'

@@ -1,5 +1,6 @@
-// Streams whose writers wait: each connection has a sender with a deadline for each write, a second sender that wants
-// the same lock, and a slow reader, until the connection is closed, one side first, and opened again.
+// Runs streams whose writers wait. Each connection has two senders, which set a deadline for each write and want the
+// same lock, and a slow reader. Then one side closes the connection, the other side follows, and the stream begins
+// again.
 package main
 
 import (

@@ -23,7 +23,7 @@ PATIENCE = 120.0  # seconds
 
 
 def until(name: str) -> str:
-    """A line for a script that waits for a file, at most as long as the test's folder exists."""
+    """A line of a shell script that waits until this file exists, or until the test's folder is removed."""
     return f"while [ -e go ] && [ ! -e {name} ]; do sleep 0.05; done"
 
 
@@ -31,8 +31,8 @@ WAITS = until("never")
 
 
 def reset_signals(ignored: int | None = None) -> None:
-    """Makes this process ignore at most one signal. The process that runs the tests may ignore others, as under nohup, and children inherit
-    that."""
+    """Makes this process ignore only this signal, or none. The process that runs the tests may ignore other signals, as
+    under nohup, and its children inherit that."""
     for number in (signal.SIGHUP, signal.SIGINT, signal.SIGQUIT, signal.SIGTERM):
         signal.signal(number, signal.SIG_IGN if number == ignored else signal.SIG_DFL)
 

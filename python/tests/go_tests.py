@@ -129,7 +129,7 @@ class Tested(Tool):
                 self.assertEqual((status, self.made(how)), (1, ["p.TestEnds.jsonl"]), said)
 
     def same(self, *words: str) -> int:
-        """The exit status of both Go and netrev-go."""
+        """Checks that Go and netrev-go end with the same exit status, and returns it."""
         plainly = subprocess.run(
             ["go", "test", *words], cwd=self.folder, env=self.environment(), capture_output=True, check=False
         )

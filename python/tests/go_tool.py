@@ -77,7 +77,7 @@ RACING = program(
 )
 
 
-# a goroutine reads, and prints the result, in each of these ways; then its socket is closed
+# a goroutine reads in each of these ways and prints the result; then its socket is closed
 TELLS = (
     ("done := make(chan int)", "done <- 1", "<-done", ()),
     ("done := make(chan int, 1)", "done <- 1", "time.Sleep(5e6); <-done", ("time",)),
@@ -320,7 +320,7 @@ class Sentences(Tool):
         self.written(program("\t_ = a"))
         self.written("package main\n\nfunc main() {}\n", "none.go")
         python = str(pathlib.Path(sys.executable).parent)
-        # (Go 1.21 looks into its own cache first, which is in the same folder unless its variable is set)
+        # (Go 1.21 reads its own cache first, which is below the same folder unless GOCACHE is set)
         nowhere = {"XDG_CACHE_HOME": "/proc/none", "GOCACHE": str(self.folder / "go-build")}
         ways: tuple[tuple[tuple[str, ...], dict[str, str], str], ...] = (
             (("run", "none.go"), {}, "no socket was opened"),

@@ -1,7 +1,8 @@
 // Command go_untouched contains small programs that observe what a recorder could affect: descriptors, files, output,
-// limits and children. Each is run with and without recording (go_untouched.py), and must leave and print the same:
+// limits and children. go_untouched.py runs each program with and without recording, which must make no difference to
+// its output and to what it leaves:
 //
-//	go_untouched NAME      runs one, in the current folder
+//go_untouched NAME runs a program in the current folder
 package main
 
 import (
@@ -63,7 +64,7 @@ var programs = map[string]func(){
 	"files of some size":   func() { limited(fileSize, 8<<20, "works") },
 	"no more files":        func() { limited(syscall.RLIMIT_NOFILE, 12, "works") },
 	"little address space": func() { limited(syscall.RLIMIT_AS, 2<<30, "works") },
-	// Ends, signals and the rest.
+	// Ways to end, signals, and other behaviour.
 	"status 77":         func() { work(); os.Exit(77) },
 	"panic":             func() { work(); panic("now") },
 	"killed":            func() { work(); end(syscall.SIGKILL) },
@@ -101,7 +102,7 @@ func pair() (net.Conn, net.Conn) {
 	return a, b
 }
 
-// work logs so many points that the recorder takes more room for them, and leaves no socket open.
+// work makes so many points that the recorder's log grows, and leaves no socket open.
 func work() {
 	a, b := pair()
 	passes(a)
@@ -183,7 +184,8 @@ func closeStreams() {
 	}
 }
 
-// closeWhileItWorks closes everything except sockets and what Go's poller has, and opens files of its own that get the same numbers.
+// closeWhileItWorks closes all descriptors except sockets and those of Go's poller, and opens files that get the same
+// numbers.
 func closeWhileItWorks() {
 	a, _ := pair()
 	known := map[int]bool{}

@@ -1,7 +1,8 @@
 """Runs the small programs of go_untouched.go with and without recording, and compares the results:
 output, status and files.
 
-    python3 python tests.go_untouched [RELEASE ..]    prints a line for each program, with these releases of Go or those that are here"""
+    python3 python tests.go_untouched [RELEASE ..] prints a line for each program, with these releases of Go or with all
+    that are installed"""
 
 import contextlib
 import os
@@ -46,7 +47,7 @@ def go_of(release: str) -> Go:
 
 
 class Programs:
-    """The programs, built without a Go's overlay and with it."""
+    """The programs, built with and without netrev's overlay for a release of Go."""
 
     def __init__(self, go: Go, folder: Path) -> None:
         self._folder, self._runs = folder, 0
@@ -90,7 +91,7 @@ def wait_for(file: Path) -> None:
 
 
 def files_below(folder: Path) -> dict[str, tuple[int, bytes]]:
-    """The files below a folder, by name; a link has the name of its target."""
+    """For each name below a folder, the file's mode and contents; a link's contents are the name of its target."""
     found = {}
     for path in sorted(folder.rglob("*")):
         mode = path.lstat().st_mode

@@ -1,5 +1,6 @@
-"""Each kind of wait outside the poller, and the uses of channels, in a program's NAME.where: with each installed release of Go
-(netrev_go.fetching), or with the `go` on the PATH if there is none. `make real` runs it."""
+"""Checks each kind of wait outside the poller, and the uses of channels, in a program's NAME.where. The program is
+recorded with each installed release of Go (netrev_go.fetching), or with the `go` on the PATH if no release is
+installed. `make real` runs it."""
 
 import os
 
@@ -98,7 +99,8 @@ BODY = """
 	b.Read(make([]byte, 1))"""
 PROGRAM = program(BODY, "context", "sync", "time").replace("\nfunc main", FUNCTIONS + "\nfunc main")
 
-# What each function waits for, the kind of the object, a channel's capacity, and its use there.
+# For each function: what it waits for, the kind of the object, a channel's capacity, and how the function uses the
+# channel.
 WAITS: dict[str, tuple[str, list[tuple[str, int, str]]]] = {
     "receives": (where.A_VALUE, [("channel", 0, where.FOR_VALUE)]),
     "receivesOfMade": (where.A_VALUE, [("channel", 3, where.FOR_VALUE)]),

@@ -1,4 +1,4 @@
-"""Writes a recorder's log as text; its program has to be beside it:
+"""Prints a recorder's log as text; the program must be beside the log:
 
     python3 python tests.golog LOG"""
 

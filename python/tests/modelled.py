@@ -23,12 +23,12 @@ def recording_at(path: Path) -> Recording:
 
 
 def changes_at(path: Path) -> RecordedChanges:
-    """The changes of each step of the recording, according to the model."""
+    """The changes that each step of the recording makes, according to the model."""
     return changes_in(path.read_bytes())
 
 
 def changes_in(recording: bytes) -> RecordedChanges:
-    """The changes of each step of the recording with this text, according to the model."""
+    """The changes that each step makes in the recording with this text, according to the model."""
     lines, _ = changes(recording, Observer())
     return RecordedChanges.read(f"{line}\n".encode() for line in lines)
 

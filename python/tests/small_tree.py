@@ -201,7 +201,7 @@ TREE = {
 
 
 class SmallTree(unittest.TestCase):
-    """A test on the small tree, in its own folder, with one law and a program of another name."""
+    """A test on the small tree in a folder of its own. The tree has one law, and its program is named `counting`."""
 
     def setUp(self) -> None:
         self.top = Path(tempfile.mkdtemp())

@@ -1,5 +1,5 @@
-"""Answers that don't arrive: they stay in a buffer, the WriteTimeout of an http.Server cuts them off, or none is sent to a datagram; and
-requests that a buffered reader has read ahead."""
+"""Answers that don't arrive, because they stay in a buffer, because the WriteTimeout of an http.Server cuts them off,
+or because a datagram gets none; and requests that a buffered reader has read ahead."""
 
 import tempfile
 import unittest
@@ -175,7 +175,8 @@ class NewReaders(WithFile):
 
 class LateAnswers(unittest.TestCase):
     def recording(self, function: str) -> Recording:
-        """The recording of a Write after its deadline, with only functions of net/http on its stack, one of which set the deadline."""
+        """The recording of a Write after its deadline. Its stack has only functions of net/http, one of which set the
+        deadline."""
         recording = stored("overdue-bad")
         lines = recording.lines
         (call,) = [call for call in index_of(recording).failed(recording.length) if call.name == "Write"]

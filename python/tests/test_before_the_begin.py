@@ -20,7 +20,7 @@ NOBODY_WROTE = "Nobody has written anything on this connection"
 
 
 def begun(begins: int, steps: list[Any]) -> Recording:
-    """A recording of these steps, the first of which lead to its first state."""
+    """A recording of these steps, which begin with the steps that lead to its first state."""
     recording = with_lines(steps)
     recording.lines.prelude = begins
     return recording

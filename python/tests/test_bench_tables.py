@@ -24,13 +24,13 @@ OF = {BEFORE: 0.008, NOW: 0.004, BASELINE: 0.001}
 
 
 def figures(steps: int, times: float, programs: tuple[str, ...]) -> Figures:
-    """Figures that are multiples of the programs' time for a step. Memory is the same in all."""
+    """Figures that are multiples of each program's time for a step. All programs have the same memory."""
     return {program: {"walk": OF[program] * steps * times, "memory": 40.0} for program in programs}
 
 
 def measured(*programs: str, sizes: tuple[int, ...] = (1_000, 10_000)) -> Measurement:
-    """Two shapes. From the first to the second, the baseline's figures fall to a quarter, and the other programs' stay
-    the same."""
+    """Figures of two shapes of recording. The baseline's figures for the second shape are a quarter of those for the
+    first; the other programs' figures are the same for both."""
     found = {}
     for steps in sizes:
         found["locks", steps] = figures(steps, 1, programs)
@@ -81,12 +81,12 @@ class OneFigure(unittest.TestCase):
 
 
 def cases(*programs: str) -> Cases:
-    """The two shapes at one size."""
+    """The figures of the two shapes for recordings of one size."""
     return measured(*programs, sizes=(1_000,)).at(1_000)
 
 
 def named(name: str, of: Cases) -> Cases:
-    """The cases with only the figures of a walk, under another name."""
+    """These cases with only the figures of the walk, under another name."""
     return {case: {one: {name: figures["walk"]} for one, figures in all_of.items()} for case, all_of in of.items()}
 
 

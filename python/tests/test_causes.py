@@ -1,5 +1,6 @@
-"""The first output for programs that failed, in recordings of tools/go/samples/causes and oversights (made by tests.go_caused): it has the
-line of the bug. And the rules about calls: each finds its bug, and not a similar correct program."""
+"""The first output for programs that failed, in recordings of tools/go/samples/causes and oversights (made by
+tests.go_caused): it has the line of the bug. Each rule about calls finds its bug, and finds nothing in a similar
+correct program."""
 
 import contextlib
 import json
@@ -118,7 +119,8 @@ PAIRS = {
 
 
 def with_lines(steps: Steps, of: str = "program") -> Recording:
-    """A recording of these steps, with the lines of a single call, and with sockets 0 and 1 as the ends of one connection."""
+    """A recording of these steps, all of which have the source line of the same call. Sockets 0 and 1 are the ends of
+    one connection."""
     recording = recording_of(steps)
     told: list[Any] = [
         {"where": 1, "steps": len(steps)},
@@ -277,8 +279,8 @@ class Rules(unittest.TestCase):
             self.assertNotIn("end not passed on", rules_of(with_lines(steps)))
 
     def test_a_timeout_by_a_deadline_under_which_calls_went_well_is_no_suspect(self) -> None:
-        """It is reported with the failed call: the line that set the deadline, and how many calls succeeded under
-        it."""
+        """The text about the failed call has the line that set the deadline and the number of calls that succeeded
+        before the deadline passed."""
         for name in ("forgotten", "pool"):
             recording = Recording.read(str(CAUSED / f"{name}-bad.jsonl"))
             self.assertEqual(all_suspects_of(recording).suspects, [])

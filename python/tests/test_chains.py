@@ -1,6 +1,6 @@
-"""Resources that were left open, locked or unflushed, in recordings of tools/go/samples/chains (made by tests.go_caused): the
-first cause names the line with the reason, and no cause of the good run does. And exceptions from the rules, with pieces of
-source."""
+"""Resources that were left open, locked or unflushed, in recordings of tools/go/samples/chains (made by
+tests.go_caused): the first cause names the line with the reason, and no cause of the good run does. Pieces of source
+test the exceptions to the rules."""
 
 import re
 from pathlib import Path
@@ -24,8 +24,8 @@ from tests.go_caused import CHAINS, NAMES, bug_line
 from tests.test_causes import TWO_ENDS, in_the_folder_of_the_source, with_lines
 from tests.test_needs import stored, use
 
-# For each program, the text of the first cause, with {bug} for the line of the bug, and the reason, which no good run
-# has.
+# For each program: the text of the first cause, in which {bug} stands for the line of the bug, and the reason, which
+# doesn't occur in good runs.
 SAYS = {
     "probed": ("Perhaps it was left open on this way: {bug} returns without a Close.", "is still open"),
     "looped": ("It is closed only as pollAll returns: the defer at {bug} is in a loop.", "is still open"),
@@ -193,7 +193,7 @@ def test_channels_of_a_function_alone(tmp_path: Path, line: str, is_so: bool) ->
 
 
 def edited(recording: Recording, folder: Path, line: str, new: str) -> str:
-    """The first output for a recording if a line of its program's source were different."""
+    """The first output for a recording with a changed line in its program's source."""
     source = CHAINS.read_text(encoding="utf-8")
     assert source.count(line) == 1
     folder.mkdir()

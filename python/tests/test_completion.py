@@ -1,4 +1,4 @@
-"""Completions at the prompt, and the commands for which other debuggers' words stand."""
+"""Completions at the prompt, and the commands of nrdb that other debuggers' command names stand for."""
 
 import unittest
 

@@ -1,5 +1,5 @@
-"""`condition`: a mark stops only if a cell has a certain value, in either direction, for netrev's marks and for breaks at places of the
-program, with a model of netrev."""
+"""`condition` makes a mark stop only if a cell has a certain value. The tests move in both directions, with netrev's
+marks and with breaks at places of the program, and use a model of netrev."""
 
 from pathlib import Path
 
@@ -18,7 +18,7 @@ def prompt() -> Prompt:
 
 
 def positions_at(prompt: Prompt, kind: str) -> list[int]:
-    """The positions before the steps of a kind."""
+    """The positions from which a step of this kind is made."""
     text = prompt.session.text()
     return [step.number - 1 for step in text.steps_of((kind,), text.length)]
 

@@ -50,7 +50,7 @@ def polled(interrupts: Interrupts) -> None:
 
 
 def rules(interrupts: Interrupts) -> None:
-    """Work without queries to netrev, like that of the filters' rules."""
+    """Work without queries to netrev, such as the evaluation of the filters' rules."""
     with interrupts.at_once():
         busy(interrupts)
 
@@ -184,7 +184,7 @@ class Heard(unittest.TestCase):
         self.assertRaises(Malformed, self.hearing.request)
 
     def test_of_what_waits_so_much_is_held(self) -> None:
-        """A sender that doesn't stop is read again when there is room."""
+        """When there is room again, messages are read even from a sender that never stops."""
         message = framed(1, "evaluate", expression="x" * 1_000)
         with patch.object(hearing, "MOST_HELD", 3_000):
             sending = Thread(target=self.sends, args=[message * 1_000], daemon=True)
@@ -214,8 +214,8 @@ def messages_in(data: bytes) -> list[dict[str, Any]]:
 
 
 def told_of_work(command: str, shows: bool, told: int, refuses: bool = False) -> list[dict[str, Any]]:
-    """The messages to an editor about work on a request, which is done after this many messages; `shows` is whether the editor shows
-    progress."""
+    """The messages to an editor about work on a request that ends after this many messages. `shows` says whether the
+    editor shows progress."""
     written = io.BytesIO()
     with patch.object(working, "LATE", 0.05 if told else 60), patch.object(working, "AGAIN", 0.05):
         work = Work(Wire(io.BytesIO(), written), Request(7, command), shows)

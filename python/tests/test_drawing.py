@@ -1,5 +1,5 @@
-"""The picture as SVG and the diagram of `report`: each call and each step occurs once, the steps of the story are numbered, and text from
-outside is escaped."""
+"""The SVG picture and the diagram of `report`: each call and each step occurs once, the steps of the story are
+numbered, and text from a recording is escaped."""
 
 import re
 import unittest

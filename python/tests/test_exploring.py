@@ -1,5 +1,5 @@
-"""Exploring without netrev: a schedule without delays repeats the recording step by step; a race that doesn't occur in a good run is found,
-and nothing in a correct program; and the text about findings."""
+"""Exploring without netrev: a schedule without delays repeats the recording step by step; a race that doesn't occur in
+a good run is found, and none is found in a correct program; and the text about findings."""
 
 import json
 import unittest

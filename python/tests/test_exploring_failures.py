@@ -1,5 +1,5 @@
-"""Calls that succeed in the recording and fail in another schedule: each kind is found, and none in a similar correct program; and the good
-runs of programs in tools/go/samples/causes that show their bugs."""
+"""Exploring finds calls that succeed in the recording and fail in another schedule: each kind of failure, and none in a
+similar correct program. It also finds bugs of programs in tools/go/samples/causes in their good runs."""
 
 import unittest
 from pathlib import Path
@@ -21,7 +21,7 @@ from tests.test_suspects import OPEN, Steps, recording_of
 
 CAUSED = Path(__file__).parent / "caused"
 SCHEDULES = 300
-# the good runs in which a failure is found, and its place
+# the good runs in which exploring finds a failure, and the failure's place
 FOUND = {
     "once": {"main.go:46 bufio.(*Scanner).Scan", "main.go:48 fmt.Fprintln"},
     "pool": {"main.go:55 bufio.(*Reader).ReadString"},
@@ -38,7 +38,7 @@ CLOSES: Steps = [["increfclose", 0, 0], ["evict", 0, 0], ["decref", 0, 0], ["pol
 
 
 class Sort(NamedTuple):
-    """A good run in which a call may fail, and why; and a similar run in which none can."""
+    """A good run in which a call may fail, the reason, and a similar run in which no call can fail."""
 
     why: Why
     good: Steps
@@ -62,7 +62,7 @@ def explored(recording: Recording, most: int = SCHEDULES) -> Exploring:
 
 
 def caused(name: str) -> Recording:
-    """The good run of a program with a bug."""
+    """The recording of a program's run without its bug."""
     path = CAUSED / f"{name}-good.jsonl"
     recording = Recording.read(str(path))
     recording.lines = Lines.beside(str(path), recording.length)

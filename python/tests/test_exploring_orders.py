@@ -1,5 +1,5 @@
-"""Each schedule respects the program's orders, and what the network may answer; the calls that hang are those whose deadline was set; and a
-deadline that no goroutine sees pass in the recording may pass."""
+"""Each schedule respects the program's orders and what the network may answer. The calls that hang are those whose
+deadline was set, and a deadline that no goroutine sees pass in the recording may pass."""
 
 import unittest
 from itertools import islice
@@ -43,7 +43,7 @@ LATE += [["rwlock", 1, 0, "w"], ["pollreset", 1, 0, "w"], ["syswrite", 1, 0, "00
 
 
 def script_with(orders: Optional[Pairs]) -> Script:
-    """The script of a read that a deadline ends, in a program that enforces these orders."""
+    """The script of a program that enforces these orders and in which a deadline ends a read."""
     recording = recording_of(GOOD)
     recording.lines.orders = orders
     return script_of(recording)

@@ -1,4 +1,4 @@
-"""Several processes have the same findings as one, and after Ctrl-C their findings are kept."""
+"""Several processes find the same as one process, and Ctrl-C doesn't discard their findings."""
 
 import pickle
 import sys

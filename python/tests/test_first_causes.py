@@ -1,5 +1,5 @@
-"""The causes use netrev's list of changes, and compute the changes themselves if netrev doesn't answer. And `info
-hangs` when a session opens."""
+"""The causes use netrev's list of changes, and compute the changes themselves if netrev doesn't answer. Other tests are
+about `info hangs` when a session opens."""
 
 import contextlib
 import io
@@ -69,7 +69,7 @@ class ByNetrev(unittest.TestCase):
 
 class Printed(unittest.TestCase):
     def printed(self, *words: str) -> tuple[int, str, str]:
-        """The exit status and the output of `python3 python nrdb.causes` with these words."""
+        """The exit status and the output of `python3 python nrdb.causes` with these arguments."""
         said, complained = io.StringIO(), io.StringIO()
         with contextlib.redirect_stdout(said), contextlib.redirect_stderr(complained):
             status = causes.main([*words])

@@ -1,4 +1,4 @@
-"""If netrev is killed, no recording is reported as rejected, because none was checked."""
+"""If netrev is killed, netrev-go reports no recording as rejected, because none was checked."""
 
 import pathlib
 import unittest

@@ -1,5 +1,5 @@
-"""The output about a server's cost. The programs print fixed figures and leave a log with a given number of points, so
-no Go is needed."""
+"""The output about what recording a server costs. The programs print fixed figures and leave a log with a given number
+of points, so no Go is needed."""
 
 import io
 import pathlib
@@ -12,8 +12,8 @@ from netrev_go.costs import CONNECTIONS, SERVED, Served, tell_served
 
 from .folders import folder_of
 
-# Without a log, with runtime/trace, with the FlightRecorder, and with a log: nanoseconds and bytes of a request. The
-# log is beside the program.
+# A server that prints the nanoseconds and bytes of a request: without a log, with runtime/trace, with the
+# FlightRecorder, and with a log. The log is beside the program.
 SERVER = """#!/bin/sh
 [ -z "${NETREV_LOG-}" ] || cp "$0.log" "$NETREV_LOG.7"
 [ -z "${NETREV_LOG-}" ] || : > "$NETREV_LOG.program.1.2"

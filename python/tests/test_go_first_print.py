@@ -30,12 +30,12 @@ class FirstPrint(Run):
         self.said: list[list[str]] = []
 
     def hear(self, lines: list[str], stream: object = None) -> None:
-        """Receives the output, and lets the check end."""
+        """Receives a piece of the output, and lets the check continue."""
         self.said.append(lines)
         (self.folder / "heard").touch()
 
     def first(self, ends: type[BaseException]) -> int:
-        """netrev-go's status if the suspects end in this way."""
+        """netrev-go's status if the search for suspects ends with this exception."""
         seen = list[int]()
 
         def suspects(netrev: str, recording: pathlib.Path) -> list[str]:

@@ -97,7 +97,7 @@ class Found(unittest.TestCase):
         self.assertEqual((found.born, found.ended), ({7: Born(1, 1, 3_000)}, {7: (2, 15_000)}))
 
     def uses(self, points: Points, address: int = CHANNEL) -> dict[tuple[int, str, int], int]:
-        """How often goroutines acted at the channel, by goroutine, action, and stack."""
+        """How often goroutines used the channel, by goroutine, action, and stack."""
         found = points.found().uses
         self.assertLessEqual({use.address for use in found}, {address})
         return {(use.goroutine, use.what, use.stack): span.often for use, span in found.items()}
@@ -163,7 +163,7 @@ OF_GO = Call("net/http.(*persistConn).readLoop", "net/http/transport.go", 9, "go
 
 
 def of_sync(*names: str) -> Calls:
-    """A stack with these functions of package sync, from the innermost, called by the program."""
+    """A stack in which the program calls these functions of package sync, the innermost first."""
     return Calls((*(Call(name, "sync/x.go", 3, "go") for name in names), PROGRAM), None)
 
 
@@ -302,7 +302,8 @@ class Limits(unittest.TestCase):
         self.assertEqual(read.left_out, [LeftOut(where.A_VALUE, 0, 0, 48)])
 
     def test_a_program_of_a_hundred_thousand_goroutines_has_room(self) -> None:
-        """Each waits at its own channel to the end, some have slept before, and one more has steps."""
+        """Each of the goroutines waits at its own channel to the end, and some of them have slept before. One further
+        goroutine has steps."""
         count, sleepers = 100_000, 1_000
         points = list(opened(1))
         for goid in range(10, count + 10):

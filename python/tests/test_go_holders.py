@@ -1,5 +1,5 @@
-"""The mutexes that are locked when a log ends: the table of a made-up log, its steps and lines, and these as nrdb reads them. No program is
-needed."""
+"""The mutexes that are locked when a log ends: the table of a made-up log becomes steps and lines, which nrdb reads. No
+program is needed."""
 
 import json
 import struct

@@ -36,7 +36,7 @@ class Keeping(unittest.TestCase):
             tool.chmod(0o700)
 
     def ran(self, tool: str, *words: str, room: int = 10**6, broken: str = "") -> int:
-        """The status of a tool that is run in the way that Go runs it."""
+        """The status of a tool that is run as Go runs it."""
         command = ["sh", str(self.script), str(self.folder / "kept"), str(room), str(self.folder / tool), *words]
         return subprocess.run(
             command, cwd=self.folder, env={"BROKEN": broken, "PATH": "/usr/bin:/bin"}, check=False

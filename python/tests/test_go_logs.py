@@ -1,4 +1,5 @@
-"""The recorder's logs can be read whatever their damage, and the stored logs give the stored recordings and lines."""
+"""The recorder's logs can be read even if they are damaged, and the stored logs become the stored recordings and
+lines."""
 
 import pathlib
 import random
@@ -138,7 +139,7 @@ class Times(unittest.TestCase):
 
 
 class StacksOfCalls(unittest.TestCase):
-    """A point within a call needs no stack: its step has the stack with which the call came to the socket."""
+    """A point within a call needs no stack: its step has the stack with which the call began to use the socket."""
 
     def stacks(self, *points: tuple[Kind, int, int, int]) -> list[int]:
         """The stacks of the steps for points after the opening of two sockets: each point is a kind, a goroutine, a socket, and a stack."""

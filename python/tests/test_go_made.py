@@ -1,5 +1,5 @@
-"""The places where channels are made, also at a reused address, and dials that fail: from points of made-up logs, in the lines that are
-written and as nrdb reads them; and the functions that belong to the recorder itself. No program is needed."""
+"""The places where channels are made, also at a reused address, and dials that fail: made-up logs become lines, which
+nrdb reads. Other tests are about the functions that belong to the recorder itself. No program is needed."""
 
 import errno
 import json
@@ -108,7 +108,8 @@ class Channels(unittest.TestCase):
 
 class Dials(unittest.TestCase):
     def dials(self) -> Points:
-        """A dial with a cancelled context, one that the system refused, and one that was given up, made only by Go's own code."""
+        """Three failed dials: the context of the first was cancelled, the system refused the second, and the third
+        timed out."""
         points = Points().add(Kind.MAKES, 7, CHANNEL).add(Kind.MAKES, 7, CHANNEL).at(3)
         points.add(Kind.CHANNEL_CLOSED, 7, CHANNEL, stack=4)
         points.add(Kind.DIAL_FAILED, 7, CHANNEL, CANCELLED, 0, stack=4).at(12)
@@ -138,7 +139,7 @@ class Dials(unittest.TestCase):
         self.assertEqual([dial.goroutine for dial in self.dials().found().without({7, 9}).dials], [8])
 
     def test_a_dial_of_another_test_is_none_of_a_tests(self) -> None:
-        """Even if its goroutine did nothing else."""
+        """A test doesn't get the dial of another test's goroutine, even if that goroutine did nothing else."""
         tests = [Ran("p", "TestFirst", 8, 0, 0), Ran("p", "TestSecond", 9, 0, 0)]
         for test, goroutines in zip(tests, ([7, 8], [7, 9])):
             found = goroutines_of(test, self.dials().found(), tests, {})

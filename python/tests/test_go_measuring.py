@@ -27,7 +27,7 @@ cp {folder}/stored "$NETREV_LOG.2"
 : > "$NETREV_LOG.program.1.2"
 case "$2" in ^TestRed*) exit 1 ;; ^TestSkip*) echo "--- SKIP: it" ;; esac
 """
-# the nanoseconds of each call and round, which get smaller with each run of the program; with a log they are greater
+# the nanoseconds of each call and round: they fall with each run of the program, and are greater with a log
 COST = """#!/bin/sh
 n=$(cat {folder}/n 2> /dev/null || echo 9); n=$((n - 1)); echo $n > {folder}/n
 [ -z "${{NETREV_LOG-}}" ] || n=$((n + 800 * (1 + NETREV_LINES) + 80 * NETREV_ORDERS))

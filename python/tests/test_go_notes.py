@@ -62,7 +62,7 @@ class Noted:
         return make(Log(self.points, begin=BEGIN, from_the_start=False))
 
     def replayed(self) -> tuple[Recording, Machine]:
-        """The recording, and the machine after it, with each answer as recorded."""
+        """The recording, and the machine after it; checks that the machine gives each recorded answer."""
         made = self.made()
         return made, replayed(made)
 
@@ -77,7 +77,8 @@ def replayed(made: Recording) -> Machine:
 
 
 def left_out(log: Noted) -> str:
-    """The reason why the only socket in the notes is left out; there is another socket, so that there is a recording."""
+    """The reason why the only socket in the notes is left out. The log has another socket, so that it has a
+    recording."""
     log.note(word=OTHER_WORD, descriptor=OTHER_DESCRIPTOR)
     made = log.end().made()
     assert made.sockets == 1, made.lines

@@ -1,4 +1,5 @@
-"""The orders of a program: made-up logs of a few points, and which steps follow others. No program is needed."""
+"""The orders of a program: for made-up logs of a few points, which steps must follow which other steps. No program is
+needed."""
 
 import json
 import pathlib

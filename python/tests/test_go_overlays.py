@@ -57,7 +57,7 @@ needs_go = pytest.mark.skipif(
 
 
 def stub(text: str) -> str:
-    """One of our files without its functions, but with a use of its imports."""
+    """One of our files without its functions, but with code that uses its imports."""
     imports = re.match(r".*?^package \w+\n(?:\nimport (?:\(.*?^\)|[^\n(]+)\n)?", text, re.M | re.S)
     assert imports
     return imports[0] + "".join(use for path, use in USES.items() if f'"{path}"' in imports[0])

@@ -1,6 +1,6 @@
-"""What the recorder logs of go_recorded.go, a program of scenes on one processor, compared with go_recorded.txt: each point of the
-program's goroutines, the mutexes that are locked at the end, and the notes of open descriptors. The recording of the log is checked too,
-and also that of the log without its first half. It needs Go 1.27 as netrev_go.fetching fetches it.
+"""What the recorder logs of go_recorded.go, a program of scenes on one processor, compared with go_recorded.txt: each
+point of the program's goroutines, the mutexes that are locked at the end, and the notes of open descriptors. The
+recordings of the whole log and of its second half are checked too. It needs Go 1.27 as netrev_go.fetching fetches it.
 
     /usr/bin/python3 python tests.test_go_recorded    stores the text anew"""
 
@@ -58,7 +58,7 @@ def address_of(value: int, names: Names) -> str:
 
 
 def cell(point: Point, field: str, value: int, begin: int, names: Names) -> str:
-    """One of a point's three values."""
+    """The text of one of a point's three values."""
     kind = point.kind
     if kind in OTHER_GOROUTINE and field == "a":
         return names.of("g", value)

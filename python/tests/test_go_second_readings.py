@@ -1,5 +1,5 @@
-"""The orders and the waits of random programs equal those that are found by following all edges between their points, and by searching for
-the end of each wait."""
+"""The orders and waits of random programs equal the results of a naive search, which follows all edges between points
+and looks for the end of each wait."""
 
 import random
 from typing import Optional
@@ -72,7 +72,7 @@ class Synchronized:
         return {number: reached[number] for number in self.steps}
 
     def found(self) -> Pairs:
-        """The pairs that are found: steps have the numbers of their points, plus one."""
+        """The pairs of steps that are found; a step's number is its point's number plus one."""
         ordering = [point for point in self.points if point.number not in self.steps]
         return orders_of(ordering, [(number, g, number + 1) for number, g in self.steps.items()])
 
@@ -150,7 +150,7 @@ def steps_before(number: int, steps: list[Made]) -> int:
 
 
 def end_of(park: Point, points: list[Point]) -> Optional[Point]:
-    """The point at which a goroutine goes on; None if it parks again before that, or never goes on."""
+    """The point at which a goroutine continues; None if it parks again before that, or never continues."""
     own = (one for one in points if one.number > park.number and one.goroutine == park.goroutine)
     following = next((one for one in own if one.kind in (Kind.PARKS, Kind.GOES_ON)), None)
     return following if following and following.kind == Kind.GOES_ON else None
@@ -196,7 +196,7 @@ def test_a_wait_ends_where_its_goroutine_goes_on_and_by_who_made_it_ready(seed: 
 
 @pytest.mark.parametrize("seed", range(40))
 def test_waits_of_a_recording_are_those_with_a_step_in_them(seed: int) -> None:
-    """Goroutine 4 has no number, and goroutine 3 took over its own after step 5."""
+    """Goroutine 4 has no number, and goroutine 3 got its number, which another goroutine had before, after step 5."""
     points, steps = random_waits(seed)
     found, numbers, since = goroutines_of(points, steps, BEGIN), {1: 0, 2: 1, 3: 2}, {3: 5}
     ended = sorted(

@@ -1,8 +1,9 @@
-"""A stored log with each kind of point (of go_recorded.go) becomes the stored recording, NAME.where and report: whole, and in randomly
-chosen parts, of which only checksums are stored. So do logs of random programs. Neither Go nor netrev is needed.
+"""A stored log with each kind of point (of go_recorded.go) becomes the stored recording, NAME.where and report: whole,
+and in randomly chosen parts, of which only checksums are stored. Logs of random programs are tested in the same way.
+Neither Go nor netrev is needed.
 
-    /usr/bin/python3 python tests.test_go_stored             stores all anew
-    /usr/bin/python3 python tests.test_go_stored PART ..     prints what is made of parts, such as log-7 or program-7"""
+    /usr/bin/python3 python tests.test_go_stored stores all anew /usr/bin/python3 python tests.test_go_stored PART ..
+    prints what is made from parts, such as log-7 or program-7"""
 
 import hashlib
 import json
@@ -53,7 +54,7 @@ def stored_log() -> tuple[Log, Symbols]:
 
 @dataclass
 class Drawn:
-    """A part of the log, and what is requested of it."""
+    """A part of the log, and the options for its conversion."""
 
     log: Log
     wish: Wish
@@ -127,7 +128,7 @@ def looked_up(symbols: Symbols) -> Iterator[None]:
 
 
 def made_of(drawn_part: Drawn, symbols: Symbols) -> str:
-    """Everything that is made of a part: the files and the report."""
+    """Everything that is made from a part: the files and the report."""
     one = drawn_part
     with tempfile.TemporaryDirectory() as name, looked_up(symbols):
         folder = Path(name)
@@ -139,7 +140,7 @@ def made_of(drawn_part: Drawn, symbols: Symbols) -> str:
 
 
 def of_program(number: int) -> str:
-    """What is made of a random program's log, without the answers, which other tests compare."""
+    """The files that are made from a random program's log, without the answers, which other tests compare."""
     try:
         made = make(log_of(program_of(str(number))), most=2 + number % 3, all_bytes=number % 2 == 0)
     except Nothing as fault:
@@ -162,7 +163,7 @@ def of_program(number: int) -> str:
 
 
 def text_of(part: str) -> str:
-    """What is made of the part with this name."""
+    """Everything that is made from the part with this name."""
     sort, _, number = part.partition("-")
     if sort == "program":
         return of_program(int(number))

@@ -136,7 +136,7 @@ class Ranning(unittest.TestCase):
 
 class Cutting(unittest.TestCase):
     def kept(self, name: str) -> list[int]:
-        """The openings of a test's sockets."""
+        """The numbers of the openings of a test's sockets."""
         tests, log = tests_of(LINES), Log(POINTS.points)
         found = owned([point for point in log.points if point.kind != Kind.READY])
         return [socket.opening for socket in sockets_of(tests.by_name[name], log, found, tests.ran)]
@@ -151,8 +151,8 @@ class Cutting(unittest.TestCase):
         self.assertEqual(self.kept("TestGreen"), [0, 2])
 
     def test_a_test_has_no_goroutines_of_another_one(self) -> None:
-        """A goroutine that another test has left keeps waiting. The main goroutine and the goroutines of the test's parts are kept, and
-        also what it shares through a socket."""
+        """Another test has left a waiting goroutine, which is removed. The main goroutine, the goroutines of the test's
+        parts, and the goroutines with which it shares a socket are kept."""
         points = Points()
         points.points += POINTS.points
         left, channel = 40, 5_000

@@ -1,5 +1,5 @@
-"""Messages that were lost, in recordings of tools/go/samples/gone that are changed in part: each rule names its line in the first cause,
-and says nothing if it doesn't apply."""
+"""Messages that were lost, in recordings of tools/go/samples/gone, some of which are changed: each rule names its line
+in the first cause, and says nothing if it doesn't apply."""
 
 import contextlib
 from pathlib import Path
@@ -156,8 +156,8 @@ def test_the_lines_that_leave_a_loop(name: str, tmp_path: Path) -> None:
 
 
 def of_group(*uses: Use, ended: tuple[int, ...] = (4, 5, 6)) -> Recording:
-    """Goroutines 4 to 6, which goroutine 1 started in `all` at line 8; some of them have ended. Stack 1 calls Add, and stack 2 calls
-    Done."""
+    """A recording in which goroutine 1 started goroutines 4 to 6 in `all` at line 8, and some of them have ended. Stack
+    1 calls Add, and stack 2 calls Done."""
     recording = with_lines(TWO_ENDS)
     lines = recording.lines
     lines.stacks[1], lines.stacks[2] = Stack((line(7, "all"),), None), Stack((line(20, "one"),), None)

@@ -1,5 +1,5 @@
-"""A goroutine that was a connection's only reader and has ended while bytes still arrive; and a Read in an io.ReadFull whose bytes are
-counted only in part."""
+"""A goroutine that was a connection's only reader and has ended while bytes still arrive; and a Read in an io.ReadFull,
+for which only a part of the bytes is counted."""
 
 import unittest
 from typing import Any

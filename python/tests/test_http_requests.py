@@ -96,7 +96,7 @@ class Ended(unittest.TestCase):
             lines.timers[0] += [timer._replace(goid=99, due=timer.due - 1) for timer in some]
 
         says = says_with(twice)
-        # its goroutine made only one
+        # the request's own goroutine made only one of the two timers
         self.assertRegex(says[0], r"its client's Timeout passed .* It counts from the call at")
         self.assertRegex(says[1], r"ended because a deadline of its context passed \(step \d+\)\.$")
 

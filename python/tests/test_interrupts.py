@@ -1,5 +1,5 @@
-"""Ctrl-C, once and twice, and a killed netrev, at every point of all communication: nrdb then continues with its normal output, or it ends.
-It never prints anything else."""
+"""Ctrl-C is pressed once or twice, or netrev is killed, at every point of all communication. nrdb then continues with
+its normal output or ends, and never prints anything else."""
 
 import unittest
 from typing import Optional
@@ -41,18 +41,18 @@ def twice(weather: Weather[Modelled], netrev: Modelled) -> None:
 
 
 def twice_apart(weather: Weather[Modelled], netrev: Modelled) -> None:
-    """Presses Ctrl-C, and again a line later."""
+    """Presses Ctrl-C, and presses it again a line later."""
     weather.interrupts.came()
     weather.left, weather.action = 0, once
 
 
 def killed(weather: Weather[Modelled], netrev: Modelled) -> None:
-    """Kills the netrev that was asked."""
+    """Kills netrev during a query."""
     netrev.has_ended = True
 
 
 def killed_twice(weather: Weather[Modelled], netrev: Modelled) -> None:
-    """Kills it, and the next netrev too, soon after that was asked."""
+    """Kills netrev during a query, and soon afterwards kills the next netrev during a query."""
     netrev.has_ended = True
     weather.left, weather.action = 1, killed
 

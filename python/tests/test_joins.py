@@ -1,6 +1,6 @@
-"""Failed calls and the hangs that explain them, in recordings of tools/go/samples/joins (made by tests.go_caused): the first
-cause has both, and a cause with a known reason comes before others. And waits that aren't a deadlock, because a deadline ends
-them."""
+"""Failed calls and the hangs that explain them, in recordings of tools/go/samples/joins (made by tests.go_caused): the
+first cause has both, and a cause with a known reason comes before others. Other tests are about waits that aren't a
+deadlock, because a deadline ends them."""
 
 import re
 
@@ -112,7 +112,7 @@ def test_a_hang_that_began_later_or_has_no_reason_explains_nothing() -> None:
 
 
 def test_a_call_of_the_same_line_that_waits_yet_explains_one_that_failed() -> None:
-    """It does if the reason of its wait is known."""
+    """The waiting call explains the failed call only if the reason for the wait is known."""
     recording = stored("guarded-bad")
     graph, (cause,) = graph_of(recording), failures_of(recording)
     twin = Waiter(Name(9), recording.length, recording.lines.of(cause.call.first), cause.call)

@@ -1,5 +1,6 @@
-"""Time limits are reported only if they are certain: those of an http.Server, and of an http.Client that was redirected. And the goroutines
-that the text about a wait for a WaitGroup names: those that the waiting goroutine started, but never itself."""
+"""Time limits are reported only if they are certain: those of an http.Server, and of an http.Client that was
+redirected. The text about a wait for a WaitGroup names the goroutines that the waiting goroutine started, but never the
+waiting goroutine itself."""
 
 import json
 import unittest
@@ -60,8 +61,8 @@ class OfServers(unittest.TestCase):
 
 class OfClients(unittest.TestCase):
     def says(self, *earlier: tuple[int, int]) -> str:
-        """The text about a limit of an http.Client, whose goroutine made timers there: each this much earlier, and due this much
-        earlier."""
+        """The text about a limit of an http.Client whose goroutine also made earlier timers at the same place; each
+        pair says how much earlier such a timer was made and was due."""
         made = recording()
         lines = made.lines
         timer = next(one for one in lines.timers[0] if has(lines.stacks[one.stack], CLIENT_TIMEOUT))
@@ -93,8 +94,8 @@ class OfGroups(unittest.TestCase):
     """Goroutine 7 waits in `main.walk`, which also started goroutine 7 itself."""
 
     def says(self, *others: tuple[int, int], waiter: int = 0, maker: int = 1) -> str:
-        """The text about the wait of a goroutine that `main.walk` started together with others; `others` are pairs of a goroutine's number
-        and the number of the goroutine that started it."""
+        """The text about the wait of a goroutine that `main.walk` started together with other goroutines. `others` has
+        pairs: a goroutine's number, and the number of the goroutine that started it."""
         made = with_lines(TWO_ENDS)
         go = line(4, "walk")
         stack = Stack((line(9, "walk"),), go)

@@ -81,11 +81,11 @@ class Book:
         return line(number, function, self.file)
 
     def stack(self, number: int, *inner: Call) -> Stack:
-        """A stack of the recording, with calls inside."""
+        """A stack of the recording, with these calls added at its inner end."""
         return Stack((*inner, *self.recording.lines.stacks[number].calls), None)
 
     def waits(self, number: int, stack: Stack, begin: int = 0, at: At = AT_LOCK) -> Waiting:
-        """A goroutine waits for a mutex in a stack."""
+        """Makes a goroutine wait for a mutex, with this stack."""
         wait = Waiting(goid(number), 3, None, A_MUTEX, stack, None, (at,), begin)
         self.waiters[wait.name] = Waiter(wait.name, 3, stack, None, wait)
         return wait
@@ -95,7 +95,7 @@ class Book:
         return MutexHolders(self.recording, self.waiters, position, lambda name: self.does.get(name, ""))
 
     def need(self, wait: Waiting) -> Need:
-        """What a goroutine needs; a file is only its name."""
+        """What a goroutine needs; the text has the file's name without its folder."""
         need = self.holders().need(wait)
         plain = [says.replace(self.file, "book.go") for says in need.says]
         return need._replace(says=plain, how=need.how.replace(self.file, "book.go"))

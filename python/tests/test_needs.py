@@ -1,4 +1,5 @@
-"""What goroutines need, in recordings of tools/go/samples/turns that are changed in part: each rule says nothing if it doesn't apply."""
+"""What goroutines need, in recordings of tools/go/samples/turns, some of which are changed: each rule says nothing if
+it doesn't apply."""
 
 import unittest
 from typing import Any
@@ -39,7 +40,8 @@ def stored(name: str) -> Recording:
 
 class Balances(unittest.TestCase):
     def recording(self, *uses: Use, room: int = 2) -> Recording:
-        """A recording in which stack 1 takes in `borrow`, stack 2 gives back there, and stack 3 fills the channel."""
+        """A recording in which stack 1 takes a value in `borrow`, stack 2 puts one back in `borrow`, and stack 3 fills
+        the channel."""
         recording = with_lines(TWO_ENDS)
         lines = recording.lines
         outer = line(9, "main")

@@ -100,7 +100,8 @@ class WithSource(unittest.TestCase):
         return [(held.name, held.line) for held in held_at(self.recording, self.at(number, function))]
 
     def test_the_mutexes_that_a_function_holds_at_a_line(self) -> None:
-        """A mutex that is unlocked only on a path that returns is held; a mutex that another function literal locks isn't."""
+        """A mutex that is unlocked only on a path that returns counts as held; a mutex that another function literal
+        locks doesn't."""
         self.assertEqual(self.held(NOTE, "(*bank).move"), [("from.mu", 4), ("b.log", 6)])
         self.assertEqual(self.held(SECOND, "(*bank).move"), [("from.mu", 4)])
         self.assertEqual(self.held(LITERAL + 1, "(*bank).move.func1"), [("to.mu", 14)])
@@ -118,7 +119,8 @@ class WithSource(unittest.TestCase):
             self.assertEqual(is_same_variable(one, other, is_near), is_same, (one, other))
 
     def test_who_should_have_woken_a_goroutine(self) -> None:
-        """Only functions of the same type that change what the goroutine checks, and don't wait themselves."""
+        """The text names only functions of the same type that change what the goroutine checks and don't wait
+        themselves."""
         wait = self.waiting(WAIT, "(*queue).pop")
         (said,) = unsignalled(self.recording, wait)
         self.assertIn(f"{self.file}:39 in (*queue).clear should have woken it: it changes items", said)

@@ -72,8 +72,8 @@ class EndedBefore(unittest.TestCase):
 
 class EndedWithAFailure(unittest.TestCase):
     def said(self, ended: int) -> list[str]:
-        """The text about the only call of goroutine 1, which is Go's goroutine 7 and was the last to send a value at which another
-        goroutine waits."""
+        """The text about the only call of goroutine 1, which is Go's goroutine 7. It was the last goroutine to send a
+        value to the channel at which another goroutine waits."""
         recording = waiting(3, 4, [*TWO_ENDS, *GETS, *UNLOCKS])
         lines = recording.lines
         lines.uses[4] = [use(GONE, PUT, 3, number=4)]

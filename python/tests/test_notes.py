@@ -1,5 +1,5 @@
-"""The notes about cells equal the changes: a reader that examines only the cells that a step may have changed misses none. And the pauses
-equal those that are found by examining each step alone."""
+"""The notes about cells equal the changes: a reader that examines only the cells that a step may have changed misses
+none. The pauses equal those that are found by examining each step alone."""
 
 import random
 import unittest
@@ -56,7 +56,8 @@ class Paused(unittest.TestCase):
 
 
 class Behind:
-    """For each goroutine, after each step, its place, since when it is there, and whether it has a reference."""
+    """For each goroutine, after each step: its place, the step since which it is there, and whether it has a
+    reference."""
 
     def __init__(self) -> None:
         self.steps: list[dict[int, tuple[str, int, bool]]] = [{}]
@@ -68,7 +69,7 @@ class Behind:
         return look
 
     def pauses(self, steps: Sequence[tuple[Any, ...]]) -> dict[str, list[int]]:
-        """The pauses that ended at each place and in which a goroutine could have gone on."""
+        """The pauses that ended at each place and during which a goroutine could have continued."""
         found: dict[str, list[int]] = defaultdict(list)
         lasts: dict[int, int] = defaultdict(int)
         for number, (kind, *arguments) in enumerate(steps, 1):

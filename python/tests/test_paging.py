@@ -12,7 +12,8 @@ ROWS, COLUMNS = 6, 10
 
 
 def paged(keys: list[str], lengths: list[int], rows: int = ROWS, is_on: bool = True) -> list[str]:
-    """What is written of lines with these lengths: each line's first letter, `?` where it asks, which gives the next key."""
+    """The output for lines of these lengths: the first letter of each line, and `?` for each question, which the next
+    key answers."""
     out = io.StringIO()
     pager = Paged(out, lambda: keys.pop(0), lambda: is_on)
     with mock.patch.object(out, "fileno", return_value=1), mock.patch.object(
@@ -25,7 +26,7 @@ def paged(keys: list[str], lengths: list[int], rows: int = ROWS, is_on: bool = T
 
 @pytest.mark.parametrize("length", [1, 9, 10, 11, 20, 21, 30])
 def test_it_asks_when_the_screen_is_full(length: int) -> None:
-    """A line takes as many rows as its letters fill."""
+    """A line counts as the number of rows that its letters fill."""
     rows, told = 0, list[str]()
     for number in range(9):
         if rows >= ROWS - 1:

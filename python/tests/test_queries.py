@@ -173,7 +173,7 @@ class Answered(unittest.TestCase):
 
 class LinesTogether(unittest.TestCase):
     def pieces(self, texts: Sequence[bytes]) -> Iterator[list[str]]:
-        """The results of these texts, each of which is written when the lines of the previous one have been read."""
+        """The results for these texts, each of which is written when the lines of the previous text have been read."""
         reader, writer = os.pipe()
         taken = threading.Semaphore(1)
 

@@ -1,5 +1,5 @@
-"""nrdb's facts about references, timers and calls in random recordings: they equal what the definitions give over all states of the model,
-or the calls that were made."""
+"""nrdb's facts about references, timers and calls in random recordings equal the facts that follow from the definitions
+over all states of the model, or the calls that were made."""
 
 import random
 from typing import Any, Iterator
@@ -118,7 +118,7 @@ def test_a_timer_is_of_the_step_that_set_its_deadline(seed: int) -> None:
 
 @pytest.mark.parametrize("seed", range(60))
 def test_calls_are_those_that_goroutines_made(seed: int) -> None:
-    """The program behind a random log knows its calls."""
+    """The random program that made the log knows its own calls."""
     program = program_of(f"calls {seed}")
     log = log_of(program)
     try:
@@ -146,7 +146,8 @@ def test_calls_are_those_that_goroutines_made(seed: int) -> None:
 
 
 def sleeps_of(made: Made) -> list[tuple[int, int, int, int]]:
-    """The steps with which sleeping goroutines continued: the step, the goroutine, and how long it slept, in steps and in time."""
+    """The steps with which sleeping goroutines continued, each with the goroutine and how long it slept, in steps and
+    in time."""
     text = read_text(text_of(made))
     machine, asleep, found = Machine(Limits(*text.limits)), dict[int, tuple[int, int]](), []
     for number, (kind, *arguments) in enumerate(text.steps, 1):
@@ -209,7 +210,7 @@ class UseOf:
 
 
 def all_of(use: Use) -> list[object]:
-    """What is known about a use, in the form of `UseOf.all`."""
+    """All facts about a use of a descriptor, in the form of `UseOf.all`."""
     passings = [[(one.step, one.kind) for one in side] for side in use.passings]
     place = use.descriptor, use.socket, use.opened, use.tag
     return [place, use.closed, use.settings, use.errors, use.thrown, use.last_events, [*use.waits], passings, use.taken]

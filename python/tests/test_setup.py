@@ -61,7 +61,7 @@ class World:
         return ran.stdout
 
     def calls(self) -> str:
-        """The calls of apt-get and python3, one line each."""
+        """The script's calls of apt-get and python3, one line each."""
         path = self.top / "calls"
         return path.read_text() if path.exists() else ""
 

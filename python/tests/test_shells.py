@@ -1,5 +1,5 @@
-"""The shells' completions of netrev, nrdb and netrev-go, at the prompt of a real bash and a real zsh. If a shell is missing, its tests are
-skipped, and it is named."""
+"""The shells' completions of netrev, nrdb and netrev-go, at the prompt of a real bash and a real zsh. If a shell is
+missing, its tests are skipped with a message that names it."""
 
 import contextlib
 import os
@@ -56,7 +56,7 @@ class Typed:
         os.write(self.terminal, text.encode())
 
     def until(self, text: str) -> bool:
-        """Reads until this is on the screen; returns whether that happens in time."""
+        """Reads until this text is on the screen; returns whether it appears in time."""
         limit = time.monotonic() + PATIENCE
         while text not in self.screen:
             left = limit - time.monotonic()

@@ -1,4 +1,5 @@
-"""The bytes of calls if a recording counts fewer, datagrams that were cut off, and Unix sockets that are two ends of one connection."""
+"""The bytes of calls for which a recording counts fewer bytes, datagrams that were cut off, and Unix sockets that are
+the two ends of one connection."""
 
 import pytest
 

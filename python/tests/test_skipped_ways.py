@@ -83,7 +83,7 @@ TRIES = [
 
 
 def ways(source: str, begin: str = "take(") -> list[tuple[int, str]]:
-    """The paths of a function from a line with a text to a line that gives it back."""
+    """The paths of a function that take something, at a line with this text, and don't give it back."""
     lines = tuple(source.split("\n"))
     found = skipped_ways(
         lines, range(1, len(lines)), lambda text: begin in text, lambda text: "give(" in text, lambda text: "keep(" in text
@@ -152,7 +152,7 @@ def test_no_way_is_named_without_the_source(name: str) -> None:
 
 
 def with_often(name: str, what: str, often: int) -> Recording:
-    """A recording in which each goroutine did something more often, by this number."""
+    """A recording in which each goroutine did this the given number of times more often."""
     recording = stored(f"{name}-bad")
     for uses in recording.lines.uses.values():
         uses[:] = [one._replace(often=one.often + often) if one.what == what else one for one in uses]

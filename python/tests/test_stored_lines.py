@@ -1,8 +1,8 @@
-"""nrdb's answers to random lines with all commands over some recordings, and the files that it
-writes: because the texts are long, checksums of every few answers are stored.
+"""nrdb's answers to random lines about some recordings, and the files that it writes; the lines use all commands.
+Because the texts are long, a checksum is stored for every few answers.
 
-    /usr/bin/python3 python tests.test_stored_lines           stores the sums anew
-    /usr/bin/python3 python tests.test_stored_lines NAME      prints a recording's answers, to compare them with earlier ones"""
+    /usr/bin/python3 python tests.test_stored_lines stores new checksums /usr/bin/python3 python tests.test_stored_lines
+    NAME prints a recording's answers, to compare them with earlier ones"""
 
 import hashlib
 import json
@@ -64,7 +64,7 @@ class Author:
         return f"{self.dice.choice(CELLS_OF_ONE)} {self.dice.choice((0, 0, 0, 1, 1, 2, 7))}"
 
     def word(self) -> str:
-        """One or two words that a command may take."""
+        """One or two arguments that a command may accept."""
         choices = (
             self.number, self.number, self.number, self.cell, self.cell, lambda: self.dice.choice(list(KINDS)),
             lambda: f"{self.dice.choice(('gor', 'sock', 'desc'))} {self.number()}", lambda: f"{self.cell()} {self.dice.choice(VALUES)}",

@@ -1,4 +1,4 @@
-"""All that nrdb says about the recordings in `caused`, and not just a part of it: causes, hangs, errors and suspects.
+"""All that nrdb says about the recordings in `caused`: causes, hangs, errors and suspects.
 
 `/usr/bin/python3 python tests.test_stored_sentences` stores the current output, with a Python that has pytest; read the difference before
 you commit it."""

@@ -1,8 +1,8 @@
 """What nrdb says about the recordings in `caused` at many positions, and without parts of
 NAME.where: checksums are stored, because the texts are long.
 
-    /usr/bin/python3 python tests.test_stored_sums                     stores the sums anew
-    /usr/bin/python3 python tests.test_stored_sums NAME VIEW ..        prints the text of a view, to compare it with an earlier one's"""
+    /usr/bin/python3 python tests.test_stored_sums stores new checksums /usr/bin/python3 python tests.test_stored_sums
+    NAME VIEW .. prints the text of a view, to compare it with an earlier one's"""
 
 import hashlib
 import json
@@ -26,7 +26,7 @@ from tests.test_stored_sentences import PROGRAMS, RECORDINGS, lines_of
 STORED = CAUSED / "sums.json"
 COMMENTS = " //~ //~"
 PARTS = 12  # the parts of a recording between which the hangs are listed
-# the lines of NAME.where that are left out
+# patterns for lines of NAME.where that are left out
 WITHOUT = {"orders": "orders|waits", "objects": "objects|channels|held|timers"}
 
 
@@ -37,7 +37,7 @@ def read(path: Path) -> Recording:
 
 
 def hangs(recording: Recording) -> list[str]:
-    """The hangs between all parts."""
+    """The hangs at the end of each part of a recording but the last."""
     found = []
     for part in range(1, PARTS):
         at = recording.length * part // PARTS
@@ -52,14 +52,14 @@ def errors(recording: Recording) -> list[str]:
 
 
 def in_short(recording: Recording) -> list[str]:
-    """The first output, and some hangs."""
+    """The first output, the hangs at two positions, and the errors."""
     first = [line for line in first_words(recording, "made.jsonl") if not line.startswith("next:")]
     more = [line for part in (2, 3) for line in lines_of(hangs_table(recording, recording.length * part // 4))]
     return first + more + lines_of(errors_table(recording, recording.length, None))
 
 
 def without(name: str, what: str) -> list[str]:
-    """The views of a recording whose NAME.where lacks some lines."""
+    """The texts about a recording whose NAME.where lacks some lines."""
     with tempfile.TemporaryDirectory() as folder:
         path = Path(folder, "made.jsonl")
         shutil.copy(CAUSED / f"{name}.jsonl", path)
@@ -69,7 +69,7 @@ def without(name: str, what: str) -> list[str]:
 
 
 def with_source(name: str, changed: Callable[[int, str], str]) -> list[str]:
-    """The views of a recording beside a source whose lines are changed, which have numbers."""
+    """The texts about a recording beside a source in which `changed` replaces each line, given its number."""
     before = os.getcwd()
     with tempfile.TemporaryDirectory() as folder:
         for path in Path().glob("*.go"):
@@ -85,12 +85,12 @@ def with_source(name: str, changed: Callable[[int, str], str]) -> list[str]:
 
 
 def commented(_: int, line: str) -> str:
-    """The line with two comments behind it, if it isn't in a text of several lines."""
+    """The line with two comments after it, unless it is empty or may be part of a raw string."""
     return line if "`" in line or not line else line + COMMENTS
 
 
 def blanked(number: int, line: str) -> str:
-    """The line, or an empty one in place of some."""
+    """The line; for some lines, an empty line instead."""
     return "" if (number * 7 + len(line)) % 11 == 0 else line
 
 

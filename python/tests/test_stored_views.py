@@ -27,7 +27,7 @@ NAMES = (
     "examples/first", "examples/lost-wakeup", "examples/real/half", "examples/real/leak", "python/tests/caused/pool-bad",
     "python/tests/caused/partly-bad",
 )  # fmt: skip
-# the lines that are typed at four positions, and the lines that are typed once after these
+# the lines that are typed at each of four positions, and the lines that are typed once after that
 LINES = STORED / "lines.txt"
 
 

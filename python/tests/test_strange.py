@@ -55,7 +55,7 @@ def unseen(text: str) -> list[str]:
 
 
 def nrdb(*words: object) -> tuple[int, str]:
-    """The exit status of nrdb with these words, and its output on both streams."""
+    """The exit status of nrdb with these arguments, and its output on both streams."""
     said = io.StringIO()
     with contextlib.redirect_stdout(said), contextlib.redirect_stderr(said):
         try:
@@ -94,7 +94,7 @@ def joined(answers: Answers, *more: object, asked: tuple[str, ...] = ASKED) -> t
 
 
 def behind_position(answer: bytes) -> Answers:
-    """Answers that give the position as netrev does, and this text to everything else."""
+    """Answers `info position` as netrev does, and answers everything else with this text."""
     return lambda line: POSITION if line == b"info position" else answer
 
 
@@ -164,7 +164,8 @@ class Strangers(unittest.TestCase):
 
 
 class WhoSays(unittest.TestCase):
-    """The program that checks whether a file is a recording gets no input, because it may be one that waits for some."""
+    """The program that checks whether a file is a recording gets no input, because it may be a program that would wait
+    for input."""
 
     def test_it_isnt_waited_for(self) -> None:
         with tempfile.TemporaryDirectory() as folder:

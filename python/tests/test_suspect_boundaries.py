@@ -341,7 +341,7 @@ def test_a_rule_of_calls_at_its_boundary(steps: Steps, rules: list[str]) -> None
 
 @pytest.mark.parametrize("count", range(SINCE - 4, SINCE + 4))
 def test_an_end_is_left_open_for_50_steps(count: int) -> None:
-    """Counted from the step that began to close the other end."""
+    """The 50 steps are counted from the step that began to close the other end."""
     steps = TWO_ENDS + GETS + UNLOCKS + CLOSES + ticks(count)
     closed = steps.index(CLOSES[0]) + 1
     assert rules_of(with_lines(steps)) == ([OPEN_END] if len(steps) - closed >= SINCE else [])

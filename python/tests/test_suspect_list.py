@@ -1,5 +1,5 @@
-"""The list of `netrev suspects` in `info suspects`: how nrdb reads it, how the rules use it, and that they find the same without it. The
-list comes from the naive implementation (netrev_machine/suspects.py)."""
+"""The list of `netrev suspects` in `info suspects`: how nrdb reads it, how the rules use it, and that the rules find
+the same without the list. The list comes from the naive implementation (netrev_machine/suspects.py)."""
 
 import random
 from pathlib import Path
@@ -193,7 +193,7 @@ def test_a_suspect_has_netrev_s_lines(rule: str) -> None:
 
 
 def test_the_list_says_what_set_a_deadline_and_what_moved_since() -> None:
-    """They don't come from the notes: with another list the rule says something else."""
+    """The rule takes these facts from the list and not from the notes: with another list it says something else."""
     recording = recording_of(OPEN + BOTH + PASSES + ENDS)
     recording.suspects = reading = Reading(recording)
     reading.lines = [line.replace("set 5 by 0 rw moved 6 by 0", "set 5 by 3 rw moved 6 by 2") for line in reading.lines]
@@ -266,7 +266,7 @@ def test_none_is_lost_behind_a_try_of_another_goroutine() -> None:
 
 
 def test_bytes_that_came_after_the_event_have_none_of_their_own() -> None:
-    """The lost wake-up isn't the one that the goroutine is missing: no event came for these bytes."""
+    """The lost wake-up isn't the event that the goroutine is missing: no event came for these bytes."""
     steps = OPEN + COMES[1:] + PARK[:2] + PARK + COMES[:1] + WHILE
     assert [one.rule for one in found(recording_of(steps))] == ["no event", "lost wake-up"]
 
@@ -306,6 +306,6 @@ def without_lines(facts: Iterable[Union[LostWakeUp, OfDeadline]]) -> list[str]:
 
 
 def test_a_close_that_goes_on_has_a_line_and_is_no_suspect() -> None:
-    """The list isn't a list of bugs: it also has the state in which a recording ends."""
+    """The list doesn't contain only bugs: it also has the state in which a recording ends."""
     recording = recording_of(OPEN + SHUT[:2])
     assert len(Reading(recording).lines) == 2 and found(recording) == []

@@ -1,5 +1,5 @@
-"""A recording that ends while a goroutine is in a system call: a lock that Go gives up afterwards isn't a suspect, but one that no
-goroutine gives up is. And a listener's wait in Go's own Accept isn't a lost wake-up."""
+"""A recording that ends while a goroutine is in a system call: a lock that Go gives up afterwards isn't a suspect, but
+a lock that no goroutine gives up is a suspect. A listener's wait in Go's own Accept isn't a lost wake-up."""
 
 import json
 import unittest

@@ -16,7 +16,7 @@ PARTS = 12
 
 
 def recording_of(seed: int) -> Recording:
-    """A random recording: every fourth one has connections, whose goroutines wait for a long time."""
+    """A random recording. Every fourth random recording has connections, whose goroutines wait for a long time."""
     if seed % 4 == 0:
         return Recording(Traffic(seed, list(Bug)[seed % len(Bug)], 600).run().text())
     return PlayedSteps(Author(random.Random(f"touched {seed}")).recording(300)[0].steps)

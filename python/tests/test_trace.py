@@ -99,7 +99,7 @@ class Looking(Scout):
 
 
 def statuses_of(events: list[Event], length: int) -> list[dict[int, str]]:
-    """For each position, the statuses of the goroutines that do something."""
+    """For each position, the statuses of the goroutines that aren't idle."""
     found: list[dict[int, str]] = [{} for _ in range(length + 1)]
     for event in events:
         if event.get("cat") == "status":

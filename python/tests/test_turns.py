@@ -97,7 +97,7 @@ class Turns(unittest.TestCase):
         self.assertRegex(self.said("undone", "good")[0], r"^Dial at .* failed: socket \d+ was never connected\.$")
 
     def test_they_hang_only_as_long_as_that_is_so(self) -> None:
-        """At an earlier position it isn't reported."""
+        """At an earlier position these hangs have no such reason."""
         for name in ("doubled", "undone", "uncounted", "stays"):
             recording = Recording.read(str(CAUSED / f"{name}-bad.jsonl"))
             words = "\n".join(row.text for row in hangs_table(recording, 10).rows)

@@ -96,7 +96,8 @@ class Roots(unittest.TestCase):
         self.assertEqual(graph.shown[0].needs[0].certainty, Certainty.PERHAPS)
 
     def test_another_method_that_locks_the_same_mutex_may_hold_it(self) -> None:
-        """The source shows that: without it nothing is said, and nothing is said about a method that has already unlocked the mutex."""
+        """The source shows that a method may hold the mutex. Without the source, no holder is named, and a method that
+        has already unlocked the mutex is never named."""
         waits = [[9, 0, 2, "", 3, -1]]
         self.assertEqual(len(graph_of(self.BLOCKED, waits).shown), 2)
         with tempfile.TemporaryDirectory() as folder:
@@ -142,13 +143,15 @@ class Roots(unittest.TestCase):
         self.assertEqual(graph.count, 1)
 
     def test_a_goroutine_that_sleeps_for_good_may_have_nothing_to_do(self) -> None:
-        """A program's main goroutine may do so, and also a goroutine that a test has left running."""
+        """A program's main goroutine may wait forever in this way, and so may a goroutine that a test has left
+        running."""
         for kind, is_quiet in (("a select without cases", True), ("a nil channel", False)):
             graph = graph_of(self.BLOCKED, [[7, 0, 2, kind, 5, -1]])
             self.assertEqual([hang.is_quiet for hang in graph.shown], [False, is_quiet], kind)
 
     def test_what_nobody_waits_for_is_no_cause_where_the_program_ended_by_itself(self) -> None:
-        """A session opens with it as with a wait that may be normal, unless others wait for it or the program was killed."""
+        """When a session opens, such a goroutine's wait is shown as one that may be normal, unless other goroutines
+        wait for it or the program was killed."""
         left = [[6, 0, 2, "room in a channel", 5, -1]]
         waited_for = [[3, 4, 3, WAITS_AT, 5, 2], *left, [7, 0, 3, WAITS_AT, 5, -1]]
         quiet = "1 goroutine waits at the end, at hub.go:15 in (*hub).names: info hangs"

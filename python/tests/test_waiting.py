@@ -1,5 +1,6 @@
-"""The goroutines that wait for a lock, and its holder: the numbers of queries and of searches in the recording's text don't grow with the
-number of waiters, and a search from the end of the recording finds the same as a search of all steps."""
+"""The goroutines that wait for a lock, and its holder: the numbers of queries and of searches in the recording's text
+don't grow with the number of waiters, and a search from the end of the recording has the same result as a search of all
+steps."""
 
 import io
 import json
@@ -118,8 +119,8 @@ class Asked(unittest.TestCase):
         self.assertIn("dump rq 0", many)
 
     def searched(self, count: int, sockets: int, with_lines: bool) -> tuple[int, int, int]:
-        """The work of `info goroutines` with `count` waiters at each of `sockets` sockets: the queries in addition to the statuses, the
-        searches of the text that it begins, and the pieces of text that it searches."""
+        """The work of `info goroutines` with `count` waiters at each of `sockets` sockets: the number of queries apart
+        from those of statuses, of searches of the recording's text, and of pieces of text that are searched."""
         asked, begun = Counter[str](), mock.Mock()
         text = waiters(count, sockets)
         if with_lines:
@@ -168,7 +169,8 @@ class Asked(unittest.TestCase):
 
 class Backwards(unittest.TestCase):
     def worlds(self) -> Iterator[World]:
-        """Recordings at various positions, which may be spelled with blanks or escapes."""
+        """Worlds at various positions of recordings, some of which are written with additional blanks or with
+        escapes."""
         dice = random.Random("taken")
         for number in range(60):
             text = visit(f"taken-nrdb-{number}").recording

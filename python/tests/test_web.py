@@ -1,5 +1,5 @@
-"""The page's server with requests that aren't the page's: each is refused, and the session continues. It uses real sockets, and a session
-that only stores its lines."""
+"""The page's server refuses each request that doesn't come from the page, and the session continues. It uses real
+sockets, and a session that only stores its lines."""
 
 import base64
 import hashlib

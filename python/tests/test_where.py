@@ -23,7 +23,7 @@ STEPS = {"step": 1, "stacks": [1, 0]}
 GOOD: list[Any] = [FIRST, CALL, STACK, STEPS]
 SAID = "is malformed"
 
-# the number of a line from 0, its replacement, and the message about the file then
+# the number of a line, counted from 0, its replacement, and the message about the changed file
 WRONG: tuple[tuple[int, Any, str], ...] = (
     (0, [], SAID), (0, {}, SAID), (0, {"where": 3, "steps": 2}, "another version"),
     (0, {"where": [], "steps": 2}, "another version"), (0, 7, SAID),
@@ -38,7 +38,7 @@ WRONG: tuple[tuple[int, Any, str], ...] = (
     (3, {"times": [7, -1]}, SAID), (3, {"times": [7, "1"]}, SAID), (3, {"times": [7, 1.5]}, SAID), (3, {"times": 7}, SAID),
     (3, {"times": [2**63, 1]}, SAID), (3, {"times": [True, 1]}, SAID),
 )  # fmt: skip
-# the same, as bytes
+# lines, as bytes, each of which makes the file malformed
 NO_JSON: tuple[bytes, ...] = (
     b"{", b"[" * 200_000, b'{"a":' * 200_000, b"9" * 5_000, b"", b'{"step":1,"stacks":[1' + b"0" * 5_000 + b"]}",
     b" " * MOST_LINE + b"1",
@@ -56,7 +56,7 @@ class Where(unittest.TestCase):
         return Recording.read(str(self.recording)).lines
 
     def fault(self, data: bytes) -> str:
-        """The message about such a file, which isn't used then."""
+        """The message about a file with these contents; checks that nrdb doesn't use a file with a fault."""
         self.file.write_bytes(data)
         lines = self.lines()
         if lines.fault:

@@ -74,7 +74,7 @@ class Address(NamedTuple):
         return self.send(self.request("GET", target, **headers))
 
     def type(self, line: str, **headers: str) -> Answer:
-        """The answer to a line: it was accepted, or why not."""
+        """The answer to a line: whether it was accepted, or why it was refused."""
         return self.send(self.request("POST", "/line", line.encode("utf-8"), **headers))
 
 

@@ -1,1 +1,2 @@
-"""Tests of the built program from outside, of what no contract states. `NETREV` names another program."""
+"""Tests the built program from outside, for properties that no contract states. The environment variable `NETREV` names
+another program to test."""

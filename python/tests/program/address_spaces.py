@@ -78,7 +78,7 @@ def loader_in(size):
 
 
 def refused_start(failed):
-    """The status for a program that the system refused to start for lack of memory; raises any other error."""
+    """The status of a program that the system refused to start for lack of memory. Raises any other error."""
     if failed.errno in (errno.ENOMEM, errno.E2BIG):
         return 127
     raise failed
@@ -103,9 +103,9 @@ def expect_walk(recording, replies):
 
 
 def expect_beginning(recording, replies):
-    """Checks that each reply is right, or that memory ran out for it as docs/reference/COMMANDS.md says: for a query,
-    which may be repeated, or for a search, whose reply `resume` gives once. Returns how many commands were placed, and
-    the final position."""
+    """Checks that each reply is right, or that it reports, as docs/reference/COMMANDS.md says, that memory ran out.
+    Only a query and a search may report that: the query may be repeated, and `resume` returns the reply to the search
+    once. Returns how many commands were placed, and the final position."""
     state, placed, owed = State(), 0, None
     for line, came in zip(WALK.splitlines(), replies):
         asked = read_line(line.encode())
@@ -127,7 +127,8 @@ def expect_beginning(recording, replies):
 
 
 def expect_begun(right, output):
-    """Checks that whole first lines of the right text were printed, and that memory ran out then."""
+    """Checks that the output begins with whole lines of the right text and ends with the message that memory ran
+    out."""
     lines = right.splitlines(keepends=True)[: output.count(b"\n") - 1]
     expect("output", b"".join(lines) + NO_MEMORY, output)
 
@@ -144,8 +145,9 @@ def ended_in(size, words, text):
 
 
 def play_memory(word, recording, right=b""):
-    """A hundred sizes: up to twice what the right replies take, and near the smallest in which the program loads.
-    `upgrade` and `suspects` need the right text."""
+    """Runs a command in address spaces of a hundred sizes: some up to twice what the right replies need, and some near
+    the smallest size in which the program loads. The argument `right` is the right text for `upgrade` and
+    `suspects`."""
 
     def play(size):
         try:
@@ -161,7 +163,7 @@ def play_memory(word, recording, right=b""):
 
     def judge(size, status, output, errors):
         if size < loads_in():
-            # (if the system can't map a program, it ends it by a signal; if its loader can't load a library, the status
+            # (if the system can't map a program, it kills the process; if the loader can't load a library, the status
             # is 127)
             refused = status in (127, -signal.SIGSEGV, -signal.SIGKILL) and output == b""
             expect("whether the system refused to start it", True, refused)

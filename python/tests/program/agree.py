@@ -4,12 +4,14 @@ the same bytes. The name of each case begins with its sort:
     recording  each stored recording is checked, upgraded and walked in both directions
     bad        refused recordings, one for each fault in `tests/program/hostile.py`
     sizes      the greatest sizes of a recording, in few steps
-    sides      a wait for writing alone, and the second of two firings, which is run first, undone and run again
-    random     random cases of the fuzzer: each cell at each position in both directions, random lines, damaged recordings, upgrades;
-               `--random N` sets their number (`pytest python/tests/program/agree.py`), and `--seed` the first seed
+    sides      a wait for writing without one for reading; and two firings, of which the second is run first, undone and run
+               again
+    random     random cases of the fuzzer: each cell at each position in both directions, random lines, damaged recordings, and
+               upgrades. The options `--random N` and `--seed` of `pytest python/tests/program/agree.py` set the number of
+               cases and the first seed
 
-Both programs are proved against the same specification. These tests compare what the compiler made of the two worlds: a
-mistake in one of them shows as a difference.
+Both programs are proved against the same specification. These tests compare the compiled code of the two worlds: a
+compiler's mistake in one of them shows as a difference.
 """
 
 import os
@@ -53,7 +55,7 @@ def agree(words: Sequence[object], script: bytes = b"") -> tuple[int, bytes]:
 
 
 def walk(steps: Sequence[Step], seed: str) -> bytes:
-    """Lines that go to the end and back, followed by random ones."""
+    """Lines that go to the end and back, followed by random lines."""
     return b"continue\nreverse-continue\n" + Speaker(random.Random(seed), steps).script(60)
 
 
@@ -105,7 +107,8 @@ def sizes() -> list[str]:
 
 @pytest.mark.long
 def test_sizes(folder: Path) -> None:
-    """As much of everything as version 1 allows, and the largest buffers, which only version 2 has."""
+    """Compares recordings with the most objects that version 1 allows, and with the largest buffers, which only version
+    2 has."""
     path, last = folder / "greatest.jsonl", SOCKETS - 1
     path.write_text("\n".join((HEADER % (1, GOROUTINES, SOCKETS, DESCRIPTORS, PIECE), *sizes())) + "\n", "ascii")
     looks = f"print in {last}\nprint out {last}\nprint timers\nprint gor {GOROUTINES - 1}\n"
@@ -118,8 +121,8 @@ def test_sizes(folder: Path) -> None:
     assert agree(["run", path], lines or b"")[0] == 0
 
 
-# If a program confuses sides, it shows one of the two semaphores in place of the other, and takes another firing for
-# the one that was put back at the front.
+# A program that confuses the two sides would show the wrong one of two semaphores, or would mistake another firing for
+# the firing that was put back at the front.
 SIDES = """{"netrev":1,"gor":4,"sock":2,"desc":2,"buf":16}
 ["spawn"]
 ["sockopen",16,16]

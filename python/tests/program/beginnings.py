@@ -1,8 +1,8 @@
-"""Tests every beginning of each short recording, byte by byte, for hostile.py: netrev accepts a beginning if it ends
-with a line, and else refuses it at its last line.
+"""Tests every beginning of each short recording, byte by byte, for hostile.py: netrev accepts a beginning that ends
+with a whole line, and refuses any other at its last line.
 
-There are some thirty thousand beginnings, and Python takes longer to start netrev than netrev takes to check one. So
-each shell runs many in a row, with as many shells as the machine has processors.
+There are some thirty thousand beginnings, and Python takes longer to start netrev than netrev takes to check one. So as
+many shells as the machine has processors run, and each checks many beginnings in a row.
 """
 
 import os
@@ -37,8 +37,8 @@ def wanted_of(place: object, fault: object) -> Printed:
 
 
 def beginning(text: bytes, differs: Optional[int]) -> Printed:
-    """The output for a beginning: its last line is whole or malformed. If all lines are whole, a step's recorded answer
-    may differ from the machine's."""
+    """The output for a beginning, whose last line is whole or malformed. Step `differs`, if given, has a recorded
+    answer that isn't the machine's."""
     lines = text.split(b"\n")
     if not lines[-1] and len(lines) > 1:
         steps = len(lines) - 2
@@ -49,7 +49,7 @@ def beginning(text: bytes, differs: Optional[int]) -> Printed:
 
 
 def every_beginning(folder: Path, whole: bytes, differs: Optional[int]) -> None:
-    """Cuts the text at each byte. A line that lacks only its line feed is read like the others."""
+    """Cuts the text at each byte. A line that lacks only its line feed is read like any other line."""
 
     def cut(sizes: range) -> None:
         paths = [folder / f"beginning-{size}.jsonl" for size in sizes]

@@ -1,4 +1,5 @@
-"""The callers for system.py: they reset, stay silent, send a byte from time to time, or are too many for the system."""
+"""The callers for system.py: they reset their connection, stay silent, send a byte from time to time, or are too many
+for the system."""
 
 import socket
 import time
@@ -50,8 +51,8 @@ def play_reset(folder):
 
 
 def play_no_descriptor(_folder):
-    """Four fronts that wait for callers take seven descriptors, and each caller takes two. If there is room for nine,
-    some front finds none and ends as a failed one; the others are served."""
+    """Four fronts that wait for callers take seven descriptors, and each caller takes two. If only nine descriptors are
+    allowed, at least one front can't open one and fails; the other fronts are served."""
     through = ["sh", "-c", 'ulimit -n 9; exec "$@"', "sh"]
     with Server(FIRST, fronts=4, through=through) as server:
         served = [caller for front in range(4) if (caller := answered(server.port + front)) is not None]
@@ -116,8 +117,9 @@ def play_only_port_taken(_folder):
 
 
 def play_late(folder):
-    """A front whose first caller comes after another caller has searched for a long time: the front first makes all
-    those steps and then gives the right replies, while the other front goes on with its own."""
+    """The first caller of a front connects after the other front's caller has searched for a long time. The late front
+    first makes all steps of these searches and then sends the right replies, while the other front continues with its
+    own lines."""
     turns = 100
     with Server(file_of("large", LARGE.encode())(folder).decode(), fronts=2) as server:
         first = server.call(0)
@@ -138,8 +140,8 @@ def play_late(folder):
 
 
 def play_gone_with_lines(_folder):
-    """A caller that resets while another is served: netrev still reads its lines, but can't write its first replies.
-    After that, none of its further lines run."""
+    """A caller resets its connection while another caller is served. netrev still reads its lines, but can't write the
+    first replies, and then runs none of its further lines."""
     lines = 2000
     with Server(FIRST, fronts=1, connections=3) as server:
         with server.call(0) as first:
@@ -174,8 +176,8 @@ def play_request_of_a_page(_folder):
 
 
 def play_crowd(folder):
-    """64 fronts, with a third of the callers silent, a third slow and a third that leave badly: the slow callers get
-    the right replies, and so do the silent ones when they speak."""
+    """At 64 fronts, a third of the callers are silent, a third are slow, and a third disconnect badly. The slow callers
+    get the right replies, and so do the silent callers when they send lines at last."""
     with Server(file_of("large", LARGE.encode())(folder).decode(), fronts=64) as server:
         connected = [server.call(front, SO_RCVBUF=4096) for front in range(64)]
         silent, slow, leaves = (connected[first::3] for first in range(3))

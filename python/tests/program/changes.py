@@ -1,11 +1,12 @@
 """Tests `netrev changes` with the built program. The name of each case begins with its sort:
 
-    stored     the changes of three recordings, compared with stored lines; for one with an answer that isn't the machine's, the lines
-               before it
-    refused    faults, usage errors, a missing file: the statuses are those of `check`
-    recording  each stored recording: the lines are those of the fuzzer's model (python/netrev_machine), and for a short one those of
-               `print` for each cell at each position
-    random     random recordings, in the same way; `--random N` sets their number (`pytest python/tests/program/changes.py`)
+    stored     the changes of three recordings are compared with stored lines. If a recording has an answer that isn't the
+               machine's, only the changes before that answer are printed
+    refused    faults, usage errors and a missing file: the statuses equal those of `check`
+    recording  the lines for each stored recording equal those of the fuzzer's model (python/netrev_machine), and, if the
+               recording is short, those that follow from `print` for each cell at each position
+    random     random recordings are tested in the same way; the option `--random N` of
+               `pytest python/tests/program/changes.py` sets their number
 """
 
 import random
@@ -87,8 +88,8 @@ def changes_by_prints(path: Path, recording: Recording) -> bytes:
 
 
 def compare(path: Path) -> None:
-    """Checks that the lines for a recording are the model's, and, if it is short, those that follow from the printed
-    values."""
+    """Checks that the lines for a recording are the model's and that, for a short recording, they follow from the
+    printed values."""
     text = path.read_bytes()
     right = printed("changes", text, b"", Observer())
     assert right is not None, "the model has an opinion on each recording that is here"
@@ -104,7 +105,7 @@ def test_recording(path: Path) -> None:
 
 
 def test_random(folder: Path, request: pytest.FixtureRequest) -> None:
-    """Random recordings: first with the least limits, then with others."""
+    """Random recordings, first with the least limits and then with larger ones."""
     for seed in range(request.config.getoption("--random")):
         dice = random.Random(f"changes {seed}")
         recording, _ = Author(dice).recording(dice.choice([3, 12, 40, 120]))

@@ -1,13 +1,14 @@
 """Tests each call that takes memory, with its requests for memory refused one after the other.
 
-The program is crates/nr_refused, or the program that NR_REFUSED names. It makes the call that it is given, and then
-makes it again with memory; scripts/refused.c is loaded before the C library. In the first run, the first request of the
-first call is refused; in the next run, the second one; and so on until no request is left. Then each request is refused
-together with all later ones. The program compares the results of both calls with the right answer and, after a refusal,
-compares the values that must stay unchanged. A call whose request is refused must therefore report that, or be right at
-once or the next time; and a call without any memory must be refused, unless it takes none.
+The program is crates/nr_refused, or the program that NR_REFUSED names. It makes the given call, and then makes it again
+with memory; scripts/refused.c is loaded before the C library. In the first run, the first request of the first call is
+refused; in the next run, the second one; and so on until no request is left. Then each request is refused together with
+all later ones. The program compares the results of both calls with the right answer and, after a refusal, compares the
+values that must stay unchanged. A call whose request is refused must either report that or return the right result, and
+must return the right result when it is repeated. A call that gets no memory at all must report that, unless it needs
+none.
 
-Each test prints how many requests its call makes, and how often it could do without one; `pytest -rP` shows this.
+Each test prints how many requests its call makes, and how many of them it could do without; `pytest -rP` shows this.
 """
 
 import os
@@ -39,7 +40,7 @@ if not is_program(PROGRAM):
 
 @dataclass
 class Tally:
-    """The number of refused requests, and the number of those after which the call reported the refusal."""
+    """The number of refused requests, and how many of these refusals the call reported."""
 
     refused: int = 0
     told: int = 0

@@ -1,8 +1,8 @@
 """Runs the built program for many steps, copies and interruptions.
 
 No contract says how much memory a run takes, or how often a call may be interrupted. So these tests step back and forth
-over a read many times, and make many copies of a large state, in an address space with room for only one. They also
-interrupt reads and writes repeatedly, as signals do, for which they need a C compiler.
+over a read many times, and make many copies of a large state in an address space that has room for only one copy. They
+also interrupt reads and writes repeatedly, as signals do; this needs a C compiler.
 """
 
 import subprocess
@@ -53,7 +53,8 @@ def same(script: str, right: str, came: tuple[int, str, str]) -> None:
 
 
 def test_steps_to_and_fro_over_a_read_take_no_more_memory(folder: Path) -> None:
-    """20,000 steps over a read of 65,536 bytes: each delta holds the bytes, and the next delta frees them."""
+    """Makes 20,000 steps back and forth over a read of 65,536 bytes. Each delta holds the bytes, and netrev frees them
+    when it makes the next delta."""
     path = folder / "read.jsonl"
     lines = [f'["sockopen",{PIECE},{PIECE}]', f'["arrive",0,"{"ab" * PIECE}"]', f'["sysread",0,0,{PIECE}]']
     path.write_text("\n".join(['{"netrev":1,"gor":1,"sock":1,"desc":1,"buf":65536}', *lines, ""]), encoding="ascii")

@@ -23,8 +23,9 @@ SETTINGS = (
     "NO_COLOR",
 )
 
-# A toolchain that has already compiled. Like the real toolchain, `rt try` runs the program in a temporary folder, as a
-# child, and removes both when it is interrupted. It records each of its calls.
+# A toolchain that has already compiled netrev. Like the real one, its `rt try` runs the program as a child in a
+# temporary folder; when it is interrupted, it kills the child and removes the folder. The toolchain records each of its
+# calls.
 RT = """#!/bin/sh
 echo "$*" >> "{calls}"
 case $1 in
@@ -46,7 +47,7 @@ wait $program
 
 
 def environment(**settings: str) -> dict[str, str]:
-    """The environment of a user who has set none of netrev's variables, with these settings."""
+    """The environment of a user who has set no variable of netrev except these."""
     return {name: value for name, value in os.environ.items() if name not in SETTINGS} | settings
 
 

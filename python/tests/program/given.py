@@ -17,17 +17,17 @@ from .sharing import ROOT
 
 
 def upgrade_of(text: bytes) -> bytes:
-    """The model's upgrade of a recording's text, or the fault that it finds."""
+    """The model's upgrade of a recording's text, or the fault that the model finds."""
     return output_of("upgrade", text)
 
 
 def suspects_of(text: bytes) -> bytes:
-    """The lines that the model prints about a recording's suspects, or the fault that it finds."""
+    """The lines that the model prints about a recording's suspects, or the fault that the model finds."""
     return output_of("suspects", text)
 
 
 def output_of(program: str, text: bytes) -> bytes:
-    """What the model says that a program prints for a recording."""
+    """A program's output for a recording, according to the model."""
     right = printed(program, text, b"", Observer())
     assert right, "the model has an opinion on each recording that is here"
     return right.output
@@ -57,7 +57,7 @@ POSITION = b"at 0 of 10 forward\n"
 
 @dataclass
 class Function:
-    """A case that is run by a function."""
+    """A case that a function runs."""
 
     name: str
     play: Callable[[Path], None]

@@ -2,11 +2,12 @@
 
 A history is an order of all lines that keeps each front's own order, in which a line comes before another if its reply
 was read before the other was sent, and in which each reply is the one that netrev_machine's debugger gives after the
-commands before it. So a query shows a state from between its sending and its reply, and no state older than its front
-has seen; and once the journal is full, each further command gets the reply that says so.
+commands before it. So a query shows a state that the session had between the query's sending and its reply, and that is
+no older than the last state its front has seen. Once the journal is full, each further command gets the reply that says
+so.
 
 The search goes from the beginning, and decides at each point which front's line comes next. A query or a fault that
-fits is taken at once. This loses no history, because the line changes nothing and could come this early in any of them.
+fits is taken at once. This loses no history, because the line changes nothing and could come this early in any history.
 If several commands fit, those whose replies show where they began (such as the reply to `stepi`) are tried first. The
 search doesn't leave a position that remaining lines need and can't reach again, and doesn't delete a mark that another
 line still shows. It doesn't enter the same state with the same remaining lines twice.
@@ -98,8 +99,8 @@ class Search:
         self.order: list[int] = []
         self.taken = [0] * len(fronts)
         self.clues = self.read_clues()
-        # of the remaining lines: how many must be placed; how many lead to a position, leave it, or are answered there;
-        # and how many show a mark or checkpoint
+        # counts of the remaining lines: those that must be placed; those that lead to a position, leave it, or are
+        # answered there; and those that show a mark or checkpoint
         self.unplaced = 0
         self.entries: Counter[Optional[int]] = Counter()
         self.leaves: Counter[int] = Counter()
@@ -138,8 +139,8 @@ class Search:
         return self.clues[front][self.taken[front]]
 
     def open_fronts(self) -> list[int]:
-        """The fronts whose next line may come now: when it was sent, no reply to any line that is still to come had
-        been read."""
+        """The fronts whose next line may come now: it was sent before the reply to any of the remaining lines was
+        read."""
         left = [front for front, at in enumerate(self.taken) if at < len(self.fronts[front])]
         first: int = min((self.known[front][self.taken[front]] for front in left), default=0)
         return [front for front in left if self.next_of(front).sent < first]
@@ -178,7 +179,7 @@ class Search:
         self.state = state
 
     def back_to(self, length: int, state: State) -> None:
-        """Goes back to the state with this many lines."""
+        """Returns to the state after this many lines."""
         while len(self.order) > length:
             front = self.order.pop()
             self.taken[front] -= 1
@@ -186,7 +187,7 @@ class Search:
         self.state = state
 
     def choices(self) -> list[Choice]:
-        """Takes all lines that fit and change nothing, and returns the lines that fit then, best last."""
+        """Takes all lines that fit and change nothing. Returns the lines that fit after them, the best one last."""
         while True:
             fitting = [(front, state) for front in self.open_fronts() if (state := self.behind(front)) is not None]
             calm = [choice for choice in fitting if self.next_of(choice[0]).is_calm()]
@@ -197,8 +198,8 @@ class Search:
                 self.take(*choice)
 
     def may_go_now(self, front: int) -> bool:
-        """Whether the front's next line may come as soon as it fits: it deletes a mark or checkpoint that no remaining
-        line shows, and no remaining line needs all places to be taken."""
+        """Whether the front's next line may come as soon as it fits: it deletes a mark or checkpoint, and no reply of
+        the session says that there is room for no more of them."""
         return bool(self.clue_of(front).takes_away) and not self.are_full
 
     def worth(self, choice: Choice) -> tuple[bool, int]:
@@ -212,8 +213,8 @@ class Search:
         if not self.fits_in:
             return None
         seen = set()
-        # the points at which the search may go on: the count of lines taken, the state, and the choices left to try, if
-        # known yet
+        # the points at which the search may continue: the count of lines taken, the state, and the choices left to try,
+        # if they are known yet
         forks: list[tuple[int, State, Optional[list[Choice]]]] = [(0, self.state, None)]
         while forks:
             length, state, choices = forks.pop()

@@ -1,13 +1,14 @@
 """Bad recordings and bad command lines for the built program. The name of each case begins with its sort:
 
-    reason     each reason for which a step doesn't apply, once with `netrev check`. Three are left out, because no recording of
-               1,000,000 steps reaches them: 6 (a full field of a lock word), 18 (a number at its last value) and 21 (a corrupted
-               descriptor). The tests of the crates have those
+    reason     each reason for which a step doesn't apply, once with `netrev check`. Three reasons are left out, because no
+               recording of 1,000,000 steps reaches them: 6 (a full field of a lock word), 18 (a number at its last value) and
+               21 (a corrupted descriptor). The crates' own tests reach these three
     line       a faulty line after a header, and a faulty line after a step that doesn't apply
     header     first lines that aren't a header
-    version    the differences of the two versions: recorded answers, `closewrite`, large buffers
-    answer     recorded answers: malformed ones, one that isn't the machine's, and which of two faults is reported
-    beginning  every beginning of each short recording, byte by byte: accepted if it ends with a line, else refused at its last line
+    version    the differences between the two versions: recorded answers, `closewrite` and large buffers
+    answer     malformed recorded answers, an answer that isn't the machine's, and which of two faults is reported
+    beginning  every beginning of each short recording, byte by byte: netrev accepts a beginning that ends with a whole line,
+               and refuses any other at its last line
     command    command lines that name nothing that exists
 """
 

@@ -1,10 +1,11 @@
 """Tests the built program beyond ordinary sizes. The name of each case begins with its sort:
 
-    walk      recordings longer than the kept way back and than the distance between copies, walked in both directions
-    dump      a buffer larger than one write
-    text      recordings of more than a megabyte, and steps with the most bytes
-    limit     the most marks and checkpoints, and one more; no number is reused
-    journal   the most commands of `run`, and one more
+    walk      netrev walks in both directions over recordings with more steps than it keeps deltas for, and with more steps than
+              lie between two copies
+    dump      the output of a buffer that takes more than one write
+    text      recordings of more than a megabyte, and steps with the greatest number of bytes
+    limit     the greatest number of marks and checkpoints, and one more than that; no number is reused
+    journal   the greatest number of commands that `run` accepts, and one more than that
 """
 
 import subprocess
@@ -28,7 +29,7 @@ def ticks(first: int, last: int) -> str:
 
 @dataclass
 class Case:
-    """A recording, the lines that are sent unless it is only checked, and the output."""
+    """A recording, the lines that are sent (None if the recording is only checked), and the output."""
 
     name: str
     recording: str

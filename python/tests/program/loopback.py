@@ -2,17 +2,18 @@
 
     table     two callers one after the other, with known replies, and journals of one word and of four
     turns     three callers at each of two fronts, one after the other
-    stopped   a server without an end is stopped by a signal; then another serves at the same ports
-    elsewhere nobody is served at this machine's other addresses
-    crowded   eight callers at the same time, with room for seven commands; two with a hundred commands each
+    stopped   a signal stops a server that serves without end; then another server serves at the same ports
+    elsewhere callers at this machine's other addresses aren't served
+    crowded   eight callers at the same time, with room for seven commands; two callers with a hundred commands each
     silent    a silent caller delays nobody at the sixteen other fronts
-    hostile   callers who leave in the middle, send a line without an end, don't read, or go on after `quit`, and a port in use: the
-              next caller is served, netrev ends by itself, and its status says whether a connection failed
+    hostile   callers disconnect in the middle, send a line without an end, don't read, or continue after `quit`, or a port is
+              in use. The next caller is served, netrev ends by itself, and its status says whether a connection failed
     histories callers at 64 fronts, two at each, send random lines. All replies must fit one order of all lines (history.py), and
-              `placed K` must be their number. With all sorts of lines, eight of the fronts talk at the same time, because the
-              search takes too long for more; with steps forwards and queries, all 64 do. Two fronts fill the journal
-    altered   the search for that order can fail: each reply of one session, and each of a command in another, is altered in
-              turn, and no order fits
+              `placed K` must be the number of commands. With all sorts of lines, only eight fronts talk at the same time,
+              because the search would take too long for more; with steps forwards and queries, all 64 fronts do. Two fronts
+              fill the journal
+    altered   tests that the search for an order can fail: no order fits after any reply of one session, or any reply to a
+              command of another session, is altered
 
 pytest's option --seed sets the seed of the random lines.
 """
@@ -92,7 +93,7 @@ class Lines:
         self.kinds = sorted(set(recording.kinds)) + list(KINDS)[:2]
 
     def number(self):
-        """The number of a mark or checkpoint that may exist or not."""
+        """The number of a mark or checkpoint, which may not exist."""
         return self.dice.randint(0, self.dice.choice([12, 120]))
 
     def step(self):
@@ -170,7 +171,7 @@ def commands_in(lines):
 def share_lines(recording, fronts, journal=4096, workers=1, windows=(1,), at_once=None):
     """Sends the lines of each front's connections, each caller with one of the windows, and returns what each front
     exchanged. All callers connect at the beginning. The first caller talks alone; then the callers of this many fronts,
-    or of all, talk at the same time."""
+    or of all fronts, talk at the same time."""
     at_once = at_once or len(fronts)
     with Server(recording.path, len(fronts), len(fronts[0]), journal, workers) as server:
         talkers = [
@@ -270,7 +271,7 @@ def test_elsewhere(parked):
 def other_addresses():
     """This machine's addresses other than 127.0.0.1: further ones of 127.0.0.0/8, and those of its network."""
     found = [(socket.AF_INET, "127.0.0.2"), (socket.AF_INET, "127.255.255.254")]
-    # nothing is sent: this only finds the address from which it would be sent
+    # connecting a datagram socket sends nothing: it only finds the local address
     for family, far in ((socket.AF_INET, "192.0.2.1"), (socket.AF_INET6, "2001:db8::1"), (socket.AF_INET6, "::1")):
         try:
             with socket.socket(family, socket.SOCK_DGRAM) as one:
@@ -292,7 +293,7 @@ def test_crowded(lives):
 
 
 def test_silent(parked, dice):
-    """Sixteen callers finish beside a silent one."""
+    """Sixteen callers finish while another caller is silent."""
     for leave, status in ((socket.socket.close, 0), (reset, 3)):
         with Server(parked.path, fronts=17) as server:
             silent = server.call(0)
@@ -366,7 +367,7 @@ def no_end_behind_quit(caller):
 
 
 def stays_behind_quit(caller):
-    """Reads to the end of the replies and then neither closes nor sends; netrev leaves the caller alone."""
+    """Reads to the end of the replies and then neither closes nor sends; netrev doesn't wait for such a caller."""
     caller.sendall(b"quit\n")
     expect("the reply", b"bye\n", caller.recv(100))
     expect("the end of the replies", b"", caller.recv(100))
@@ -409,7 +410,7 @@ def play_taken_port(parked):
 
 
 def race_forwards(lives, dice, fronts, connections):
-    """What this many fronts exchange that step forwards at the same time, with queries in between."""
+    """The lines and replies of this many fronts, which step forwards at the same time, with queries in between."""
     lines = Lines(dice, lives)
     some = [[lines.some_forwards(10) for _ in range(connections)] for _ in range(fronts)]
     return share_lines(lives, some, windows=(1, 4, 1000))
@@ -430,7 +431,7 @@ def play_mixed(lives, dice, windows, workers):
 
 
 def test_histories(parked, lives, dice):
-    """Random lines at many fronts have a history."""
+    """The replies to random lines at many fronts have a history."""
     history_of(lives, race_forwards(lives, dice, fronts=64, connections=2))
     for windows, workers in ((1,), 1), ((1, 4), 3):
         play_mixed(lives, dice, windows, workers)
@@ -453,16 +454,16 @@ def other_reply(reply):
 
 
 def test_altered(parked, lives, dice):
-    """If two callers talk one after the other, there is only one history, so an altered reply leaves none. Commands
-    with rising positions have only one possible order, so altering the reply to a command leaves no history either. An
-    altered query may fit earlier or later."""
+    """If two callers talk one after the other, only one history exists, so none exists after a reply is altered.
+    Commands with rising positions have only one possible order, so no history exists after the reply to a command is
+    altered. The altered reply to a query may fit an earlier or a later state."""
     two = [[Lines(dice, parked).some(20)] for _ in range(2)]
     expect_no_other(parked, share_lines(parked, two, at_once=1), lambda one: True)
     expect_no_other(lives, race_forwards(lives, dice, fronts=8, connections=1), lambda one: is_command(one.asked))
 
 
 def expect_no_other(recording, exchanged, has_one_place):
-    """Checks that there is a history, and that there is none if the reply to any line with only one possible place is
+    """Checks that a history exists, and that none exists if the reply to any line with only one possible place is
     altered."""
     history_of(recording, exchanged)
     for front, exchanges in enumerate(exchanged):

@@ -20,7 +20,7 @@ HEADING = re.compile(r"^(?:## (.+)|\*\*(.+?)[.,]?\*\*)", re.MULTILINE)
 
 
 class ReadmeError(Exception):
-    """Raised, with what README shows and what was printed instead."""
+    """Raised if the output differs from README; the message has both texts."""
 
 
 @dataclass
@@ -56,7 +56,7 @@ class Command(Typed):
     prompts: list[Typed] = field(default_factory=list)
 
     def fails(self) -> bool:
-        """Whether README shows that the command fails, as a test does."""
+        """Whether README shows that the command fails, because its output has a failed test."""
         return "FAIL" in "".join(self.shown)
 
 
@@ -73,7 +73,7 @@ def sections(text: str) -> dict[str, list[Command]]:
 
 
 def read_block(block: str, first: int, is_varying: bool, commands: list[Command]) -> None:
-    """Adds the commands of a block, whose first line has this number, to the earlier ones."""
+    """Adds the commands of a block to the earlier commands. The block's first line has this number."""
     typed: list[Typed] = []
     for number, line in enumerate(block.splitlines(), first):
         shown = line[4:]

@@ -1,5 +1,5 @@
-"""The places in which README's commands must work, each without anything else of netrev: a clone, the archive and the
-Debian package.
+"""The places in which README's commands must work: a clone, the archive and the Debian package. Nothing else of netrev
+is installed in any of them.
 
     python3 python tests.program.readme_rooms ROOT    plays README in ROOT/root, for scripts/try_deb.sh: the root of a Debian system
                                                       with the package and Go"""

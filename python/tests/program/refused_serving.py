@@ -3,20 +3,20 @@
 Two callers, each at its own front, send fixed lines one after the other, so the right replies are known: first over a
 short recording, which one worker searches, then over a recording of more than three thousand steps, which three workers
 search. In the second case, the allocations before callers are served aren't refused, because they are like those of the
-first. The allocations come in the same order each time, except those of threads that are starting. So each number is
-refused until there is no allocation with that number in as many successive sessions as run at the same time. A refused
-allocation must be reported once, and in one of these ways:
+first. The allocations come in the same order each time, except those of threads that are starting. So the tests go on
+to higher numbers until as many successive sessions as run at the same time refuse no allocation. A refused allocation
+must be reported once, and in one of these ways:
 
-- before a caller is served, as `fault 108 memory`, with status 1; - in place of a reply to a query, or to a line that
-first has to complete another front's search,
-  as `fault 301 memory`, after which the line is sent again;
+- before a caller is served, as `fault 108 memory`, with status 1;
+- in place of a reply to a query, or to a line that first has to complete another front's search, as
+  `fault 301 memory`, after which the line is sent again;
 - in place of a reply to a search, as `fault 302 memory, placed N`, after which `resume` gives the reply, and no other
   line;
 - at the end in place of `placed K`, as `fault 108 memory` with status 1.
 
 All other replies must be right, and every reply must be right if netrev could do without the allocation. So no command
-is lost or placed twice. Finally, no thread can be started: then fronts are served one after the other, and each
-searches by itself.
+is lost or placed twice. In the last session no thread can be started, so the fronts are served one after the other, and
+each searches by itself.
 """
 
 from bisect import bisect_left
@@ -156,8 +156,8 @@ class Session:
 
 
 def play(folder, script, words):
-    """A session of a netrev that is started by the command `env` with these words, with its allocations counted in a
-    file."""
+    """Runs a session of a netrev that the command `env` starts with these arguments. A file gets a byte for each
+    refused allocation."""
     told = folder / "-".join([script.name, *words[1:]]).replace("=", "-")
     through = ["sh", "-c", 'told=$1; shift; exec env "$@" 9> "$told"', "sh", str(told), *words]
     recording = folder / f"{script.name}.jsonl"
@@ -181,7 +181,8 @@ def play(folder, script, words):
 
 
 def first_served(play_number):
-    """The number of the first allocation after which callers are served; before it, netrev loads."""
+    """The number of the first allocation whose refusal lets callers be served; netrev makes the earlier allocations
+    while it loads."""
     most = 1
     while not play_number(most).served:
         most *= 2

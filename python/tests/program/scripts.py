@@ -1,5 +1,5 @@
-"""Runs each script that tests the built program or the tree as a test. For each part that a script leaves out for lack
-of a tool, it prints a line `left out: NAME: WHY`; its test is then skipped and doesn't count as passed."""
+"""Runs as tests the scripts that check the built program or the tree. A script that leaves out a part for lack of a
+tool prints a line `left out: NAME: WHY`; its test is then skipped and doesn't count as passed."""
 
 import shlex
 import subprocess

@@ -1,7 +1,7 @@
 """A serving netrev and callers that talk to it at the same time, for the scripts that test `netrev serve`.
 
-Nothing here waits by sleeping: it waits for a port by connecting until the port exists, for replies by the socket, and
-for the end by the process. Each wait has a limit.
+No function here waits by sleeping. A wait for a port connects until the port exists, a wait for replies reads the
+socket, and a wait for the end waits for the process. Each wait has a limit.
 """
 
 import os
@@ -27,7 +27,8 @@ LOOPBACK = "127.0.0.1"
 
 @dataclass
 class Exchange:
-    """A line and its reply. `sent` and `read` are the ordinals of its sending and reading over all fronts."""
+    """A line and its reply. `sent` and `read` say when the line was sent and its reply was read, as numbers that count
+    these events over all fronts."""
 
     asked: Asked
     line: bytes
@@ -70,8 +71,8 @@ def library_of(name, folder):
 class Ports:
     """Unused ports, none of which is given twice. They are below the ports that the system gives to callers. They come
     from blocks whose first port is held as long as this script runs, so that two scripts don't take the same ports. No
-    process may be started while a port is tried, since the process would hold that port for a moment: both take
-    `lock`."""
+    process may be started while a port is tried, because the process would hold that port for a moment; `lock` prevents
+    this."""
 
     BLOCK = 256
 
@@ -121,8 +122,8 @@ PORTS = Ports()
 
 class Server:
     """A netrev that serves a recording at ports of its own, or from `port` on. `before` is called with the first port
-    before netrev is started; the command `through`, if given, starts netrev. Each search uses the given number of
-    workers. Without a number of connections, it serves until it is stopped."""
+    before netrev starts. The command `through`, if given, starts netrev. Each search uses the given number of workers.
+    Without a number of connections, it serves until it is stopped."""
 
     def __init__(self, recording, fronts=1, connections=1, journal=4096, workers=1, through=(), before=None, port=None):
         self.errors = tempfile.TemporaryFile()
@@ -213,7 +214,7 @@ class Talker:
     ended: bool = False
 
     def wants_to_send(self):
-        """Prepares lines for sending, as many as the window allows, and returns whether there are any."""
+        """Prepares as many lines for sending as the window allows, and returns whether anything is left to send."""
         while self.sent < len(self.lines) and len(self.exchanges) - self.answered < self.window:
             line = self.lines[self.sent]
             self.sent += 1
@@ -227,7 +228,7 @@ class Talker:
         self.unsent = self.unsent[self.caller.send(self.unsent) :]
 
     def receive(self):
-        """Reads what has arrived; at the end of the stream, this talker has ended."""
+        """Reads what has arrived; the end of the stream ends this talker."""
         came = self.caller.recv(1 << 16)
         self.ended = not came
         *whole, self.unread = (self.unread + came).split(b"\n")
@@ -235,7 +236,7 @@ class Talker:
             self.take(line.decode("ascii"))
 
     def take(self, line):
-        """Reads a line of a reply; the first line of each of the two lists says how many more there are."""
+        """Reads a line of a reply. Two kinds of replies are lists, whose first line says how many lines follow."""
         if self.answered == len(self.exchanges):
             raise Wrong(f"a reply to nothing: {line!r}")
         if not self.reply:
@@ -257,7 +258,7 @@ class Talker:
 
 
 def converse(talkers):
-    """Lets all talk at the same time, each until netrev ends its connection."""
+    """Lets all callers talk at the same time, each until netrev ends its connection."""
     with selectors.DefaultSelector() as selector:
         for talker in talkers:
             talker.caller.setblocking(False)

@@ -131,8 +131,8 @@ def play_buffer(folder: Path) -> None:
 
 
 def crowd() -> tuple[list[str], int]:
-    """Steps that make all goroutines, sockets, and descriptors with both timers armed, put a waiter at each side of a
-    descriptor, and queue the rest for one lock; and the goroutine that has that lock."""
+    """Steps that make all goroutines and sockets, and all descriptors with both timers armed; put a waiter at each side
+    of a descriptor; and queue the other goroutines for one lock. Also returns the goroutine that holds that lock."""
     steps = ['["spawn"]'] * (GOROUTINES - 1) + ['["sockopen",16,16]'] * SOCKETS
     steps += [f'["pollopen",0,{number}]' for number in range(DESCRIPTORS)]
     for number in range(DESCRIPTORS):
@@ -205,7 +205,7 @@ def play_workers(folder: Path) -> None:
 
 
 def seconds_of(process: int) -> dict[str, int]:
-    """How long each thread of a process has run, in the system's ticks; the key "all" has the whole process."""
+    """How long each thread of a process has run, in the system's ticks; the key "all" stands for the whole process."""
     found = {"all": ticks_in(Path(f"/proc/{process}/stat"))}
     for thread in Path(f"/proc/{process}/task").iterdir():
         found[thread.name] = ticks_in(thread / "stat")
@@ -219,7 +219,7 @@ def ticks_in(file: Path) -> int:
 
 def play_idle_caller(folder: Path) -> None:
     """If there is room for each worker's report, the front's own thread repeats no part of the search. It may itself be
-    one of the workers, so it may take no more time than a worker does, and not as much as all of them together."""
+    one of the workers, so it may take as much time as a worker takes, but not as much as all workers together."""
     with Server(ticking(folder), workers=WORKERS) as server, server.call(0) as caller:
         caller.settimeout(WAITS)
         replies = caller.makefile("r", encoding="ascii", newline="\n")
@@ -249,8 +249,8 @@ def play_commands(folder: Path) -> None:
 
 
 def greatest_memory(path: Path, steps: int) -> int:
-    """The most bytes that netrev has held when it has read a recording. (The figure of `wait4` includes this process's
-    memory from before the program began.)"""
+    """The most bytes that netrev has held by the time it has read a recording. (The figure of `wait4` includes this
+    process's memory from before the program began.)"""
     with subprocess.Popen([NETREV, "run", str(path)], stdin=subprocess.PIPE, stdout=subprocess.PIPE, text=True) as ran:
         assert ran.stdin and ran.stdout
         ran.stdin.write("info position\n")

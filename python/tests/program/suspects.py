@@ -1,14 +1,15 @@
 """Tests `netrev suspects` with the built program. The name of each case begins with its sort:
 
-    stored     the stored lines of six recordings: of each hunt, of one with an answer that isn't the machine's, and of one with a
-               faulty line
-    refused    faults, usage errors, a missing file: the statuses are those of `check`
-    recording  each stored recording: the lines are those of the naive reading of the definitions (netrev_machine/suspects.py)
+    stored     the output for six recordings is compared with stored lines: the recordings of each hunt, a recording with an
+               answer that isn't the machine's, and a recording with a faulty line
+    refused    faults, usage errors and a missing file: the statuses equal those of `check`
+    recording  the lines for each stored recording equal those of the naive implementation (netrev_machine/suspects.py)
     row        the small recordings at the boundaries of the definitions (tests/test_suspect_lines.py)
-    bad        the recordings that hostile.py refuses: the only line is that of `check`
+    bad        the recordings in hostile.py that netrev refuses: the only line equals that of `check`
     traffic    a recording of each bug that the fuzzer plants
     greatest   a million steps, most of which end a call, with the greatest numbers
-    random     random recordings, many of which end when a goroutine is parked. The gate runs 300. By hand, 2,000 take a few minutes:
+    random     random recordings, many of which end while a goroutine is parked. The gate runs 300 of them; 2,000 take a few
+               minutes:
 
         NETREV=FILE sh scripts/pytest.sh python/tests/program/suspects.py -k random --random 2000
 """
@@ -71,7 +72,8 @@ REFUSED = (
 
 
 def compare(path: Path) -> list[bytes]:
-    """Checks that the output for a recording is the one by the naive reading, and returns the lines about suspects."""
+    """Checks that the output for a recording is that of the naive implementation, and returns the lines about
+    suspects."""
     right = printed("suspects", path.read_bytes(), b"", Observer())
     assert right is not None, "the model has an opinion on each recording that is here"
     played(["suspects", path], right.status, right.output)

@@ -1,17 +1,18 @@
 """Tests the built program against the operating system. The name of each case begins with its sort:
 
-    output    standard output closed, full, or a pipe whose reader has gone: status 3, no signal, nothing on standard error
-    input     standard input closed, a folder, empty, not there yet
-    words     command lines: those that ask for a program, and usage errors
+    output    standard output is closed or full, or is a pipe that has no reader: netrev ends with status 3, without a signal
+              and with nothing on standard error
+    input     standard input is closed, is a folder, is empty, or has no data yet
+    words     command lines that are valid, and usage errors
     file      unusual files: a folder, a pipe that comes in pieces, a name with spaces, a missing file
-    lines     commands and recordings without a line feed, of the greatest length and one byte more, with bytes that aren't text.
-              Some have less memory than bytes, so the input can't be kept
-    signals   a signal ends `run` and `serve` after whole lines, and no port stays in use; stopping a process isn't an end
-    callers   callers that reset, are silent or slow: the others are served; a request of a web page
-    memory    address spaces of a hundred sizes, from too small for any program to ample: the right replies, or that memory
-              ran out, and below the size in which the system can load the program, the system's own message
-    upgrade   `upgrade` in all of these: its whole text, or its first lines and the fault
-    suspects  `suspects` with such outputs and files
+    lines     commands and recordings without a line feed, of the greatest length and one byte longer, and with bytes that
+              aren't text. In some cases netrev has less memory than the input has bytes, so it can't keep the input
+    signals   a signal ends `run` and `serve` after whole lines, and no port stays in use; a stopped process can continue
+    callers   other callers are served while a caller resets its connection, is silent or is slow; a request of a web page
+    memory    address spaces of a hundred sizes, from too small for any program to ample: netrev gives the right replies or
+              reports that memory ran out; if the system can't load the program, it prints its own message
+    upgrade   `upgrade` in all these situations prints its whole text, or its first lines and the fault
+    suspects  `suspects` with the same outputs and files
 """
 
 import os
@@ -151,8 +152,9 @@ FULL = opened("/dev/full", os.O_WRONLY)
 
 @dataclass
 class Case:
-    """netrev with `word` and FILE; its standard input, given as bytes, as one of the above or as CLOSED; its standard
-    output, which is read unless named; its memory, in all or beyond what loading takes; and the expected end."""
+    """A call of netrev with `word` and FILE, and its expected end. `input` is bytes, one of the above states, or
+    CLOSED. Standard output goes to `into`, and is read if that is None. `memory` limits the address space, and `beside`
+    limits it to that much more than loading takes."""
 
     name: str
     word: str
@@ -285,7 +287,7 @@ def words():
 
 
 def play_words(given, status, errors, folder, output=b""):
-    """Calls netrev in the folder with these words."""
+    """Calls netrev in the folder with these arguments."""
     ran = subprocess.run([NETREV, *given], cwd=folder, input=b"", capture_output=True, timeout=PATIENCE, check=False)
     expect("status, output and errors", (status, output, errors), (ran.returncode, ran.stdout, ran.stderr))
 
@@ -530,7 +532,7 @@ def play_terminal(_folder):
 
 
 def play_terminal_gone(_folder):
-    """The keyboard's end is closed, which counts as a failed read."""
+    """The keyboard's end of the terminal is closed, which counts as a failed read."""
     with terminal() as ends, started([NETREV, "run", FIRST], stdin=ends[1], bufsize=0) as process:
         os.write(ends[0], b"stepi\n")
         expect("the reply", b"at 1\n", process.stdout.readline())
@@ -543,7 +545,7 @@ def play_terminal_gone(_folder):
 
 
 def play_output_terminal_gone(_folder):
-    """The screen's end is closed, which counts as a failed write."""
+    """The screen's end of the terminal is closed, which counts as a failed write."""
     with terminal() as ends:
         words = [NETREV, "run", FIRST]
         pipe = subprocess.PIPE
@@ -656,7 +658,7 @@ def play_held_run(_folder):
 
 
 def play_held_serve(_folder):
-    """One front waits for its caller, one for a line, and one for its caller's close."""
+    """One front waits for a caller, one for a line, and one for its caller to close the connection."""
     with Server(FIRST, fronts=3) as server:
         first, last = server.call(0), server.call(2)
         last.sendall(b"quit\n")

@@ -78,7 +78,8 @@ REFUSED = b"step 11: fault 109 answer\n"
 
 @contextmanager
 def planted(name, out):
-    """Context with a fault planted in the model, and the folder of the only case that differs and is kept."""
+    """Plants a fault in the model within this context, and yields the folder of the only case that differs, which is
+    kept."""
     seed, plant = PLANTED[name]
     with plant(), mock.patch("netrev_fuzz.__main__.MOST_DIFFERENCES", 1):
         found, printed = quietly(play, NETREV, seed, Met(), cases=WITHIN, out=out)
@@ -149,7 +150,7 @@ class Companion(unittest.TestCase):
 
 
 class Pressing(unittest.TestCase):
-    """The fuzzer's Ctrl-C reaches the session for which it is pressed, and nothing else."""
+    """The Ctrl-C that the fuzzer presses for a session reaches only that session."""
 
     def setUp(self):
         self.came = 0

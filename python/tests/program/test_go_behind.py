@@ -1,5 +1,5 @@
-"""The outputs of `netrev-go test` that are made from recordings after a run: a page for each recording, and other
-schedules of those whose tests passed. A script stands in for Go."""
+"""The outputs that `netrev-go test` makes from recordings after a run: a page for each recording, and findings in other
+schedules of tests that passed. A script stands in for Go."""
 
 import json
 import pathlib
@@ -84,10 +84,10 @@ class Pages(Behind):
 
 
 class Explored(Behind):
-    """A run that passed, with a recording that hangs in another schedule."""
+    """A run of tests that passed, with a recording that hangs in another schedule."""
 
     def explored(self, *words: str, status: int = 0, recording: pathlib.Path = GOOD) -> tuple[int, str]:
-        """The status and the output if this is the recording of TestGreen."""
+        """The status and the output of netrev-go if TestGreen has this recording."""
         (self.folder / "lines").write_text(
             "1 1 5 package example.org/toy\n3 20 1 runs TestGreen\n14 20 3 ends TestGreen\n"
         )

@@ -1,5 +1,5 @@
-"""Recordings of real Go programs: netrev accepts the stored ones and those of made-up logs; Go's lock words equal
-netrev's; and each difference from Go is found at its step."""
+"""Recordings of real Go programs and of made-up logs: netrev accepts them; Go's lock words equal netrev's; and each
+difference from Go is found at its step."""
 
 import json
 import pathlib

@@ -1,10 +1,11 @@
 """Tests `netrev upgrade` with the built program. The name of each case begins with its sort:
 
-    stored     upgraded recordings, compared with stored texts; with an answer that isn't the machine's
-    written    one form of text, whatever the recording's was: compact, keys in alphabetical order, digits in lower case
-    refused    faults, usage errors, a missing file: the statuses are those of `check`
-    recording  each stored recording: its upgrade is the text of the fuzzer's model (python/netrev_machine), `check` accepts it, another
-               upgrade gives the same bytes, and `run` gives the same replies for it
+    stored     upgraded recordings are compared with stored texts; one of them has an answer that isn't the machine's
+    written    whatever a recording's form was, its upgrade is compact, with keys in alphabetical order and digits in lower
+               case
+    refused    faults, usage errors and a missing file: the statuses equal those of `check`
+    recording  the upgrade of each stored recording equals the text of the fuzzer's model (python/netrev_machine); `check`
+               accepts it, a second upgrade has the same bytes, and `run` has the same replies for it
 """
 
 import subprocess

@@ -1,2 +1,2 @@
-"""Tests of nrdb with the built program: its views against plain `print`s, its hints, its terminal, and the sessions of
-docs/."""
+"""Tests nrdb with the built program: its views compared with plain `print`s, its hints, its terminal, and the sessions
+of docs/."""

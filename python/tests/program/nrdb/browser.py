@@ -37,7 +37,7 @@ picture.setPointerCapture = () => {};
 def used(
     page: str, script: str, size: tuple[int, int] = (1280, 800), scheme: int = LIGHT, place: str = ""
 ) -> dict[str, Any]:
-    """What a script that uses the page has recorded in `told`. No error may occur meanwhile."""
+    """The values that a script records in `told` while it uses the page. No error may occur in the page meanwhile."""
     probe = (
         f"<script>{HANDS}\nconst told = {{}};\n(async () => {{ {script} }})().catch((error) => wrong.push(String(error)))"
         '.finally(() => { const out = document.createElement("pre"); out.id = "told"; out.textContent = JSON.stringify({ told, wrong });'

@@ -1,4 +1,4 @@
-"""An editor as an adapter sees it: it sends requests, and checks the form of each message."""
+"""A client that talks to an adapter as an editor does: it sends requests, and checks the form of each message."""
 
 from __future__ import annotations
 
@@ -29,7 +29,7 @@ class Client:
         self.events: list[Body] = []
 
     def __call__(self, command: str, **arguments: Any) -> Body:
-        """The answer to a request; raises Refusal if it is refused."""
+        """The answer to a request; raises Refusal if the request is refused."""
         self._sent += 1
         self.send({"seq": self._sent, "type": "request", "command": command, "arguments": arguments})
         while True:

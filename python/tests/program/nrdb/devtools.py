@@ -1,5 +1,5 @@
-"""Chromium through its DevTools protocol: pages of several people side by side, each with a profile of its own. It uses
-a pair of pipes, so that no port is open."""
+"""Drives chromium through its DevTools protocol. Several people have pages side by side, each with a separate profile.
+It uses a pair of pipes, so that no port is open."""
 
 from __future__ import annotations
 
@@ -31,7 +31,7 @@ class BrowserFailure(Exception):
 
 
 def moved(descriptor: int) -> int:
-    """The same open file at an unused descriptor."""
+    """Moves an open file to an unused descriptor, and returns that."""
     number = fcntl.fcntl(descriptor, fcntl.F_DUPFD_CLOEXEC, FREE)
     os.close(descriptor)
     return number
@@ -131,7 +131,7 @@ class Page:
         return said["result"].get("value")
 
     def until(self, script: str, patience: float = PATIENCE) -> Any:
-        """The value of an expression, as soon as it is true."""
+        """Waits until an expression is true, and returns its value."""
         limit = time.monotonic() + patience
         while time.monotonic() < limit:
             if found := self.value(script):

@@ -1,5 +1,5 @@
-// Decodes messages of the Debug Adapter Protocol, a line of JSON each, by Debian's go-dap. Prints the type of each, and what it has that
-// go-dap doesn't know.
+// Uses Debian's go-dap to decode messages of the Debug Adapter Protocol, one per line of JSON. Prints the type of each
+// message, and a field of it that go-dap doesn't know.
 package main
 
 import (
@@ -12,7 +12,7 @@ import (
 	"github.com/google/go-dap"
 )
 
-// lost says where a value of the first has none in the second, which has the same but for what is zero.
+// lost returns the place of a value in sent that known lacks, or an empty text. known may lack values that are zero.
 func lost(sent, known any, where string) string {
 	switch sent := sent.(type) {
 	case map[string]any:

@@ -2,7 +2,8 @@
 
     python3 python tests.program.nrdb.pictures [FOLDER]
 
-With `--real FOLDER` it instead makes pictures of all recordings of examples/real, light, dark and as on a phone.
+With `--real FOLDER` it instead makes pictures of all recordings of examples/real: in light colours, in dark colours,
+and at a phone's size.
 """
 
 import sys
@@ -14,7 +15,7 @@ from .support import EXAMPLES, ROOT
 from .test_calls_page import BUGS
 from .test_timeline_page import page_of
 
-# For each picture, the recording, what is typed first, and the size of the window.
+# For each picture: the recording, the keys that are typed first, and the size of the window.
 PICTURES: dict[str, tuple[str, tuple[str, ...], tuple[int, int]]] = {
     "hijacked": ("real/hijacked", (), (1280, 580)),
     "lost-wakeup": ("lost-wakeup", ("-ex", "watch rg 0", "-ex", "goto 18"), (1280, 400)),

@@ -24,8 +24,8 @@ LIMIT_OF = {Of.GOROUTINE: "gor", Of.SOCKET: "sock", Of.DESCRIPTOR: "desc"}
 
 
 def nrdb(*words, lines=(), status=0):
-    """nrdb's output for these words, with these lines as input; checks its exit status. nrdb runs in this process,
-    which takes less time."""
+    """nrdb's output for these arguments, with these lines as input. Checks the exit status. nrdb runs in this process,
+    which is faster."""
     said, input_before = io.StringIO(), sys.stdin
     sys.stdin = io.StringIO("".join(f"{line}\n" for line in lines))
     try:
@@ -38,8 +38,8 @@ def nrdb(*words, lines=(), status=0):
 
 
 def nrdb_process(*words, lines=()):
-    """Runs nrdb in a process of its own with these words and lines, and returns its standard output, standard error and
-    exit status."""
+    """Runs nrdb in a separate process with these arguments and lines, and returns its standard output, standard error
+    and exit status."""
     ended = subprocess.run(
         [NRDB, "--netrev", NETREV, *map(str, words)],
         input="".join(f"{line}\n" for line in lines),
@@ -52,8 +52,8 @@ def nrdb_process(*words, lines=()):
 
 
 def events(path, lines, beside=False):
-    """nrdb's events for this recording and these lines, without those of its start and end, and, unless wanted, without
-    those that follow each move."""
+    """nrdb's events for this recording and these lines. The events at its start and end are left out, and so are the
+    events that follow each move unless `beside` is true."""
     told = [json.loads(line) for line in nrdb("--json", path, lines=lines).splitlines()]
     assert [event["event"] for event in told[:2] + told[-1:]] == ["reply", "place", "end"], told[:2]
     return [event for event in told[2:-1] if beside or event.get("topic") not in BESIDE]
@@ -117,7 +117,7 @@ class Shown:
 
 @lru_cache(maxsize=None)
 def shown(path):
-    """netrev's values for a recording, which are kept after the first query."""
+    """netrev's values for a recording, which are cached."""
     return Shown(path)
 
 

@@ -1,6 +1,6 @@
-"""nrdb's answers about what happened, with netrev: the changes of a move's last step equal plain `print`s; also the
-owners of timers, `next`, `finish`, `until` with two conditions, `commands`, several commands in a line, and groups of
-waiting goroutines."""
+"""Tests nrdb's answers about what happened, with netrev. The changes of a move's last step equal plain `print`s. Other
+tests are about the owners of timers, `next`, `finish`, `until` with two conditions, `commands`, several commands in a
+line, and groups of waiting goroutines."""
 
 import json
 import random

@@ -1,5 +1,5 @@
-"""The timeline's calls and stories: they equal nrdb's other answers; in chromium, how they are drawn, folded, filtered,
-picked, saved and read on a phone. Skipped without chromium (Debian: apt-get install chromium)."""
+"""The timeline's calls and stories equal nrdb's other answers. In chromium, they are drawn, folded, filtered, picked,
+saved, and read on a phone. Skipped without chromium (Debian: apt-get install chromium)."""
 
 import json
 import shutil
@@ -48,8 +48,8 @@ def opened(page: str) -> str:
 
 
 def numbers_in(told: Any, count: int) -> Sequence[int]:
-    """The numbers of a column of calls, which is given as one value that all have, or as the bytes of each number with
-    all numbers in base64."""
+    """The numbers of a column of calls. The column is either one value that all calls have, or the number of bytes per
+    number together with all numbers in base64."""
     if not isinstance(told, list):
         return [told] * count
     wide, text = told

@@ -1,4 +1,4 @@
-"""`nrdb --dap-port`: editors at a port, one after the other, and all other connections."""
+"""`nrdb --dap-port` serves editors at a port, one after the other, and refuses all other connections."""
 
 import json
 import os
@@ -161,7 +161,7 @@ def handshakes() -> Iterator[tuple[Handshakes, tuple[str, int]]]:
 
 
 def is_ended(connection: socket.socket) -> bool:
-    """Whether the other side ends a connection in time; text that it sends before is skipped."""
+    """Whether the other side ends a connection in time; text that it sends before that is skipped."""
     connection.settimeout(PATIENCE)
     try:
         while connection.recv(65_536):

@@ -23,14 +23,14 @@ def sessions(text):
 
 
 def refusals(text):
-    """The blocks of a page that begin with a call of nrdb on a recording of examples/: the recording, and the lines, up
-    to `...` if the block ends with that."""
+    """The blocks of a page that begin by calling nrdb with only a recording of examples/: the recording, and the lines
+    up to a final `...`, if any."""
     for block in re.finditer(r"^    \$ ./nrdb (examples/\S+)\n((?:    .*\n)+)", text, re.MULTILINE):
         yield block[1], [line[4:] for line in block[2].splitlines()]
 
 
 def calls(text):
-    """The blocks of a page that begin with a call of nrdb with options on a recording of examples/: the words of the
+    """The blocks of a page that begin by calling nrdb with options and a recording of examples/: the arguments of the
     call, and the lines."""
     for block in re.finditer(r"^    \$ ./nrdb (-.* examples/\S+)\n((?:    .*\n)+)", text, re.MULTILINE):
         yield block[1].split(), [line[4:] for line in block[2].splitlines()]

@@ -1,5 +1,5 @@
-"""A bug hunt in Emacs with dap-mode, both as Debian packages them, and a breakpoint at a line of Go. If they aren't
-installed, the tests are skipped and named."""
+"""A bug hunt in Debian's Emacs with Debian's dap-mode, and a breakpoint at a line of Go. If either package is missing,
+the tests are skipped with a message."""
 
 import json
 import os

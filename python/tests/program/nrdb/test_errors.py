@@ -1,4 +1,4 @@
-"""nrdb and its adapter answer any input and go on: numbers of any length, file names with `;`, files that are too
+"""nrdb and its adapter answer any input and continue: numbers of any length, file names with `;`, files that are too
 large, and unexpected errors."""
 
 import io

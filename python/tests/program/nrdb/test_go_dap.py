@@ -1,5 +1,5 @@
-"""Each message of the adapter, decoded by Debian's go-dap, which its authors wrote from the protocol's specification.
-Without Go or go-dap the tests are skipped and named."""
+"""Decodes each message of the adapter with Debian's go-dap, an independent implementation of the protocol. If Go or
+go-dap is missing, the tests are skipped with a message."""
 
 import json
 import os

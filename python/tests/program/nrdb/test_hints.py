@@ -1,5 +1,4 @@
-"""Refused recordings and faulty lines, each with nrdb's text about it; the texts are stored as data and name what to
-correct."""
+"""nrdb's texts about refused recordings and faulty lines: they equal stored texts, which name what to correct."""
 
 import json
 import tempfile

@@ -35,7 +35,7 @@ class Joined:
             self.process.communicate()
 
     def ask(self, *lines):
-        """The events that these lines cause, after those that are still unread."""
+        """The events that are still unread, followed by the events that these lines cause."""
         self.lines.write("".join(f"{line}\n" for line in (*lines, "help clock")))
         self.lines.flush()
         told: list[dict[str, Any]] = []
@@ -75,7 +75,7 @@ def replies(told):
 
 
 def serving(fronts=1, left=1):
-    """Starts a server with this many fronts, each with this many connections left."""
+    """Starts a server with this many fronts, each of which accepts this many connections."""
     server = Server(FIRST, fronts=fronts, connections=1 + left)
     for front in range(fronts):
         server.call(front).close()

@@ -1,5 +1,5 @@
-"""Terminal controls in each place of a recording that netrev refuses, of its header, and of the source lines beside a
-recording: nrdb and the timeline's page print them escaped."""
+"""nrdb and the timeline's page escape the terminal controls that they print, wherever these occur in a refused
+recording, in its header, or in the source lines beside a recording."""
 
 import json
 import unittest

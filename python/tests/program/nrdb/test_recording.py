@@ -1,5 +1,5 @@
-"""The text of recordings: steps by number, whatever lines are between them; and the holders of references, in small
-recordings."""
+"""The text of recordings: steps are found by number, whatever lines are between them. Also the holders of references,
+in small recordings."""
 
 import itertools
 import json
@@ -92,8 +92,8 @@ class Text(unittest.TestCase):
 
 class Holders(unittest.TestCase):
     def holders(self, *steps):
-        """The holders of references to socket 0 after these steps, and since when, for three goroutines and that
-        socket."""
+        """The holders of references to socket 0 after these steps of three goroutines, each with the step at which it
+        took the reference, and the rest of the answer."""
         made = ['["spawn"]', '["spawn"]', '["sockopen",16,16]']
         with tempfile.TemporaryDirectory() as folder:
             file = Path(folder) / "steps.jsonl"

@@ -54,7 +54,7 @@ class Reducing(unittest.TestCase):
         self.folder = folder_of(self)
 
     def reduced(self, path: Path, *words: str) -> Recording:
-        """Reduces a recording; netrev accepts the result, which isn't longer than reported."""
+        """Reduces a recording, and checks that netrev accepts the result, which has the reported length."""
         out = self.folder / f"{path.stem}-less.jsonl"
         said = nrdb("--batch", "-ex", " ".join(("reduce", str(out), *words)), path)
         left = Recording.read(str(out))

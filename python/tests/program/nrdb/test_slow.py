@@ -1,5 +1,5 @@
-"""Ctrl-C, once and twice, while a slow netrev is awaited, also one that is killed meanwhile: at every point of a
-conversation with the built program, for the session's netrev and the scout's."""
+"""While nrdb waits for a slow netrev, Ctrl-C is pressed once or twice, or netrev is killed. This happens at every point
+of a conversation with the built program, to the session's netrev and to the scout's."""
 
 import unittest
 

@@ -1,4 +1,5 @@
-"""What the adapter answers to random requests over some recordings: the sums of each conversation's messages are stored, as the texts are long.
+"""The adapter's answers to random requests about some recordings. Because the texts are long, only checksums of each
+conversation's messages are stored.
 
     /usr/bin/python3 python tests.program.nrdb.test_stored_editors            stores the sums anew, with the netrev that NETREV names
     /usr/bin/python3 python tests.program.nrdb.test_stored_editors NAME-3     prints a conversation, to compare it with an earlier one"""
@@ -52,7 +53,7 @@ EXPRESSIONS = (
 
 
 def asked(dice: random.Random, number: int, path: str, length: int) -> dict[str, Any]:
-    """A request: half of them are good."""
+    """A random request, which is valid half of the time."""
     cell = dice.choice((dice.choice(CELLS_OF_ALL), f"{dice.choice(CELLS_OF_ONE)} {dice.choice('001')}"))
     line, source = dice.randint(0, length + 2), {"path": dice.choice((path, path, *SOURCES))}
     point = {

@@ -1,5 +1,5 @@
-"""`info suspects` with netrev: the rules use netrev's answers over the examples and over traffic with planted bugs,
-which netrev accepts; and the exit status of `--suspects` says whether there are suspects."""
+"""`info suspects` with netrev: the rules use netrev's answers about the examples and about traffic with planted bugs,
+which netrev accepts. The exit status of `--suspects` says whether there are suspects."""
 
 import json
 import re

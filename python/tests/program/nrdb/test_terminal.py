@@ -219,7 +219,7 @@ class Terminal(unittest.TestCase):
             self.assertEqual(person.ends(), 3)
 
     def slow(self):
-        """A netrev that starts slowly, and the file that it makes when it has been started."""
+        """A netrev that starts slowly, and the file that it creates at its start."""
         program, begun = Path(self.home) / "slow", Path(self.home) / "begun"
         program.write_text(
             f'#!/bin/sh\n[ "$1" = run ] && [ ! -e {begun} ] && touch {begun} && sleep 3\nexec {NETREV} "$@"\n'

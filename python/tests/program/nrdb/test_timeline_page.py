@@ -1,5 +1,5 @@
-"""The timeline's page in chromium: wheel, keys, clicks, hovering, both colour schemes, a narrow screen; and text
-from outside, which stays text. Skipped without chromium (Debian: apt-get install chromium)."""
+"""The timeline's page in chromium: wheel, keys, clicks, hovering, both colour schemes, and a narrow screen. HTML in a
+recording's texts is shown as text. Skipped without chromium (Debian: apt-get install chromium)."""
 
 import re
 import shutil

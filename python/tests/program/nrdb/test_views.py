@@ -16,7 +16,7 @@ FIELDS = (r"^\d+ references?$", r"waiting to read$", r"waiting to write$")
 
 
 def lock_fields(value):
-    """The lock word's fields, found by shifts: closed, locks, references, waiting readers and writers."""
+    """The lock word's fields, computed by shifts: closed, locks, references, waiting readers and writers."""
     word = int(value)
     return [word & 1, word >> 1 & 1, word >> 2 & 1, word >> 3 & 0xFFFFF, word >> 23 & 0xFFFFF, word >> 43 & 0xFFFFF]
 
@@ -29,8 +29,8 @@ def told_fields(words):
 
 
 def open_descriptors(recording, position):
-    """How often each descriptor was opened and not freed, counted in the text of the steps, and the socket of its last
-    opening."""
+    """The open descriptors, found by counting openings and closings in the text of the steps, each with the socket for
+    which it was last opened."""
     count: dict[int, int] = {}
     socket: dict[int, int] = {}
     free: list[int] = []

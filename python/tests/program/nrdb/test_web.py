@@ -1,5 +1,5 @@
-"""`nrdb --web`: people who listen to a session's events and type lines, a terminal at another front, and a netrev that
-is killed. tests/test_web.py tests requests that aren't the page's."""
+"""`nrdb --web`: several people follow a session's events and type lines, a terminal is at another front, and netrev is
+killed. tests/test_web.py tests requests that don't come from the page."""
 
 import json
 import socket

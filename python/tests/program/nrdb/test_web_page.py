@@ -1,6 +1,6 @@
 """The page of `nrdb --web` in chromium: two browsers and a terminal in one session, messages while netrev is gone, an
-attack from another page, and text from outside, which stays text. Skipped without chromium (Debian: apt-get install
-chromium)."""
+attack from another page, and HTML in a recording's texts, which is shown as text. Skipped without chromium (Debian:
+apt-get install chromium)."""
 
 import shutil
 import signal
@@ -68,7 +68,7 @@ class Together(InChromium):
                 self.assertEqual(other.wrongs(), [])
 
     def expect_patience(self, server: Server, page: Page) -> None:
-        """Checks that the page says so if a line has no reply yet, while netrev is stopped for a while."""
+        """Stops netrev for a while, and checks that the page reports that a line has no reply yet."""
         busy = "document.getElementById('busy').innerText"
         server.process.send_signal(signal.SIGSTOP)
         page.value("document.getElementById('line').focus()")
@@ -79,8 +79,8 @@ class Together(InChromium):
         page.until(f"{busy} === ''")
 
     def expect_gone_and_back(self, server: Server, one: Page, other: Page) -> None:
-        """Checks that the pages report it if netrev is killed, and that a line isn't answered. When netrev is back,
-        they continue."""
+        """Kills netrev, and checks that the pages report this and that a line isn't answered. When netrev is back, the
+        pages continue."""
         server.process.kill()
         server.process.wait()
         for page in (one, other):
