@@ -29,8 +29,8 @@ ADDED, DONE = "added", "done"  # what goroutines do on a WaitGroup
 class GoGoroutine(NamedTuple):
     """A goroutine. `goid` is Go's own number for it, as in a stack dump; `number` is its number in the recording (-1:
     it made no step). `made` is the call of the `go` statement that started it, and `maker` the goroutine that made this
-    call (0 if unknown). It started after step `first` at the time `begin`, and ended after step `last` at the time
-    `end`; -1 if unknown."""
+    call (0 if unknown). The goroutine started after step `first` at the time `begin`, and ended after step `last` at
+    the time `end`; -1 if unknown."""
 
     goid: int
     number: int
@@ -51,9 +51,9 @@ class At(NamedTuple):
 
 
 class Park(NamedTuple):
-    """A wait of a goroutine outside the poller. It begins after step `first` at the time `begin`, and ends after step
-    `last` at the time `end` (-1: the goroutine still waits). `reason` is in words, and `by` is the goroutine that ended
-    the wait (0 if unknown). A select has an object for each case. `due` is the end of a sleep (0 if unknown)."""
+    """A wait of a goroutine outside the poller. The wait begins after step `first` at the time `begin`, and ends after
+    step `last` at the time `end` (-1: the goroutine still waits). `reason` is in words, and `by` is the goroutine that
+    ended the wait (0 if unknown). A select has an object for each case. `due` is the end of a sleep (0 if unknown)."""
 
     goid: int
     first: int
@@ -246,7 +246,7 @@ class AllGoroutines:
 
     def goid_of(self, number: int, step: Optional[int] = None) -> int:
         """Go's number for the goroutine that has `number` in the recording at a step. Without a step, the result is for
-        the last goroutine that had it. It is 0 if unknown."""
+        the last goroutine that had it. The result is 0 if unknown."""
         if step is None or number not in self.owners:
             return self._goids.get(number, 0)
         return next((goid for taken, goid in reversed(self.owners[number]) if taken < max(step, 1)), 0)

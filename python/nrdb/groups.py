@@ -48,7 +48,7 @@ def _place(values: dict[str, Any]) -> tuple[str, str]:
 
 
 def _group(rows: list[Row], who_has: Callable[[int, str], str]) -> Row:
-    """One row for all these rows."""
+    """One row in place of all these rows."""
     first = rows[0].values
     if first.get("elsewhere"):
         names = [

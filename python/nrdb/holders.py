@@ -25,7 +25,7 @@ class Reference:
 
 
 class Holding(NamedTuple):
-    """A reference while references are counted; `number` is the step that took it."""
+    """A reference, while nrdb counts references. `number` is the step that took the reference."""
 
     number: int
     goroutine: int

@@ -13,7 +13,7 @@ if TYPE_CHECKING:
 
 
 def opened(notes: Notes, g: int, s: int) -> Note:
-    """Notes a new descriptor. Its number is that of the descriptor freed last, or a new number."""
+    """Notes a new descriptor. The descriptor has the number of the descriptor freed last, or a new number."""
     told = notes.told.get
 
     def note(step: int, number: str) -> None:

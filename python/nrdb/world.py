@@ -48,7 +48,7 @@ class World:
         return [] if shown in ("-", "absent") else [int(word) for word in shown.split()]
 
     def made(self, of: Of) -> int:
-        """The number of goroutines, sockets or descriptors that exist. Their numbers begin with 0."""
+        """The number of goroutines, sockets or descriptors that exist. Each kind of object is numbered from 0."""
         return made_at(self.netrev, of, room_for(self.recording, of))
 
     def sockets_of_open(self) -> dict[int, int]:

@@ -12,8 +12,8 @@ MOST_BALANCES = 3  # the most sentences
 
 
 def kept_says(recording: Recording, balances: list[Balance]) -> list[str]:
-    """Sentences about the goroutines whose calls kept what they took. They also name the lines that only these
-    goroutines passed, and none of the others that the same `go` statement started."""
+    """Sentences about the goroutines whose calls kept what they took. The sentences also name the lines by which these
+    goroutines differ from others that the same `go` statement started."""
     kept = [one for one in balances if one.missing > 0]
     if not kept:
         return []

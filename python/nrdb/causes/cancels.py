@@ -192,8 +192,8 @@ def under_way(index: Index, call: Call, step: int) -> str:
 
 
 def after_says(index: Index, step: int, goroutine: int) -> list[str]:
-    """Sentences about a step of a goroutine that context.AfterFunc started. They name the goroutine and line that had
-    cancelled the context, or the timeout that had passed."""
+    """Sentences about a step of a goroutine that context.AfterFunc started. The sentences name the goroutine and line
+    that had cancelled the context, or the timeout that had passed."""
     lines = index.recording.lines
     known = lines.goroutines.get(lines.goid_of(goroutine, step))
     if known is None or known.made is None or not known.made.function.startswith(AFTER_FUNC):

@@ -48,8 +48,8 @@ def is_still_so(index: Index, waiter: Waiter, position: int) -> bool:
 
 
 def link_says(index: Index, waiter: Waiter, need: Need, is_back: bool, told: list[str]) -> list[str]:
-    """The sentences about one goroutine of the chain. They leave out the reason of its need if that goroutine waits for
-    the failed call's own goroutine."""
+    """The sentences about one goroutine of the chain. If that goroutine waits for the failed call's own goroutine, the
+    sentences leave out the reason of its need."""
     more = [*need.says, *need.more] if not (is_back and waiter.call) else need.more
     place = place_in(waiter.stack)
     is_told = bool(place) and any(place in line for line in told)

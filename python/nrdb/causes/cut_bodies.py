@@ -28,8 +28,8 @@ def is_of_a_body(recording: Recording, call: Call) -> bool:
 
 
 def body_says(recording: Recording, call: Call, closed: Call) -> list[str]:
-    """Sentences about a body that is shorter than its Content-Length because the other end was closed. They name the
-    lines of the program that set a Content-Length."""
+    """Sentences about a body that is shorter than its Content-Length because the other end was closed. The sentences
+    name the lines of the program that set a Content-Length."""
     file = next((one.file for one in recording.lines.of(call.first).calls if one.of == OF_THE_PROGRAM), "")
     places = places_with(recording, file, SETS_LENGTH) if file else []
     sets = f", which {' and '.join(places[:MOST])} set{'' if places[1:] else 's'}" if 0 < len(places) <= MOST else ""

@@ -39,8 +39,8 @@ def unanswered_datagram(index: Index, call: Call, position: int) -> list[str]:
 
 
 def dropped_datagram(index: Index, call: Call) -> list[str]:
-    """Sentences about a Read of a datagram that timed out. They name the goroutine that perhaps read the request and
-    sent no answer, and say so if the request filled the whole buffer."""
+    """Sentences about a Read of a datagram that timed out. The sentences name the goroutine that perhaps read the
+    request and sent no answer, and say so if the request filled the whole buffer."""
     wrote = index.last_use(call.socket, call.first, ("Write",)) if is_datagram(index, call.socket) else None
     read = reader_of(index, call, wrote, call.last) if wrote and wrote.goroutine == call.goroutine else None
     if wrote is None or read is None:

@@ -86,7 +86,7 @@ def unasked(index: Index, call: Call) -> list[str]:
 
 def unanswered(index: Index, call: Call, other: int, position: int) -> list[str]:
     """Sentences about a Read whose request was read and not answered: the goroutine that read the request had answered
-    earlier requests. This time it read again, or did something else, without a Write."""
+    earlier requests. After the last request, that goroutine read again or did something else, without a Write."""
     wrote = index.last_use(call.socket, call.first, ("Write",))
     if wrote is None or wrote.goroutine != call.goroutine or not wrote.moved:
         return []
@@ -177,8 +177,8 @@ def reader_of(index: Index, other: int, wrote: Call, position: int) -> Optional[
 
 
 def lacking(index: Index, call: Call, other: int) -> list[str]:
-    """Sentences about a Read that waits in an io.ReadFull. They say how many bytes the Read asked for, how many bytes
-    came, and that the other end wrote no more."""
+    """Sentences about a Read that waits in an io.ReadFull. The sentences say how many bytes the Read asked for, how
+    many bytes came, and that the other end wrote no more."""
     recording = index.recording
     stack = recording.lines.of(call.first)
     if call.name != "Read" or not any(one.function == READ_FULL for one in stack.calls):

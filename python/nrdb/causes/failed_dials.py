@@ -69,8 +69,8 @@ def refused_words(recording: Recording, failed: FailedDial) -> str:
 
 
 def ended_says(recording: Recording, failed: FailedDial) -> list[str]:
-    """Sentences about a dial that failed. They name the goroutine that had cancelled its context, and the line; or they
-    say that a sync.Once made the dial and doesn't run again."""
+    """Sentences about a dial that failed. The sentences name the goroutine that had cancelled the dial's context, and
+    the line; or they say that a sync.Once made the dial and doesn't run again."""
     lines = recording.lines
     closes = [use for use in lines.uses.get(failed.context, ()) if use.what == CLOSED and use.begin <= failed.time]
     stack = lines.stacks[closes[0].stack] if failed.context and closes else None

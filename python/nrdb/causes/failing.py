@@ -154,7 +154,7 @@ def of_close(index: Index, call: Call, begins: str, deep: int) -> Cause:
 def context_says(index: Index, call: Call, by: Optional[Call]) -> list[str]:
     """Sentences about a descriptor that was closed because a request's context had ended or because a channel was
     closed. The sentences name the goroutine that cancelled the context or closed the channel, or the timeout that had
-    passed. They also say what the goroutine that served the request did."""
+    passed. The sentences also say what the goroutine that served the request did."""
     request = next((one for one in cancelled_requests(index) if by and one.closed.first == by.first), None)
     cancel = None if request else cancel_before(index, call.cause)
     if request is None and cancel is None:

@@ -130,8 +130,8 @@ def has_to_do_with(graph: WaitGraph, hang: Hang, call: Call) -> bool:
 
 
 def left_by(graph: WaitGraph, call: Call) -> list[str]:
-    """Sentences about the goroutine of a failed call, if that call was its last. They say that the goroutine has ended
-    since, and which goroutine waits for it."""
+    """Sentences about the goroutine of a failed call, if that call was its last. The sentences say that the goroutine
+    has ended since, and which goroutine waits for it."""
     name, index = Name(call.goroutine), index_of(graph.recording)
     left = next((waiter for waiter in graph.waiters.values() if graph.needs[waiter.name].gone == name), None)
     ended = ended_behind(index, call, graph.position)

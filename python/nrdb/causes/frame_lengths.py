@@ -33,8 +33,8 @@ class Line(NamedTuple):
 
 
 def length_says(recording: Recording, wrote: Call, read: Call) -> list[str]:
-    """Sentences about the lines that wrote and read the length that a Read asks for. They say so if that length belongs
-    to something other than the bytes that were written."""
+    """Sentences about the lines that wrote and read the length that a Read asks for. The sentences say so if that
+    length belongs to something other than the bytes that were written."""
     written = length_line(recording, wrote)
     if written is None:
         return []

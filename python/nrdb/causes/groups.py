@@ -190,8 +190,8 @@ class Groups:
         return " as it ends" if is_last or any(one[1] for one in done) else ""
 
     def _of_ended(self, waiter: Waiter) -> list[str]:
-        """Sentences about the goroutines that the waiter's functions started, if all of these have ended. They say so,
-        and name the goroutines that differed from the others."""
+        """Sentences about the goroutines that the waiter's functions started, if all of these have ended. The sentences
+        say so, and name the goroutines that differed from the others."""
         inside = {call.function for call in waiter.stack.calls if call.of == OF_THE_PROGRAM}
         started: dict[Call, list[int]] = {}
         lines = self._recording.lines

@@ -1,5 +1,5 @@
-"""The requests of net/http's client, each with its line, goroutine and socket. They are found from the channels of the
-client's connections. The module also finds the requests that ended because their contexts ended."""
+"""The requests of net/http's client, each with its line, goroutine and socket. The requests are found from the channels
+of the client's connections. The module also finds the requests that ended because their contexts ended."""
 
 from functools import lru_cache
 from operator import attrgetter

@@ -103,15 +103,15 @@ def gives_on_most_ways(recording: Recording, balances: Iterable[Balance]) -> boo
 
 
 def gives_back(recording: Recording, given: Iterable[Call]) -> Optional[Test]:
-    """A test whether a statement gives something back. It is derived from the statements that did so, and is None if
-    their text isn't known."""
+    """A test whether a statement gives something back. The test is derived from the statements that did so, and is None
+    if their text isn't known."""
     patterns = {pattern for line in given if (pattern := pattern_of(text_at(recording, line)))}
     return has("|".join(sorted(patterns))) if patterns else None
 
 
 def pattern_of(text: str) -> str:
     """A pattern for statements that do the same as this one: send on its channel, receive from its channel, or call its
-    function. It is empty if the statement does none of these."""
+    function. The pattern is empty if the statement does none of these."""
     code = LITERAL.sub("", text.strip())
     if found := SEND.search(code):
         return rf"{re.escape(found[1])} <- "

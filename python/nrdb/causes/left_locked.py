@@ -55,8 +55,8 @@ def left_locked(recording: Recording, lock: Call) -> list[str]:
 
 
 def returns_locked(recording: Recording, lock: Call) -> list[str]:
-    """Sentences about the function that locked a mutex in a call and left it locked. They name the line that returns
-    without an Unlock, or say that the function has no Unlock."""
+    """Sentences about the function that locked a mutex in a call and left it locked. The sentences name the line that
+    returns without an Unlock, or say that the function has no Unlock."""
     lines, name = source_of(recording, lock.file), LOCK.search(text_at(recording, lock))
     own = next((one for one in functions_of(lines, lock) if lock.line in one.within), None) if lines else None
     field = field_of(own, name[1]) if own and name else None

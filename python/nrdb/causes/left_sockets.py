@@ -1,5 +1,5 @@
-"""Connections that a function dialed or accepted and left open on one of its paths, so that the other end waits. They
-are found from where the function's goroutine was later, and from the program's source."""
+"""Connections that a function dialed or accepted and left open on one of its paths, so that the other end waits. These
+connections are found from the later places of the function's goroutine, and from the program's source."""
 
 import re
 from typing import Optional

@@ -1,5 +1,5 @@
-"""The mutexes that a goroutine perhaps holds in a call. They come from the program's source, because locking a free
-mutex leaves no step in a recording."""
+"""The mutexes that a goroutine perhaps holds in a call. The mutexes are found in the program's source, because locking
+a free mutex leaves no step in a recording."""
 
 import os
 import re

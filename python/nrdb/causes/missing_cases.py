@@ -22,8 +22,8 @@ class Lacking(NamedTuple):
 
 
 def missing_case_says(recording: Recording, hang: Hang) -> list[str]:
-    """Sentences about a root that waits in a select. They name the Shutdown that waits for it, and the closed channel
-    for which the select perhaps lacks a case. The list is empty if no Shutdown or WaitGroup waits."""
+    """Sentences about a root that waits in a select. The sentences name the Shutdown that waits for the root, and the
+    closed channel for which the select perhaps lacks a case. The list is empty if no Shutdown or WaitGroup waits."""
     wait = hang.root.wait
     if hang.is_deadlock or wait is None or wait.kind != A_SELECT or own_of(wait.stack) is None:
         return []
@@ -64,8 +64,8 @@ def shutdown_says(shutdown: Waiting) -> str:
 
 
 def lacking_of(recording: Recording, wait: Waiting, ends: Waiting) -> Optional[Lacking]:
-    """A channel that never had a value, and that was closed by the goroutine that waits until other goroutines end.
-    Another function of the same type, or package, has waited on that channel."""
+    """A channel that never had a value, and that was closed by the goroutine that now waits for other goroutines to
+    end. Another function of the same type, or package, has waited on that channel."""
     own, closed = own_of(wait.stack), closed_by(recording, ends.name)
     for at in wait.objects:
         closed.pop(at.object, None)

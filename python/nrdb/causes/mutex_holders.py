@@ -59,7 +59,8 @@ class MutexHolders:
 
     @property
     def are_known(self) -> bool:
-        """Whether the recording has the holders of mutexes at this position. It has the holders only for its end."""
+        """Whether the recording has the holders of mutexes at this position. A recording has the holders only for its
+        end."""
         return self._recording.lines.held is not None and self._position == self._recording.length
 
     def need(self, wait: Waiting) -> Need:

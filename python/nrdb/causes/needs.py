@@ -75,8 +75,8 @@ class Needs:
         return need._replace(more=more or ends, beside=tuple(lost), is_plain=bool(ends))
 
     def _of_exchange(self, call: Call, other: int) -> list[str]:
-        """Sentences about the need of a waiting Read. They are derived from the earlier Writes of its goroutine, the
-        Reads at the other end, and the counts of bytes."""
+        """Sentences about the need of a waiting Read. The sentences are derived from the earlier Writes of the Read's
+        goroutine, the Reads at the other end, and the counts of bytes."""
         index = self._index
         found = lacking(index, call, other)
         found = (
@@ -157,8 +157,8 @@ class Needs:
         return first.name if first else None
 
     def _started_by(self, last: Call) -> Optional[Name]:
-        """The goroutine that should perhaps write at the other end of a read, if nothing was written there yet. It
-        waits elsewhere; the other end's reader started it after the last request, and now reads again."""
+        """The goroutine that should perhaps write at the other end of a read, if nothing was written there yet. That
+        goroutine waits elsewhere. The other end's reader started it after the last request, and now reads again."""
         lines, reads = self._recording.lines, self._index.by_socket[last.socket]
         got = [
             one for one in reads if one.goroutine == last.goroutine and one.name == "Read" and one.moved and one.last
@@ -173,8 +173,8 @@ class Needs:
 
     def _relay_back(self, last: Call) -> Optional[Name]:
         """The goroutine that should perhaps write at the other end of a read, if nothing was written there and the
-        other end's reader passes on what it reads. It is the other half of a relay: it waits to read from the socket to
-        which that reader writes."""
+        other end's reader passes on what it reads. That goroutine is the other half of a relay: it waits to read from
+        the socket to which that reader writes."""
         if last.name != "Read" or Name(last.goroutine) in self._waiters:
             return None
         wrote = {
@@ -216,8 +216,8 @@ class Needs:
         return 0 if is_busy else last.first
 
     def _since_then(self, last: Call) -> list[str]:
-        """A sentence about the goroutine that last used the other end. It names that use, and says what the goroutine
-        does now."""
+        """A sentence about the goroutine that last used the other end. The sentence names that use, and says what the
+        goroutine does now."""
         recording, now = self._recording, self._index.inside(last.goroutine, self._position)
         if now is last:
             return [f"There {told(recording, last)} is itself under way since step {last.first}."]

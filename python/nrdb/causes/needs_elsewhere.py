@@ -111,8 +111,8 @@ class NeedsElsewhere:
 
     def _reader_for(self, wait: Waiting) -> Optional[Name]:
         """The goroutine that could give a value to a waiter, if the waiter wrote a request and no value was put into
-        its channel yet. It is the goroutine that waits to read from the waiter's connection, as a client's reader
-        does."""
+        its channel yet. The result is the goroutine that waits to read from the waiter's connection, as a client's
+        reader does."""
         if wait.name.is_goid or not self._channels.is_new(wait) or not is_for_values(wait):
             return None
         wrote = next(back(self._index.by_goroutine[wait.name.number], wait.first), None)
@@ -165,7 +165,7 @@ class NeedsElsewhere:
         return Need([says], Name(users[-1].goroutine), "{by} uses the descriptor")
 
     def _of_condition(self, wait: Waiting) -> list[str]:
-        """Sentences about the need of a wait on a condition. They name the function that should have woken the
+        """Sentences about the need of a wait on a condition. The sentences name the function that should have woken the
         goroutine, or all waiters."""
         key = wait.stack.own(), wait.objects
         if key not in self._conditions:

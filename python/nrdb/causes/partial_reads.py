@@ -22,8 +22,8 @@ MOST = 2
 
 
 def partial_reads(index: Index, call: Call) -> list[str]:
-    """Sentences about a waiting Read. They name the lines of its functions that have read from the socket before, or
-    that name the length."""
+    """Sentences about a waiting Read. The sentences name the lines of the Read's functions that have read from the
+    socket before, or that name the length."""
     passed = {
         (one.function, one.line)
         for read in index.by_socket[call.socket]

@@ -13,8 +13,8 @@ WRITE_LOOP, SERVE = "net/http.(*persistConn).writeLoop", "net/http.(*conn).serve
 
 
 def socket_of(index: Index, wait: Waiting, position: int) -> Optional[int]:
-    """The socket to which the waiter's request was written. It belongs to the connection whose goroutine last took a
-    request from the waiter; that goroutine may have taken requests from other goroutines since."""
+    """The socket to which the waiter's request was written. The socket belongs to the connection whose goroutine last
+    took a request from the waiter. That goroutine may have taken requests from other goroutines since."""
     lines = index.recording.lines
     goid = wait.name.number if wait.name.is_goid else lines.goid_of(wait.name.number)
     put = [

@@ -1,6 +1,6 @@
-"""Paths of a function that skip what it should do. They lead from a line that takes or begins something past the line
-that gives it back or finishes it. Such a path goes through a `return`, a `continue`, a `break` or the condition of a
-block."""
+"""Paths of a function that skip what it should do. The paths lead from a line that takes or begins something past the
+line that gives it back or finishes it. Such a path goes through a `return`, a `continue`, a `break` or the condition of
+a block."""
 
 import re
 from typing import Callable, NamedTuple, Optional

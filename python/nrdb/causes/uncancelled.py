@@ -34,8 +34,8 @@ class Cancelling(NamedTuple):
 
 
 def uncancelled(recording: Recording, wait: Waiting, stacks: Iterable[tuple[Name, Stack]]) -> Optional[Need]:
-    """The need of a goroutine that waits only on a context's Done. The result is None if it waits on anything else, or
-    if the source doesn't show the context."""
+    """The need of a goroutine that waits only on a context's Done. The result is None if the goroutine waits on
+    anything else, or if the source doesn't show the context."""
     own, lines = wait.stack.own(), recording.lines
     done = DONE.search(text_at(recording, own[0])) if own and own[0].of == OF_THE_PROGRAM else None
     if not own or not done or len(wait.objects) != 1:

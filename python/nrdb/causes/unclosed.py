@@ -30,7 +30,7 @@ class Closing(NamedTuple):
 
 def unclosed(recording: Recording, wait: Waiting, stacks: Iterable[tuple[Name, Stack]]) -> Optional[Need]:
     """The need of a goroutine that ranges over a channel, or that waits for a value from a channel into which no value
-    was ever put. It says what should close the channel. The result is None if the source isn't available."""
+    was ever put. The need says what should close the channel. The result is None if the source isn't available."""
     own, lines = wait.stack.own(), recording.lines
     if not own or own[0].of != OF_THE_PROGRAM or len(wait.objects) != 1 or wait.objects[0].use != FOR_VALUE:
         return None

@@ -25,8 +25,8 @@ def given_up_says(index: Index, call: Call, by: Optional[Call]) -> list[str]:
 
 
 def found_says(index: Index, call: Call) -> list[str]:
-    """Further sentences about a Read or a Write whose deadline other calls had met. They say why the bytes, or the
-    room, that it waited for didn't come."""
+    """Further sentences about a Read or a Write whose deadline other calls had met. The sentences say why the bytes, or
+    the room, that the call waited for didn't come."""
     if index.is_listening(call) or not call.first < call.last:
         return []
     need = Needs(index, {}, call.last).of_call(call)

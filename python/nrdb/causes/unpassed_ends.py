@@ -1,6 +1,6 @@
 """An end of a stream that a relay didn't pass on. The relay is a goroutine that only read from one socket and only
-wrote to another. It met the end, had written everything, and never closed the other socket for writing, so the reader
-at that socket's other end hangs."""
+wrote to another. The relay met the end, had written everything, and never closed the other socket for writing, so the
+reader at that socket's other end hangs."""
 
 from typing import Iterator, NamedTuple, Optional
 

@@ -22,8 +22,8 @@ class Unread(NamedTuple):
 
 
 def unread(index: Index, position: int) -> Iterator[Unread]:
-    """The unread bytes at a position. Their number is unknown if the recording counts fewer bytes than the reads or
-    writes moved."""
+    """The unread bytes at a position. The number of unread bytes is unknown if the recording counts fewer bytes than
+    the reads or writes moved."""
     for socket, other in sorted(index.recording.lines.peers.items()):
         count = moved_at(index, socket, "Write", position) - moved_at(index, other, "Read", position)
         wrote = index.last_use(socket, position, ("Write",))

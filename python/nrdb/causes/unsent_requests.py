@@ -1,6 +1,6 @@
 """Requests of net/http's client that were never written, because the goroutine that writes requests closed its
-connection first. It closes the connection if a request's body returns an error, ends before its ContentLength, or was
-read by an earlier request."""
+connection first. That goroutine closes the connection if a request's body returns an error, ends before its
+ContentLength, or was read by an earlier request."""
 
 import re
 from typing import Iterator, NamedTuple, Optional

@@ -1,4 +1,5 @@
-"""The editor's exception filters. They select steps at which something goes wrong; a move stops before such a step."""
+"""The editor's exception filters. The filters select steps at which something goes wrong, and a move stops before such
+a step."""
 
 from bisect import bisect_left, bisect_right
 from enum import Enum

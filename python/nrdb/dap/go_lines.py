@@ -1,5 +1,6 @@
-"""Breakpoints in the program's own source. They stop before the steps at which, according to NAME.where, a goroutine
-reaches a line or a function. Like the filters, these breakpoints belong to nrdb and use no marks of netrev."""
+"""Breakpoints in the program's own source. Such breakpoints stop before the steps at which, according to NAME.where, a
+goroutine reaches a line or a function. Like the filters, these breakpoints belong to nrdb and use no marks of
+netrev."""
 
 from bisect import bisect_left, bisect_right
 from functools import cached_property

@@ -31,15 +31,15 @@ class Stop(NamedTuple):
 
 def text_of(stop: Stop, recording: Recording) -> str:
     """The text of a stop. For an exception, it is the exception's description; at the end, the first failure, or what
-    all goroutines wait for. It is empty for a long recording, because an editor waits for the answer."""
+    all goroutines wait for. The text is empty for a long recording, because an editor waits for the answer."""
     if stop.reason == "exception":
         return stop.says
     return root_sentence(recording) if stop.says == AT_THE_END and recording.length <= MOST_STEPS else ""
 
 
 class Moves:
-    """Moves of a session. They pass marks with conditions that aren't true. A pause stops a move at the position that
-    netrev has reached. `tells` is called with the progress of a long move."""
+    """Moves of a session. The moves pass marks with conditions that aren't true. A pause stops a move at the position
+    that netrev has reached. `tells` is called with the progress of a long move."""
 
     def __init__(
         self,
@@ -96,8 +96,8 @@ class Moves:
         return self.run(True, goal.position)
 
     def run(self, forwards: bool, target: Optional[int] = None) -> Stop:
-        """Goes to the nearest position in a direction at which a mark hits or a filter stops. It goes no further than
-        the target, if given, or the end."""
+        """Goes to the nearest position in a direction at which a mark hits or a filter stops. The move goes no further
+        than the target, if given, or the end."""
         begun = self._debuggee.position
         stood = self._session.netrev.marks()
         try:

@@ -1,4 +1,4 @@
-"""Finds the files that NAME.where names. They are in the folder of the program's source or, if they are Go's own files,
+"""Finds the files that NAME.where names. The files are in the folder of the program's source or, if they are Go's own,
 in Go's folder."""
 
 import os

@@ -31,8 +31,8 @@ def condition_of(text: str) -> Condition:
 
 
 class HitCount(NamedTuple):
-    """A hit count. It selects the times at which a breakpoint stops, of all times at which it is reached, counted from
-    the recording's start."""
+    """A hit count. Of the times that a breakpoint is reached, counted from the recording's start, the hit count selects
+    the times at which it stops."""
 
     relation: str
     number: int

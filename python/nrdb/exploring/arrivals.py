@@ -1,6 +1,6 @@
-"""The times at which bytes arrived at a socket and left it. A recorder of Go doesn't see these times. It writes the
-bytes just before the read or write that shows them, although the event that reported them came earlier. In other
-schedules, such bytes therefore come with that event."""
+"""The times at which bytes arrived at a socket and left it. A recorder of Go doesn't see these times. The recorder
+writes the bytes just before the read or write that shows them, although the event that reported them came earlier. In
+other schedules, such bytes therefore come with that event."""
 
 from dataclasses import replace
 from typing import NamedTuple, Optional

@@ -135,8 +135,8 @@ class Keeping:
             return str(wrong)
 
     def _wanted(self, whole: Recording, finding: Finding) -> Wanted:
-        """The target of the reduced recording. It is the finding's suspect, or the goroutine that hangs after both
-        settings of its deadline, or the call that fails, with its cause."""
+        """The target of the reduced recording. The target is the finding's suspect, or the goroutine that hangs after
+        both settings of its deadline, or the call that fails, with its cause."""
         if finding.suspect:
             shown = [one for one in suspects_of(whole).suspects if one.is_shown]
             subjects = [one.subject for one in shown]

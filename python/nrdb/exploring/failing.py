@@ -78,8 +78,8 @@ def went_well(script: Script, call: list[Operation]) -> bool:
 
 
 def failing_delays(script: Script) -> list[Delay]:
-    """Delays of calls that succeeded. They last until another goroutine next closes the socket, until another goroutine
-    next sets a deadline in the past, or until the deadline of an earlier call has passed."""
+    """Delays of calls that succeeded. The delays last until another goroutine next closes the socket, until another
+    goroutine next sets a deadline in the past, or until the deadline of an earlier call has passed."""
     sets, closes, ends = _of_socket(script, Sort.SET), _of_socket(script, Sort.CLOSE), ends_of(script)
     found: list[Delay] = []
     for (g, at), begins in script.watched.items():

@@ -1,5 +1,5 @@
-"""A report in Markdown about a recording without suspects. It says what all goroutines wait for, or why calls failed,
-and shows the tree of waiting goroutines with their stacks and calls. The recording isn't reduced."""
+"""A report in Markdown about a recording without suspects. The report says what all goroutines wait for, or why calls
+failed, and shows the tree of waiting goroutines with their stacks and calls. The recording isn't reduced."""
 
 from pathlib import Path
 from typing import NamedTuple, Optional

@@ -1,5 +1,5 @@
-"""The events of a trace other than statuses and steps: Go's calls, the deadlines, the clock, and what went wrong. They
-begin where the recording begins."""
+"""The events of a trace other than statuses and steps: Go's calls, the deadlines, the clock, and what went wrong. The
+events begin where the recording begins."""
 
 from itertools import chain
 from typing import Iterator

@@ -1,6 +1,6 @@
-"""The timeline's picture of a short recording as SVG, drawn without a browser. It shows the calls on their connections,
-when goroutines sleep in the calls, the deadlines, and the numbered steps of a story. The data are the recording's
-steps, their changes, and nrdb's analysis."""
+"""The timeline's picture of a short recording as SVG, drawn without a browser. The picture shows the calls on their
+connections, when goroutines sleep in the calls, the deadlines, and the numbered steps of a story. The data are the
+recording's steps, their changes, and nrdb's analysis."""
 
 import textwrap
 from html import escape

@@ -37,8 +37,8 @@ def suspects_data(scout: Scout, recording: Recording) -> Iterator[Data]:
 
 
 def causes_data(recording: Recording) -> Iterator[Data]:
-    """The first failures, the roots of the hangs at the end, and the other failed calls of the program. They are in the
-    order of the first output, with the sentences of `info hangs` and `info errors`."""
+    """The first failures, the roots of the hangs at the end, and the other failed calls of the program. These stories
+    are in the order of the first output, with the sentences of `info hangs` and `info errors`."""
     graph = graph_at(recording, recording.length)
     hangs = graph.shown[:MOST_CAUSES]
     index = index_of(recording)

@@ -1,5 +1,5 @@
-"""The page's server. It listens only on the loopback, in a thread of its own, and answers six kinds of requests. It
-passes requests about the session to the thread that runs the session."""
+"""The page's server. The server listens only on the loopback, in a thread of its own, and answers six kinds of
+requests. It passes requests about the session to the thread that runs the session."""
 
 import asyncio
 import socket

@@ -1,5 +1,5 @@
-"""The session that the page's browsers share. It is nrdb's session, and also reports which browser moved it to which
-position. netrev reports only a session's position, so moves by other clients are noticed at the next check."""
+"""The session that the page's browsers share. This is nrdb's session, which also reports which browser moved it to
+which position. netrev reports only a session's position, so moves by other clients are noticed at the next check."""
 
 from dataclasses import dataclass, field, fields
 from typing import Any, Optional, Protocol, Sequence
