@@ -1,7 +1,8 @@
 """Measures how long nrdb takes to answer, on recordings of the shape `mix`:  python3 python netrev_bench.companion [STEPS ..]
 
-Each line is sent when a session is at three quarters of the recording and has read the changes of all steps up to there, except for the
-first `goto`, which waits for them. Each time is from sending the line to the end of its output. NETREV names the program.
+Each line is sent when a session is at three quarters of the recording and has read the changes of all earlier steps;
+only the first `goto` waits for these changes. Each time is from sending the line to the end of its output. NETREV names
+the program.
 """
 
 import json
@@ -58,7 +59,7 @@ class Companion:
 
 
 def measured(steps, folder):
-    """The seconds to start, and for each line, with a recording of this many steps."""
+    """The seconds that the start and each line take, with a recording of this many steps."""
     recording = Path(folder) / "mix.jsonl"
     write_recording("mix", steps, recording)
     companion = Companion(recording)

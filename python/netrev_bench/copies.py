@@ -1,9 +1,9 @@
 """Measures the memory for copies of full buffers:  python3 python netrev_bench.copies
 
-Makes four recordings of a million steps whose first steps fill buffers. Between two copies of the world, the later steps change none of
-these buffers, or other buffers, or all of them. Between two copies of the world, the later steps change none of these buffers, or buffers
-that hold nothing, or all of them. Prints for each the greatest memory and the processor time of `netrev check` and of a session that has
-loaded it, as rows of a Markdown table. NETREV names the program. Linux only.
+Makes four recordings of a million steps whose first steps fill buffers. Between two copies of the world, the later
+steps change none of these buffers, or other buffers, or all of them. For each recording, prints the greatest memory and
+the processor time of `netrev check` and of a session that has loaded the recording, as a row of a Markdown table.
+NETREV names the program. Linux only.
 """
 
 import os
@@ -30,7 +30,7 @@ def filled(sockets: int, held: int, piece: int) -> Iterator[str]:
 
 
 def five() -> Iterator[str]:
-    """5 MiB in five inputs, and then the clock moves."""
+    """Fills five inputs with 5 MiB; then the clock moves."""
     for socket in range(5):
         yield f'["sockopen",{MEBIBYTE},{MEBIBYTE},["number",{socket}]]'
         yield from [f'["arrive",{socket},"{"61" * 65536}","done"]'] * 16
@@ -38,13 +38,13 @@ def five() -> Iterator[str]:
 
 
 def still() -> Iterator[str]:
-    """4,096 bytes in each of 256 inputs, and then the clock moves."""
+    """Puts 4,096 bytes into each of 256 inputs; then the clock moves."""
     yield from filled(256, 4096, 4096)
     yield from (f'["tick",{time}]' for time in range(STEPS))
 
 
 def moving() -> Iterator[str]:
-    """4,096 bytes in each of 256 inputs, and then two bytes enter and leave each output."""
+    """Puts 4,096 bytes into each of 256 inputs; then two bytes enter and leave each output repeatedly."""
     yield from filled(256, 4096, 4096)
     for turn in range(STEPS):
         yield f'["syswrite",0,{turn % 256},"{turn % 251:02x}{turn % 7:02x}"]'
@@ -53,7 +53,8 @@ def moving() -> Iterator[str]:
 
 
 def turning() -> Iterator[str]:
-    """65,536 bytes in each of 16 inputs, each of which loses a byte and gets one every 1,000 steps."""
+    """Puts 65,536 bytes into each of 16 inputs; then each input loses a byte and gets another byte every 1,000
+    steps."""
     yield from filled(16, 65536, 65536)
     for time in range(STEPS):
         if time % 1_000 == 0:

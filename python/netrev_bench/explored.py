@@ -1,4 +1,4 @@
-"""Records programs and explores the recordings: what the tables of races and of healthy programs have in common."""
+"""Records programs and explores the recordings, for the tables of races and of healthy programs."""
 
 import os
 import shutil
@@ -54,7 +54,7 @@ def recorded(go: Go, command: list[str], folder: Path, processors: int, name: Pa
 
 
 def read(path: Path) -> Recording:
-    """A recording with its lines."""
+    """A recording with its NAME.where."""
     recording = Recording.read(str(path))
     recording.lines = Lines.beside(str(path), recording.length)
     return recording
@@ -66,8 +66,8 @@ def is_good(recording: Recording) -> bool:
 
 
 class Outcome(NamedTuple):
-    """The result of exploring: the number of schedules, the number of schedules with each finding, the first schedule with each, and the
-    seconds."""
+    """The result of exploring: the number of schedules, for each finding the number of schedules that have it and the
+    first of them, and the seconds."""
 
     played: int
     times: Counter[str]

@@ -39,7 +39,7 @@ record full
 
 
 def timed(name, command):
-    """A command for GDB that prints how long it takes."""
+    """A command for GDB that runs another command and prints how long that takes."""
     return f"python began = time.perf_counter()\n{command}\npython tell('{name}', time.perf_counter() - began)\n"
 
 

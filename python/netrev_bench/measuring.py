@@ -24,7 +24,7 @@ WRITES = re.compile(r"^ *[\d.]+ +[\d.]+ +\d+ +(\d+) .*\bwrite$", re.MULTILINE)  
 
 
 def replies_to(process: "subprocess.Popen[bytes]", lines: bytes) -> bytes:
-    """Sends lines, waits for as many replies, and returns these."""
+    """Sends lines, waits for the same number of replies, and returns the replies."""
     assert process.stdin and process.stdout
     sender = threading.Thread(target=process.stdin.write, args=(lines,))
     sender.start()
@@ -40,7 +40,7 @@ def replies_to(process: "subprocess.Popen[bytes]", lines: bytes) -> bytes:
 
 
 def greatest_memory(process: "subprocess.Popen[bytes]") -> int:
-    """The most memory, in bytes, that a program has used, while it waits for a line."""
+    """The most memory, in bytes, that a program has used so far; the program is waiting for a line."""
     for line in Path(f"/proc/{process.pid}/status").read_text(encoding="ascii").splitlines():
         if line.startswith("VmHWM:"):
             return int(line.split()[1]) * 1024
@@ -53,7 +53,7 @@ def seconds_of_children() -> float:
 
 
 def timed(program: str, recording: Recording) -> dict[str, float]:
-    """The figures of one run: each in milliseconds, except for the last one, the memory in MiB."""
+    """The figures of one run: times in milliseconds and, as the last figure, the memory in MiB."""
     began = seconds_of_children()
     checked = subprocess.run([program, "check", recording.file], stdout=subprocess.PIPE, check=True)
     figures = {"check": (seconds_of_children() - began) * MILLISECONDS}
@@ -72,7 +72,7 @@ def timed(program: str, recording: Recording) -> dict[str, float]:
 
 
 def least(programs: dict[str, str], recording: Recording, runs: int) -> dict[str, dict[str, float]]:
-    """The least of each figure over this many runs for each program; the programs take turns."""
+    """For each program, the least value of each figure over this many runs; the programs take turns."""
     found = [{name: timed(program, recording) for name, program in programs.items()} for _ in range(runs)]
     return {name: {figure: min(run[name][figure] for run in found) for figure in found[0][name]} for name in programs}
 
@@ -88,7 +88,7 @@ def instructions(words: list[str | Path], lines: bytes) -> tuple[int, bytes]:
 
 
 def script_up_to(recording: Recording, last: str) -> bytes:
-    """The lines of a recording's parts up to one, and the end."""
+    """The lines of a recording's parts up to and including this part, and `quit`."""
     parts = list(recording.parts)
     return b"".join(map(recording.lines, parts[: parts.index(last) + 1])) + QUIT
 
@@ -107,8 +107,8 @@ def begun_counting(program: str, recording: Recording, pool: ThreadPoolExecutor)
 
 
 def counted(program: str, recording: Recording, counting: Counting) -> dict[str, float]:
-    """The instructions a step, or a restart, for each figure: those of a session that ends after a part, minus those of a session that ends
-    before it."""
+    """For each figure, the instructions per step or per restart: the count for a session that ends after the part,
+    minus the count for a session that ends before it."""
     count, printed = counting["check"].result()
     recording.expect_checked(program, printed)
     figures = {"check": count / recording.steps}
@@ -124,8 +124,8 @@ def counted(program: str, recording: Recording, counting: Counting) -> dict[str,
 
 
 def writes(program: str, recording: Recording, part: str) -> int:
-    """The number of system calls that write the replies to a part, from `strace -c`: those of a session with the part, minus those of a
-    session without it."""
+    """The number of system calls that write the replies to a part, from `strace -c`: the count for a session with the
+    part, minus the count for a session without it."""
     parts = list(recording.parts)
     before = parts[parts.index(part) - 1]
     with_it, without = (_writes_of(program, recording, script_up_to(recording, last)) for last in (part, before))

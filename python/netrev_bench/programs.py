@@ -1,8 +1,8 @@
 """The programs and recordings of the benchmarks: netrev, the same machine in plain Rust without proofs (`baseline`), and recordings of many
 shapes.
 
-NETREV names the program. NETREV_BASELINE names the program of `bench/baseline`; by default it is built, for the processors that CPU names,
-if set. NETREV_BEFORE names an older netrev to measure too.
+NETREV names the program. NETREV_BASELINE names the program of `bench/baseline`. By default it is built; CPU, if set,
+names the processors that it is built for. NETREV_BEFORE names an older netrev to measure too.
 """
 
 import os

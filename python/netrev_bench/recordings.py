@@ -1,7 +1,7 @@
 """The recordings that `netrev_bench.run` measures, and the lines that it sends for each.
 
-Each shape of `bench/shapes.awk` is measured with its own limits, and with limits as netrev-go writes them: many
-sockets and descriptors, buffers of 65,536 bytes. Runs of servers are recorded by netrev-go (`servers.py`).
+Each shape of `bench/shapes.awk` is measured with its own limits, and with the limits that netrev-go writes: many
+sockets and descriptors, and buffers of 65,536 bytes. Runs of servers are recorded by netrev-go (`servers.py`).
 """
 
 import json
@@ -49,7 +49,8 @@ def restarts(places: list[int], dice: random.Random) -> Iterator[Asked]:
 
 
 class Recording:
-    """A recording in a file, with the lines of each part and the expected replies. For queries, these are the first program's replies."""
+    """A recording in a file, with the lines of each part and the expected replies. The first program's replies to
+    queries are expected from the other programs."""
 
     def __init__(self, name: str, file: Path, steps: int) -> None:
         self.name, self.file, self.steps = name, file, steps

@@ -2,9 +2,9 @@
 
 On each recording, the programs take turns to
 
-    check     load the recording and accept it, in a process of its own
+    check     load the recording and accept it, in a separate process
     walk      go to the end and back by 100 steps at a time, with a query after each
-    continue  search forwards over the whole recording, by a break and a watch that never hit
+    continue  search forwards over the whole recording, with a break and a watch that never hit
     reverse   search backwards in the same way
     restarts  go to various checkpoints, 1,000 times, with a query after each
 
@@ -12,17 +12,20 @@ The recordings are: each shape of `bench/shapes.awk` with its own limits, at eac
 shape with the limits that netrev-go writes, with many sockets and descriptors and buffers of 65,536 bytes, at the first size; and two runs
 of servers, which are tests of Go's library that are recorded first.
 
-`valgrind --tool=callgrind` counts instructions, for each step of the recording or each restart, because other work on the machine doesn't
-change the count. Under callgrind the C library clears and copies without `rep`, because callgrind would count each repetition. Times are
-the least of three runs, or of RUNS: the program's own processor time, user and system. Memory is the peak use. It also prints the ratios to
-the baseline by instructions and by time, with their geometric means over the shapes. The last table has the system calls that write the
-replies to a walk, from `strace -c`: each program answers all lines of one read with one write.
+`valgrind --tool=callgrind` counts the instructions per step of the recording or per restart, because other work on the
+machine doesn't change this count. Under callgrind the C library clears and copies without `rep`, because callgrind
+would count each repetition. Times are the program's own processor time, user and system: the least of three runs, or of
+RUNS. Memory is the peak use. It also prints the ratios to the baseline by instructions and by time, with their
+geometric means over the shapes. The last table has the system calls that write the replies to a walk, from `strace -c`:
+each program answers all lines of one read with one write.
 
-NETREV_BEFORE names an older netrev, which is measured in the same run and has columns in each table. All programs must give the same
-replies; a wrong reply ends the run. If a tool is missing, a line on standard error says so, and its part is left out: the columns of the
-baseline or the older netrev, the instructions without valgrind, the writes without strace, the servers without Go. NETREV and
-NETREV_BASELINE name the programs, SHAPES the shapes, SOCKETS the numbers of sockets (16 239; if empty, there are no such limits), COUNTED
-the sizes at which instructions are counted (10000). RUNS=0 omits the times, SERVERS=0 omits the servers. No time is limited.
+NETREV_BEFORE names an older netrev, which is measured in the same run and has columns in each table. All programs must
+give the same replies; a wrong reply ends the run. If a tool is missing, a line on standard error says so, and its part
+is left out: the columns of the baseline or the older netrev, the instructions without valgrind, the writes without
+strace, the servers without Go. NETREV and NETREV_BASELINE name the programs, and SHAPES the shapes. SOCKETS has the
+numbers of sockets for the larger limits (default `16 239`; if empty, these limits are omitted), and COUNTED the sizes
+at which instructions are counted (default 10000). RUNS=0 omits the times, and SERVERS=0 omits the servers. No time is
+limited.
 """
 
 import os
@@ -105,7 +108,8 @@ def shapes(folder: Path, steps: int, sockets: int = 0) -> Iterator[Recording]:
 
 
 class Sort:
-    """One kind of figures for all recordings: the shapes with their own limits, the shapes with larger ones, and the runs of servers."""
+    """One kind of figures for all recordings: the shapes with their own limits, the shapes with larger limits, and the
+    runs of servers."""
 
     def __init__(self, name: str, titles: dict[str, str], sizes: list[int], measure: Measuring) -> None:
         self.name, self.sizes, self._measure = name, sizes, measure
@@ -122,7 +126,8 @@ class Sort:
         self.servers = measured(servers, self._measure)
 
     def show(self) -> None:
-        """Prints a table for each figure of the shapes with their own limits, and one for all of the others."""
+        """Prints a table for each figure of the shapes with their own limits, and a single table for the other
+        recordings."""
         names = list(self.own.titles)
         for name in names:
             show(figure_table(self.own, name))

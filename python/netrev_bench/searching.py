@@ -1,10 +1,11 @@
 """Measures how fast a shared session searches with several workers:  python3 python netrev_bench.searching [WORKERS ..]
 
-For 1, 2 and 4 workers or WORKERS, prints the positions a second of a `continue` and of a `reverse-continue` over a recording of 1,000,000
-steps in which no mark hits. For comparison, as many separate sessions with one worker each make the same searches at the same time; their
-positions are added up. Each figure is the best of RUNS. The last column is the `continue` of the workers, divided by that of the sessions.
-Then come the instructions a position, as callgrind counts them over COUNTED positions in each direction, if valgrind is installed. No time
-is limited; a wrong reply ends the run.
+For 1, 2 and 4 workers or WORKERS, prints the positions a second of a `continue` and of a `reverse-continue` over a
+recording of 1,000,000 steps in which no mark hits. For comparison, the same number of separate sessions, with one
+worker each, make the same searches at the same time; their positions are added up. Each figure is the best of RUNS. The
+last column is the workers' figure for `continue` divided by the sessions' figure. If valgrind is installed, the
+instructions per position follow, which callgrind counts over COUNTED positions in each direction. No time is limited; a
+wrong reply ends the run.
 """
 
 import os
@@ -28,7 +29,7 @@ WITHOUT_REP = "GLIBC_TUNABLES=glibc.cpu.x86_rep_stosb_threshold=1000000000:glibc
 
 
 def ask(stream, line, right):
-    """The seconds until a line is answered; the reply must be this one."""
+    """The seconds until a line is answered. Checks that the reply is the given one."""
     began = time.perf_counter()
     stream.write(f"{line}\n")
     stream.flush()
@@ -58,7 +59,7 @@ def session(recording, steps, workers, runs, start=None, through=()):
 
 
 def search(recording, workers, sessions):
-    """The positions a second of each search, summed over all sessions: the best of all runs."""
+    """The positions per second of each search, summed over all sessions; the best of all runs."""
     start = threading.Barrier(sessions)
     with ThreadPoolExecutor(sessions) as pool:
         begun = [pool.submit(session, recording, STEPS, workers, RUNS, start) for _ in range(sessions)]
@@ -68,7 +69,7 @@ def search(recording, workers, sessions):
 
 
 def instructions(recording, workers, folder):
-    """The instructions a position for both searches together."""
+    """The instructions per position for both searches together."""
     counts = []
     for runs in (0, 1):
         file = Path(folder) / "counted"

@@ -17,12 +17,12 @@ ONLY_IN_TWO = ("closewrite",)  # kinds of steps that version 1 doesn't have
 
 
 class Unrecorded(Exception):
-    """A recording couldn't be made; the message is the reason."""
+    """Raised if a recording couldn't be made; the message is the reason."""
 
 
 def plain_lines(text: str) -> list[str]:
-    """A recording of version 2 rewritten as version 1, in the spelling of `bench/shapes.awk`, the only one that the baseline reads.
-    Answers, and steps of kinds that version 1 doesn't have, are omitted."""
+    """A recording of version 2 rewritten as version 1, in the spelling of `bench/shapes.awk`, because the baseline
+    reads no other spelling. Answers, and steps of kinds that version 1 doesn't have, are omitted."""
     header, *steps = map(json.loads, text.splitlines())
     kept = [step[:-1] for step in steps if step[0] not in ONLY_IN_TWO]
     return [json.dumps(line, separators=(",", ":")) for line in (header | {"netrev": 1}, *kept)]
@@ -47,7 +47,7 @@ def of_server(go: Go, suite: Suite, folder: Path) -> Recording:
 
 
 def of_servers(folder: Path) -> tuple[list[Recording], list[str]]:
-    """The recordings that could be made, and the reasons why others are missing."""
+    """The recordings that could be made, and the reasons why the other recordings are missing."""
     try:
         go = find_go()
     except Trouble as trouble:

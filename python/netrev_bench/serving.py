@@ -1,9 +1,10 @@
 """Measures how fast a session is shared:  python3 python netrev_bench.serving
 
-Prints commands and queries a second through one front, over a pipe (`netrev run`) and over the loopback interface, with all lines sent at
-once; the total of commands a second through several fronts that place 1,000 each at the same time, each over its own connection, and how
-long the slowest front then takes until a query shows them all; and round trips a second of one caller that waits for each reply. Each
-figure is the best of three. No time is limited; a wrong reply ends the run.
+Prints the commands and queries per second through one front, over a pipe (`netrev run`) and over the loopback
+interface, with all lines sent at once. Then several fronts, each over its own connection, place 1,000 commands each at
+the same time: it prints their total of commands per second, and how long the slowest front takes until a query shows
+all commands. Finally it prints the round trips per second of one caller that waits for each reply. Each figure is the
+best of three. No time is limited; a wrong reply ends the run.
 """
 
 import subprocess
@@ -22,7 +23,8 @@ RUNS = 3
 
 
 def run_piped(recording, lines, replies):
-    """The seconds in which `netrev run` answers these lines, repeated to MANY in total, without the time to load."""
+    """The seconds in which `netrev run` answers these lines, repeated up to MANY lines in total; loading isn't
+    counted."""
     seconds = []
     for count in (0, MANY // len(lines)):
         asked = "".join(f"{line}\n" for line in lines) * count
@@ -40,7 +42,7 @@ def stepped(count):
 
 
 def clocks(count):
-    """The last of this many queries of the clock."""
+    """The last reply to this many queries of the clock."""
     return ["clock = 0"] if count else []
 
 

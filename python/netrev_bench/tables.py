@@ -15,8 +15,8 @@ Cases = dict[str, Figures]  # for each recording, by its name
 
 @dataclass
 class Measurement:
-    """Figures of one kind, such as times, by shape and number of steps, and then by program and figure. There is a table for each figure;
-    `titles` are the tables' titles."""
+    """Figures of one kind, such as times, by shape and number of steps, and then by program and figure. Each figure has
+    a table; `titles` are the tables' titles."""
 
     sort: str
     titles: dict[str, str]
@@ -75,7 +75,7 @@ def columns(with_before: bool) -> list[str]:
 
 
 def cells(figures: Figures, name: str, with_before: bool) -> list[str]:
-    """One figure at one size, in these columns, empty for a program that wasn't measured."""
+    """One figure at one size in these columns; a column is empty if its program wasn't measured."""
     there = {program: written(figures[program][name]) for program in PROGRAMS if program in figures}
     if BASELINE in figures:
         there[f"{NOW} / {BASELINE}"] = f"{quotient(figures, name, NOW, BASELINE):.1f}"
@@ -93,7 +93,7 @@ def grown(measured: Measurement, shape: str, name: str) -> Iterator[str]:
 
 
 def under(title: str, words: Sequence[str]) -> list[str]:
-    """Headings of neighbouring columns; the first one has their topic."""
+    """Headings of neighbouring columns; the first heading also has their topic."""
     return [f"{title}: {words[0]}", *words[1:]]
 
 
@@ -114,12 +114,13 @@ def figure_table(measured: Measurement, name: str) -> str:
 
 
 def arrow(ratios: Iterable[float]) -> str:
-    """The older and the current ratio in one cell, or only the current one."""
+    """The older and the current ratio in one cell, or only the current ratio."""
     return " → ".join(f"{ratio:.1f}" for ratio in ratios)
 
 
 def mean_table(measurements: Sequence[Measurement]) -> str:
-    """The geometric means, over the shapes, of the ratios to the baseline, each measurement at its last size: a row for each figure."""
+    """A table of the ratios to the baseline with a row for each figure: the geometric means over the shapes, at each
+    measurement's last size."""
     head = ["geometric mean of the ratios to the baseline"]
     rows = [[name] for name in NAMES if any(name in measured.titles for measured in measurements)]
     for measured in measurements:
@@ -138,7 +139,7 @@ def cell(figures: Figures, name: str) -> str:
 
 
 def cases_table(title: str, names: Sequence[str], cases: Cases) -> str:
-    """A row for each case, a column for each figure."""
+    """A table with a row for each case and a column for each figure."""
     return table([title, *names], [[case, *(cell(figures, name) for name in names)] for case, figures in cases.items()])
 
 
@@ -148,8 +149,8 @@ def ratio_cell(figures: Figures, name: str) -> str:
 
 
 def side_by_side(title: str, sorts: dict[str, Cases], has_mean: bool) -> str:
-    """The ratios to the baseline by each kind of figures, such as instructions and times, side by side: a row for each case, and their
-    geometric means if requested."""
+    """A table with the ratios to the baseline by each kind of figures, such as instructions and times, side by side. It
+    has a row for each case and, if requested, a row of geometric means."""
     columns = [(name, sort) for name in NAMES for sort, cases in sorts.items() if has_figure(cases, name)]
     rows = [[case, *(ratio_cell(sorts[sort][case], name) for name, sort in columns)] for case in first_of(sorts)]
     if has_mean:

@@ -33,7 +33,7 @@ class Sort(Enum):
 
 SORTS = {sort.value: sort for sort in Sort}  # by the kind of the first step
 ENDS = {Sort.UNLOCK: (Sort.LOCK,), Sort.GIVE_UP: (Sort.REFER, Sort.CLOSE)}  # the operation that ends each of these
-# operations in between, which are skipped if an earlier one failed
+# operations in between, which are skipped if an earlier operation failed
 TRIES = (Sort.RESET, Sort.WAIT, Sort.READ, Sort.WRITE)
 
 # the step that a goroutine with this status makes, whatever its operation; a sleeping goroutine makes none
@@ -75,7 +75,8 @@ def step_by_status(g: int, status: Status) -> Optional[Step]:
 
 
 def first_step(sort: Sort, g: int, which: int, side: str, values: tuple[Any, ...]) -> Step:
-    """The step with which an operation begins or tries again, at this socket or descriptor if it names one."""
+    """The step with which an operation begins or tries again; if the operation names a socket or a descriptor, the step
+    is at that object."""
     names = NAMES[sort]
     named = (*((g,) if names.goroutine else ()), *((which,) if names.of else ()), *((side,) if names.side else ()))
     return sort.value, *named, *values
@@ -95,7 +96,7 @@ class Came(Enum):
 LAST = ("last",)  # the goroutine gave up the last reference to the closed descriptor and must destroy it
 CODES = {"code 0": Came.OVER, "code": Came.FAILS}
 STAYS = {"yes": Came.STAYS, "no": Came.STAYS, "wait": Came.STAYS}
-# by the kind of a step and its answer (`code` is any code but 0): the consequence, if the operation isn't over
+# the consequence, by the kind of a step and its answer (`code` is any code but 0), if the operation isn't over
 ANSWERS = {
     "incref": {"no": Came.FAILS},
     "increfclose": {"no": Came.FAILS},

@@ -1,8 +1,8 @@
 """A fuzzer of netrev: random recordings and command lines, run by netrev and by its model, netrev_machine.
 
     randomsteps, texts, damage, lines   random recordings, texts and command lines
-    cases, playing, counts              a case from its seed, the program's run, and counts of events
-    keeping                             a case that differs, reduced and kept
+    cases, playing, counts              the case of a seed, its run by both programs, and counts of events
+    keeping                             reduces and keeps a case that shows a difference
 
 It also fuzzes the tools around netrev. For these tools, a fault is a Python traceback, an unexpected file, a terminal control
 sequence in the output, or a timeout:

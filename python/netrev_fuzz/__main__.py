@@ -56,13 +56,13 @@ def seeds(seed: str, most: Optional[int]) -> Iterator[str]:
 
 
 def case_of(seed: str) -> Case:
-    """The case of a seed. Seeds such as `7-nrdb-1` give sessions of nrdb."""
+    """The case of a seed; for a seed such as `7-nrdb-1`, it is a session of nrdb."""
     return visit(seed) if seed.rpartition("-")[0].endswith(OF_NRDB) else make(seed)
 
 
 def wanted_seeds(seed: str, cases: Optional[int], of: str) -> Iterator[str]:
-    """The seeds to run: the chosen program's; netrev's if only a number of cases is given; otherwise endless seeds of both, with the same
-    time for each."""
+    """The seeds to run. They are for the chosen program, or for netrev if only a number of cases is given; otherwise
+    they are endless and for both programs, with the same time for each."""
     of_netrev, of_nrdb = seeds(seed, cases), seeds(f"{seed}{OF_NRDB}", cases)
     return of_nrdb if of == "nrdb" else of_netrev if of or cases else by_turns(of_netrev, of_nrdb)
 

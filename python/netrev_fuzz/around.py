@@ -41,7 +41,7 @@ SORTS: dict[str, Judgement] = {
 
 
 class Late(BaseException):
-    """A case takes too long. No exception handler of a case catches it."""
+    """Raised if a case takes too long. No exception handler of a case catches it."""
 
 
 @contextmanager
@@ -76,7 +76,7 @@ def tracebacks() -> Iterator[io.StringIO]:
 
 
 def fault_of(seed: str, program: str) -> str:
-    """The fault of a seed's case; empty if there is none."""
+    """The fault of a seed's case, or an empty text."""
     sort = seed.rsplit("-", 2)[1]
     folder = Path(tempfile.mkdtemp(prefix="netrev-fuzz-"))
     try:
@@ -92,7 +92,8 @@ def fault_of(seed: str, program: str) -> str:
 
 
 def seeds(seed: str, sorts: Sequence[str], cases: Optional[int], until: float) -> Iterator[str]:
-    """The seeds to run: this many of each kind, or without end until the time is up, each kind for the same time."""
+    """The seeds to run: this many of each kind, or endless seeds until the time is up, with the same time for each
+    kind."""
     spent, played = dict.fromkeys(sorts, 0.0), Counter[str]()
     while time.monotonic() < until:
         left = [sort for sort in sorts if cases is None or played[sort] < cases]

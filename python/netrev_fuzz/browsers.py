@@ -53,8 +53,8 @@ SPELLED = (
 
 
 class Watched:
-    """Notices when this process opens a file. An audit hook can't be removed, so there is only one, which is active while a line is
-    answered."""
+    """Notices when this process opens a file. An audit hook can't be removed, so only one hook exists; it is active
+    while a line is answered."""
 
     def __init__(self) -> None:
         self.asked: list[str] = []
@@ -107,7 +107,7 @@ def body(dice: random.Random, length: int) -> bytes:
 
 
 def wrong(seed: str, folder: Path, program: str) -> str:
-    """The fault in the effects of a seed's lines; empty if there is none."""
+    """The fault in the effects of a seed's lines, or an empty text."""
     dice = random.Random(seed)
     recording, _ = Author(dice).recording(dice.choice([5, 20]))
     path = folder / "recording.jsonl"
@@ -144,7 +144,7 @@ def typed(dice: random.Random, shared: Shared, told: Told, length: int) -> str:
 
 
 def files_wrong(folder: Path) -> str:
-    """The fault of the files in nrdb's folder, which must be the same as before."""
+    """The fault if the files in nrdb's folder have changed, or an empty text."""
     found = sorted(os.listdir(folder))
     if found != ["recording.jsonl", "recording.where"] or (folder / found[1]).read_text() != "mine":
         return f"files were written: {found}"

@@ -1,4 +1,4 @@
-"""The cases: each is made from its seed, and has a recording's text, a script, and the subcommand that runs them."""
+"""The cases. Each is made from its seed, and consists of a recording's text, a script, and a subcommand of netrev."""
 
 import random
 from typing import Callable, NamedTuple, Optional, Sequence
@@ -50,7 +50,7 @@ def damaged_recording(dice: random.Random) -> Made:
 
 
 def refused_step(dice: random.Random) -> Made:
-    """A recording whose last step doesn't apply; in some of them all steps do."""
+    """A recording whose last step doesn't apply, unless no such step was found."""
     return texts.write_text(dice, with_refused_step(dice, Author(dice))), None
 
 
@@ -65,7 +65,7 @@ def with_refused_step(dice: random.Random, author: Author) -> Recording:
 
 
 def other_answers(dice: random.Random) -> Made:
-    """A recording with one or more recorded answers that aren't the machine's; the step may not apply."""
+    """A recording with recorded answers that aren't the machine's; its last step may not apply."""
     recording = with_refused_step(dice, Author(dice, version=2))
     steps, answers = recording.steps, list(recording.answers)
     for _ in range(dice.choice([1, 1, 1, 2, 3]) if steps else 0):
@@ -103,7 +103,8 @@ def lines(dice: random.Random) -> Made:
 
 
 def large_buffers(dice: random.Random) -> Made:
-    """Buffers of the largest size, filled and emptied in few steps: seventeen times 65,536 bytes are one time too many."""
+    """Buffers of the largest size are filled and emptied in few steps: they have room for 65,536 bytes sixteen times,
+    but not seventeen times."""
     most = RANGES[2]["buf"]
     full = 16 - dice.choice([0, 0, 1])
     steps: list[Step] = [("sockopen", most, most), *[("arrive", 0, dice.randbytes(65_536))] * full]

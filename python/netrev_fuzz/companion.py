@@ -1,8 +1,9 @@
-"""Cases for nrdb: a session over a random recording, while Ctrl-C is pressed, replies are slow, and netrev processes are killed. All output
-up to the end of the session must be right (views.py).
+"""Cases for nrdb: a session over a random recording, while Ctrl-C is pressed, replies are slow, and netrev processes
+are killed. views.py checks all output up to the end of the session.
 
-nrdb runs in this process, with its own netrev processes. Events happen at random points of its communication with netrev: when lines are
-sent, and when a reply is awaited. The signals are real, and a slow netrev is one that is stopped for a while.
+nrdb runs in this process, with its own netrev processes. Events happen at random points of nrdb's communication with
+netrev: when it sends lines, and when it waits for a reply. The signals are real, and a slow netrev is one that is
+stopped for a while.
 """
 
 import io
@@ -33,7 +34,7 @@ from .randomsteps import Author
 from .slow import Slow
 from .views import Judge
 
-# the events at a point with their relative frequencies, and how often Ctrl-C is then pressed
+# the events at a point, with their relative frequencies, and how many times each event presses Ctrl-C
 HAPPENS = {
     "ctrl-c": 8,
     "slow ctrl-c": 3,
@@ -101,7 +102,7 @@ class Weather:
 
 
 def played(program: str, case: Case, folder: Path, met: Met) -> str:
-    """Runs a case, counts the events, and returns the first fault in its output, or none."""
+    """Runs a case, counts the events, and returns the first fault in its output, if any."""
     replayed = replay(case.recording, met)
     recording = recording_of(replayed.text.steps, replayed.worlds)
     judge = Judge(replayed.text.steps, replayed.worlds, ModelSession(recording, Observer()))

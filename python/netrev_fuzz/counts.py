@@ -31,7 +31,8 @@ class Met(Observer):
         self.reasons[kind, reason] += 1
 
     def differed(self, kind: str, recorded: Answer, answer: Answer) -> None:
-        """Counts a recorded answer that isn't the machine's: of the same sort, of another sort of that kind, or of none."""
+        """Counts a recorded answer that isn't the machine's. It may have the same name and another number, be another
+        answer of the step's kind, or be an answer of no such kind."""
         if recorded[0] == answer[0]:
             self.others["another number"] += 1
         else:
@@ -70,7 +71,7 @@ def name_of(answer: Answer) -> str:
 
 
 def by_first(counts: Mapping[tuple[str, str], int]) -> dict[str, dict[object, int]]:
-    """Counts of pairs, regrouped: for each first element, the counts of the second elements."""
+    """Regroups counts of pairs: for each first element, the counts of the second elements."""
     found: dict[str, dict[object, int]] = {}
     for (first, second), count in sorted(counts.items()):
         found.setdefault(first, {})[second] = count

@@ -9,7 +9,7 @@ from .texts import BLANKS, NO_ANSWERS, NUMBERS, PIECES, TEXTS
 
 
 def damaged(dice: random.Random, text: bytes) -> bytes:
-    """The text after one to three damages."""
+    """The text after it was damaged one to three times."""
     for _ in range(dice.choice([1, 1, 1, 2, 3])):
         text = dice.choice(DAMAGES)(dice, text)
     return text
@@ -79,7 +79,7 @@ def blank_line(dice: random.Random, text: bytes) -> bytes:
 
 
 def line_lengthened(dice: random.Random, text: bytes) -> bytes:
-    """Pads a line with blanks, at one end or by themselves, to about the greatest length of a line."""
+    """Pads a line, or an empty line, with blanks to about the greatest length of a line."""
     lines = text.split(b"\n")
     place = dice.randrange(len(lines))
     line = b"" if dice.random() < 0.3 else lines[place]

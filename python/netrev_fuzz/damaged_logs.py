@@ -131,7 +131,7 @@ def mixed(dice: random.Random, points: Points) -> Points:
 
 
 def other_header(dice: random.Random, data: bytearray) -> bytearray:
-    """A header with other values, for a log that may be cut off, or have holes after its end."""
+    """A header with other values; the log may be cut off, or have holes after its end."""
     for _ in range(dice.choice([1, 1, 2, 3])):
         struct.pack_into("<Q", data, 8 * dice.randrange(12), dice.choice(HEADER_WORDS))
     return data[: dice.randrange(len(data))] if dice.random() < 0.2 else data
@@ -191,7 +191,7 @@ def tests_of(seed: str) -> bytes:
 
 
 def wrong(seed: str, folder: Path) -> str:
-    """The fault of the results of a seed's log; empty if there is none."""
+    """The fault of what a seed's log becomes, or an empty text."""
     reading, writing = os.pipe()
     process = os.fork()
     if process == 0:
@@ -240,7 +240,7 @@ def made_wrong(outcome: Outcome, name: Path) -> str:
 
 
 def tests_wrong(log: Path, tests: Tests, folder: Path) -> str:
-    """The fault of the recordings of a log's tests, and of the output for machines."""
+    """The fault of the recordings of a log's tests, or of the machine-readable outputs."""
     told = [Told(test.package, test.name) for test in tests.ran]
     for one, test in zip(told, tests.ran):
         one.add(test)
@@ -258,7 +258,7 @@ def tests_wrong(log: Path, tests: Tests, folder: Path) -> str:
 
 
 def forms_wrong(told: list[Told]) -> str:
-    """The fault of the outputs for machines: a test that one of them lacks or has twice."""
+    """The fault of the machine-readable outputs: a test that an output lacks or has twice."""
     if [json.loads(line)["test"] for line in forms.json_lines(told).splitlines()] != [one.test for one in told]:
         return "the lines of JSON aren't the tests"
     if sum(1 for _ in ElementTree.fromstring(forms.junit(told)).iter("testcase")) != len(told):

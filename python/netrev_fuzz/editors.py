@@ -108,7 +108,7 @@ def conversation(seed: str, path: str) -> tuple[list[dict[str, Any]], bytes]:
 
 
 def wrong(seed: str, folder: Path, program: str) -> str:
-    """The fault of the messages to the editor; empty if there is none."""
+    """The fault of the messages to the editor, or an empty text."""
     path = folder / "recording.jsonl"
     recording, _ = Author(random.Random(f"{seed} recording")).recording(20)
     path.write_bytes(write_plain(recording))
@@ -134,7 +134,8 @@ def told_in(data: bytes) -> Optional[list[dict[str, Any]]]:
 
 
 def answers_wrong(asked: list[dict[str, Any]], told: Optional[list[dict[str, Any]]]) -> str:
-    """The fault of the answers: each request must have one, in the order of the requests, up to a `disconnect`."""
+    """The fault of the answers: each request must have one answer, in the order of the requests, up to a
+    `disconnect`."""
     if told is None:
         return "the stream has something else than messages"
     wanted = [(one["seq"], one["command"]) for one in asked]

@@ -1,4 +1,4 @@
-"""Random traffic over connections, with a bug planted at a random place or without a bug, to measure `info suspects`:
+"""Makes random traffic over connections, without a bug or with a bug at a random place, to measure `info suspects`:
 
     python3 -m netrev_fuzz.injections FIRST LAST
 
@@ -110,8 +110,8 @@ class Traffic(Program):
         return any(map(self.shows, self.planted))
 
     def shows(self, planted: Planted) -> bool:
-        """Whether the planted bug is visible at the end: a goroutine hangs although what it waits for has arrived, or a deadline has
-        passed; a kept lock or reference is always visible."""
+        """Whether the planted bug is visible at the end: a goroutine hangs although it needn't wait, or a deadline has
+        passed. A kept lock or reference is always visible."""
         g, d = planted.goroutine, planted.descriptor
         if self.bug is Bug.LEFT_BEHIND:
             return planted in self.passed
@@ -211,7 +211,7 @@ class Traffic(Program):
             self.go(lambda g: self.controller(g, s))
 
     def user(self, s: int, uses: Callable[[int, int, int], Turns], style: int) -> Callable[[int], Turns]:
-        """A goroutine that uses a connection, which counts as in use meanwhile."""
+        """A goroutine that uses a connection; the connection counts as used until it is done."""
 
         def body(g: int) -> Turns:
             self.busy[s] += 1
@@ -268,7 +268,7 @@ class Traffic(Program):
                 return
 
     def controller(self, g: int, s: int) -> Turns:
-        """`RawConn.Control`: a reference for a while."""
+        """`RawConn.Control`: holds a reference for a while."""
         for _ in range(self.dice.randint(1, 3)):
             if self.do("incref", g, s)[0] != "yes":
                 return (yield)
@@ -284,7 +284,8 @@ class Traffic(Program):
             yield from self.decref(g, s)
 
     def cancel_reads(self, g: int, s: int) -> Turns:
-        """Ends the reads with a deadline in the past, and removes the deadline; the bug is not to wait in between."""
+        """Sets a deadline in the past to end the reads, and removes it. With the bug, it doesn't wait for the reads to
+        end first."""
         d = self.descriptors[s]
         parked = [one for one in self.world.inside(d, "r") if self.world.goroutines[one][0] == "parked"]
         if not (parked and self.is_due(Bug.TAKEN_BACK)):
@@ -320,7 +321,8 @@ class Traffic(Program):
 
 
 class Count(NamedTuple):
-    """The counts of a bug: how often it was planted with a symptom, was listed first, and was listed at all; and the other suspects."""
+    """The counts of a bug: how often it was planted and had a symptom, how often it was listed first, how often it was
+    listed at all, and the number of other suspects."""
 
     shows: int = 0
     first: int = 0
@@ -344,7 +346,7 @@ def judged(traffic: Traffic) -> Count:
 
 
 def counted(bug: Optional[Bug], seeds: range) -> Count:
-    """The counts of a bug over these seeds: for recordings in which it is visible, or for good ones."""
+    """The counts of a bug over these seeds: for recordings in which it is visible, or for recordings without a bug."""
     total = Count()
     for seed in seeds:
         traffic = Traffic(seed, bug).run()

@@ -58,7 +58,7 @@ class Speaker:
         return line if self.dice.random() < 0.9 else self.spaced(line)
 
     def spaced(self, line: bytes) -> bytes:
-        """The line with more spaces, sometimes about up to the greatest length of a line."""
+        """The line with additional spaces, sometimes up to about the greatest length of a line."""
         line = line.replace(b" ", b" " * self.dice.randint(1, 4))
         line = b" " * self.dice.randint(0, 3) + line
         if self.dice.random() < 0.2:

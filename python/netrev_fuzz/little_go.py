@@ -66,7 +66,7 @@ class Program:
     # ---- Go's calls
 
     def operation(self, kind: str, g: int, *arguments: Any) -> Turns:
-        """An operation that begins with this step; returns its first answer and its last one."""
+        """Makes an operation that begins with this step; returns its first and its last answer."""
         answer = self.do(kind, g, *arguments)
         yield
         return answer, (yield from self.goes_on(g, answer))
@@ -142,13 +142,13 @@ class Program:
     # ---- the network and the clock
 
     def arrive(self, s: int, data: bytes) -> None:
-        """Bytes arrive for a socket, with their event."""
+        """Bytes arrive for a socket, and so does their event."""
         if self.may("arrive", s, data):
             d = self.descriptors[s]
             self.do("pollevent", d, self.world.descs[d].fdseq, "r", 0)
 
     def drain(self, s: int, count: int) -> None:
-        """The network takes bytes from a socket, with the event that the socket has room."""
+        """The network takes bytes from a socket, and an event says that the socket has room."""
         if self.may("drain", s, count):
             d = self.descriptors[s]
             self.do("pollevent", d, self.world.descs[d].fdseq, "w", 0)

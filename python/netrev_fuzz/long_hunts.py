@@ -1,12 +1,13 @@
-"""Two long recordings, each of a program with one bug, made at random from a seed:
+"""Makes a long random recording, from a seed, of one of two programs with a bug:
 
     python3 -m netrev_fuzz.long_hunts keeper|refused STEPS OUT.jsonl [SEED]
 
-`keeper`: each connection has a reader, and a keeper that extends its read deadline. From some step on, one keeper extends the write
-deadline instead, so the old timer fires, and a reader gives up on a connection that was meant to be kept alive.
+`keeper`: each connection has a reader, and a keeper that extends its read deadline. From some step on, one keeper
+extends the write deadline instead. So the old timer fires, and a reader gives up a connection that was meant to stay
+alive.
 
-`refused`: each request is a write with a deadline. If one times out, the program checks the connection by `RawConn.Control`; once, that
-function never drops its reference, and a later Close hangs.
+`refused`: each request is a write with a deadline. If a write times out, the program checks the connection by
+`RawConn.Control`. Once, that function never drops its reference, and a later Close hangs.
 """
 
 import sys
@@ -109,7 +110,8 @@ class Keeper(Hunt):
         yield from self.closed(g, s)
 
     def keep(self, g: int, s: int, is_done: list[bool]) -> Turns:
-        """Extends the deadline of a connection repeatedly. The bug: from some step on, it extends the deadline of the wrong side."""
+        """Extends the deadline of a connection repeatedly. With the bug, it extends the deadline of the wrong side from
+        some step on."""
         times = 0
         while not is_done:
             for _ in range(self.dice.randrange(10, 40)):
@@ -144,7 +146,8 @@ class Refused(Hunt):
         return self
 
     def let_all_end(self) -> None:
-        """Lets everything end that can: the network takes all written bytes, and nothing more arrives."""
+        """Runs the program until the network has taken all written bytes and no goroutine can continue; no more bytes
+        arrive."""
         while True:
             if ready := self.ready():
                 self.turn(self.dice.choice(ready))
@@ -175,7 +178,7 @@ class Refused(Hunt):
             pass
 
     def control(self, g: int, s: int, may_leak: bool) -> Turns:
-        """`RawConn.Control`. The bug: once, after a failed write, it doesn't drop its reference."""
+        """`RawConn.Control`. With the bug, it once doesn't drop its reference after a failed write."""
         if self.do("incref", g, s)[0] != "yes":
             return (yield)
         for _ in range(4):

@@ -37,7 +37,8 @@ def told(netrev: str, case: Case, folder: Path) -> Printed:
 
 
 def difference(netrev: str, case: Case, folder: Path, met: Met) -> Optional[Difference]:
-    """The outputs of netrev and the model for a case if they differ, else None. For a session of nrdb, its fault."""
+    """The outputs of netrev and the model for a case if they differ, or the fault of a session of nrdb; None if there
+    is no difference or fault."""
     if case.program == "nrdb":
         wrong = companion.played(netrev, case, folder, met)
         return (Printed(0, b"", wrong), Printed(0, b"")) if wrong else None

@@ -48,8 +48,9 @@ def heard(run: Callable[[], Of]) -> Of:
 
 @contextmanager
 def undisturbed() -> Iterator[None]:
-    """In this context, no Ctrl-C reaches this thread; one that is sent meanwhile arrives afterwards. An exception could leave a thread
-    unstarted, and if one is raised while a thread is joined, Python takes the thread for ended."""
+    """In this context, no Ctrl-C reaches this thread; a Ctrl-C that is sent meanwhile arrives afterwards. An exception
+    could leave a thread unstarted. If it is raised while a thread is joined, Python believes that the thread has
+    ended."""
     before = signal.pthread_sigmask(signal.SIG_BLOCK, ())
     try:
         signal.pthread_sigmask(signal.SIG_BLOCK, CTRL_C)

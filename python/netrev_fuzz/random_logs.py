@@ -1,7 +1,7 @@
-"""Random logs of actions that a Go program may take, and the recording that each must give. Goroutines read, write, dial, set deadlines,
-shut down and close sockets on the small runtime; random numbers decide which goroutine runs, what the network does, which timer a processor
-takes and which clock it reads. The beginning of the log may be missing, as if a ring had overwritten it, and the log may begin
-with notes."""
+"""Random logs of actions that a Go program may take, and the recording that each log must become. Goroutines read,
+write, dial, set deadlines, shut down and close sockets on the small runtime; random numbers decide which goroutine
+runs, what the network does, which timer a processor takes and which clock it reads. The beginning of the log may be
+missing, as if a ring had overwritten it, and the log may begin with notes."""
 
 from __future__ import annotations
 
@@ -68,7 +68,7 @@ def choices_of(dice: random.Random) -> Choices:
 
 
 class Program:
-    """A program with a few goroutines that use a few sockets, and the network and the poller around it."""
+    """A program with a few goroutines that use a few sockets, together with the network and the poller."""
 
     def __init__(self, dice: random.Random) -> None:
         self.dice = dice
@@ -93,7 +93,7 @@ class Program:
         self.weights = weights
 
     def run(self) -> None:
-        """Runs all turns; in the end, each goroutine's call may be cut off."""
+        """Runs all turns; at the end, each goroutine's call may be unfinished."""
         noting: Iterator[None] | None = None
         note_at = self.dice.randrange(self.choices.turns) if self.choices.ring == "noted" else -1
         for turn in range(self.choices.turns):
@@ -369,12 +369,12 @@ def log_of(program: Program) -> Log:
 
 
 def wrong(seed: str) -> str:
-    """The fault in the recording of a seed's log; empty if there is none."""
+    """The fault in the recording of a seed's log, or an empty text."""
     return wrong_with(program_of(seed))
 
 
 def wrong_with(program: Program, asked: Asked = lambda _: "") -> str:
-    """The fault that the model finds, or else the second checker, if one is given."""
+    """The fault that the model finds, or, if it finds none, the fault that `asked` finds."""
     log = log_of(program)
     try:
         recording = make(log)
@@ -385,7 +385,7 @@ def wrong_with(program: Program, asked: Asked = lambda _: "") -> str:
 
 
 def wrong_by(seed: str, folder: Path, netrev: str) -> str:
-    """The fault in the recording of a seed's log, according to the model, and for some seeds also to netrev itself."""
+    """The fault in the recording of a seed's log according to the model and, for some seeds, also to netrev."""
 
     def asked(recording: Recording) -> str:
         path = folder / "made.jsonl"
@@ -477,7 +477,7 @@ def socket_differs(program: Program, recording: Recording, machine: Machine, num
 
 
 def bytes_differ(points: list[tuple[Point, int]], steps: list[tuple[Step, Any]]) -> str:
-    """The socket that moved other bytes than in the log."""
+    """The socket that moved other bytes than it did in the log."""
     moved, had = Counter[tuple[int, str]](), Counter[tuple[int, str]]()
     for point, socket in points:
         if point.kind in (Kind.READ, Kind.WRITE) and point.b > 0:

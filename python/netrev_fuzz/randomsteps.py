@@ -121,7 +121,7 @@ class Author:
         return Recording(self.version, self.limits, steps, answers), worlds
 
     def any_answer(self, kind: str) -> Optional[Answer]:
-        """A recorded answer for a step that doesn't apply; it is never compared."""
+        """A recorded answer for a step that doesn't apply; netrev never compares it."""
         return random_answer(self.dice, kind, ("done",)) if self.version == 2 else None
 
     def rare_position(self, worlds: Sequence[World]) -> int:
@@ -153,7 +153,7 @@ class Author:
         return self.with_arguments(world, kind, 0)
 
     def goroutine(self, world: World) -> int:
-        """An existing goroutine, often one that has something to do."""
+        """An existing goroutine, preferably one that isn't idle."""
         able = [g for g, status in enumerate(world.goroutines) if status[0] not in ("gone", *ASLEEP)]
         return self.dice.choice(able or [0])
 
@@ -192,7 +192,7 @@ class Author:
         )
 
     def near(self, count: int) -> int:
-        """A number below the given one, and sometimes one past that."""
+        """A number below the given number; sometimes a number that is too large."""
         if self.dice.random() < self.past or count == 0:
             return self.dice.choice([count, count, count + 1, 4_294_967_295])
         return self.dice.randrange(count)

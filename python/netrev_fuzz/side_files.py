@@ -1,5 +1,5 @@
-"""Cases for the views of nrdb: a random recording that netrev accepts, and a file of lines for it with any contents. Each command must end,
-print no terminal controls, and write only the files that it names."""
+"""Cases for the views of nrdb: a random recording that netrev accepts, and a NAME.where for it with any contents. Each
+command must end, print no terminal controls, and write only the files that it names."""
 
 import io
 import json
@@ -100,7 +100,8 @@ def goroutines_of(dice: random.Random, ends: list[int], calls: int) -> list[Any]
 
 
 def file_of(dice: random.Random, steps: int) -> tuple[bytes, bool]:
-    """The file: well formed, with other values in some places, or with damaged bytes; and whether it is well formed."""
+    """The file, which is well formed, has other values in some places, or has damaged bytes; and whether it is well
+    formed."""
     lines = lines_of(dice, steps)
     sort = dice.randrange(4)
     for _ in range(dice.choice([1, 2, 5]) if sort == 1 else 0):
@@ -114,7 +115,7 @@ def file_of(dice: random.Random, steps: int) -> tuple[bytes, bool]:
 
 
 def wrong(seed: str, folder: Path, program: str) -> str:
-    """The fault in what the views of a seed print or write; empty if there is none."""
+    """The fault in what the views of a seed print or write, or an empty text."""
     dice = random.Random(seed)
     recording, _ = Author(dice).recording(dice.choice([4, 20, 60]))
     path = folder / "recording.jsonl"

@@ -53,7 +53,7 @@ class Slow(Own):
         self._process.send_signal(signal.SIGCONT)
 
     def kill(self) -> None:
-        """Ends the process, and nothing else."""
+        """Kills the process, and does nothing else."""
         with undisturbed():
             self._process.kill()
 

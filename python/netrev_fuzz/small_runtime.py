@@ -61,7 +61,7 @@ class PollDescriptor:
 
 @dataclass(eq=False)
 class Descriptor:
-    """poll.FD with its lock word, and the system's data about its socket."""
+    """A poll.FD: its lock word, and the system's data about its socket."""
 
     address: int
     number: int
@@ -297,8 +297,8 @@ class Runtime:
         yield
 
     def set_deadline(self, g: int, pd: PollDescriptor, mode: str, d: int, now: int) -> Turns:
-        """Sets a deadline. `now` is the time that it reads from the clock; there is no deadline if d is 0, and it is in the past if d is
-        negative."""
+        """Sets a deadline. `now` is the time that the goroutine reads from the clock. If d is 0, the deadline is
+        removed; if d is negative, the deadline is in the past."""
         self.log(Kind.SET_DEADLINE, g, pd.address, MODES[mode], d, 0, self.begin + now)
         if not pd.closing:
             rd, wd = pd.rd, pd.wd

@@ -132,7 +132,8 @@ def random_value(dice: random.Random, depth: int) -> object:
 
 
 def at_limits(dice: random.Random) -> bytes:
-    """A header and steps with arguments of the right number and form, most of them at a limit or one past it."""
+    """A header, and steps that have the right number of arguments in the right form; most arguments are at a limit or
+    one past it."""
     version = dice.choice(VERSIONS)
     lines = [limits_header(dice, version)]
     for _ in range(dice.randint(1, 5)):
@@ -170,7 +171,8 @@ def limits_header(dice: random.Random, version: int) -> str:
 
 
 def limits_argument(dice: random.Random, form: str) -> str:
-    """An argument as text: mostly the least or greatest one of its form, otherwise one past it or of another form."""
+    """An argument as text: mostly the least or greatest value of its form, otherwise a value just outside these limits
+    or of another form."""
     if dice.random() < 0.05:
         return dice.choice(ODD)
     past = dice.random() < 0.1

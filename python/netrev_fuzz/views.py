@@ -43,12 +43,13 @@ class Judge:
         return [] if shown in ("-", "absent") else [int(word) for word in shown.split()]
 
     def wrong(self, line: str, event: Event) -> str:
-        """The fault in an event that a line caused; empty if there is none."""
+        """The fault in an event that a line caused, or an empty text."""
         judge: Callable[[str, Any], str] = getattr(self, f"wrong_{event['event']}")
         return judge(line, event)
 
     def wrong_reply(self, line: str, event: Event) -> str:
-        """Checks netrev's reply against the model's; after `goto` and `until`, the model goes there too."""
+        """Checks netrev's reply against the model's. After `goto` and `until`, the model also moves to the new
+        position."""
         told, words = list(event["reply"]), line.split()
         if (
             words[0] in ("goto", "until", "reverse-until")
@@ -101,7 +102,7 @@ class Judge:
         return judge(line, event["rows"], event["rest"] or "")
 
     def differs(self, line: str, told: Any, right: Any) -> str:
-        """The text and the expected one, if they differ."""
+        """The text and the expected text, if they differ."""
         return "" if told == right else f"{line} at {self.position} tells {told}, and right is {right}"
 
     def made(self, cell: str) -> list[int]:
@@ -128,7 +129,8 @@ class Judge:
         return self.differs(line, told, right) or next(filter(None, waits), "")
 
     def wrong_group(self, row: Mapping[str, Any]) -> str:
-        """Checks goroutines that sleep alike: each must have that status, and queued ones must be queued for the same lock."""
+        """Checks goroutines that are listed together because they sleep in the same way: each must have that status,
+        and queued goroutines must be queued for the same lock."""
         statuses = {self.value(f"gor {number}") for number in row["goroutines"]}
         is_one = len(statuses) == 1 if row["status"] == "queued" else True
         if is_one and all(status.split()[0] == row["status"] for status in statuses):
@@ -213,7 +215,7 @@ class Judge:
         return self.differs(line, told, right)
 
     def wrong_changed(self, line: str, rows: Rows, rest: str) -> str:
-        """Checks the cells that the last step changed: they must be all that differ before and after it."""
+        """Checks the cells that the last step changed: they must be all cells that differ before and after the step."""
         told = sorted((row["cell"], row["old"], row["new"]) for row in rows)
         numbers = {
             Of.ALL: [""],
@@ -255,6 +257,6 @@ def cell_and_rest(words: Sequence[str]) -> tuple[str, str]:
 
 
 def says_something(row: Mapping[str, Any]) -> bool:
-    """Whether a socket isn't at rest."""
+    """Whether a socket is in use."""
     word = LockWord.of(int(row["lock"]))
     return word.references > 0 or bool(row["rq"] or row["wq"]) or (not word.closed and row["in"] != "0")

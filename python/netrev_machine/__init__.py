@@ -7,9 +7,8 @@ and the program differ, a page contradicts the program, and one of them has to c
     in_place, changed                   the machine changed in place, with undo, and the cells that a step changed
     changing                            the output of `changes`
     suspects                            the output of `suspects`: deadlines, lost wake-ups, sleepers and held references
-    replaying                           a recording's steps through the machine
+    replaying                           the replay of a recording's steps by the machine
     cells, wellformed                   the values of a state's cells, and the invariants of each state
     debugger, session                   the replies to lines of commands
     program, __main__                   the output of `run`, `check`, `upgrade`, `changes` and `suspects`
-    history                             one order of all lines that some fronts answered
 """

@@ -1,7 +1,7 @@
 """Runs the model instead of netrev:  python3 python netrev_machine run|check|upgrade|changes|suspects FILE
 
-It prints what netrev would, if the model can decide that. It is unproved, and slow for long recordings. Tests of nrdb that don't need a
-built netrev use it.
+It prints what netrev would print, unless the model can't decide that. It is unproved, and slow for long recordings.
+Tests of nrdb that don't need a built netrev use it.
 """
 
 import sys

@@ -6,14 +6,14 @@ from .cells import SHOWS_ALL, SHOWS_DESC, SHOWS_GOROUTINE, SHOWS_SOCKET, Shows
 from .in_place import WHOLE, Machine
 from .machine import Timer
 
-# the lists of queues, as `dump` has them
+# the lists of queues, as `dump` prints them
 SHOWS_QUEUES: Shows = {"rq": lambda socket: socket.queues[0], "wq": lambda socket: socket.queues[1]}
-# (no step changes cells of a socket and of a descriptor, so `shut` comes last)
+# (no step changes cells of both a socket and a descriptor, so `shut` comes last)
 OF_MANY: dict[str, Shows] = {"goroutines": SHOWS_GOROUTINE, "sockets": SHOWS_SOCKET, "descs": SHOWS_DESC}
 
 
 class Before(NamedTuple):
-    """The values of cells of the whole machine before the step."""
+    """The values, before the step, of the cells of the whole machine."""
 
     clock: int
     waiters: int
@@ -22,8 +22,8 @@ class Before(NamedTuple):
 
 
 def changed_cells(machine: Machine, with_queues: bool = False) -> list[str]:
-    """The cells that the last step changed, in the order of docs/reference/COMMANDS.md, and by number within a name; with `with_queues`
-    also the lists of `dump rq` and `dump wq`, at the end."""
+    """The cells that the last step changed, in the order of docs/reference/COMMANDS.md, and by number within a name. If
+    `with_queues` is true, the changed lists of `dump rq` and `dump wq` follow."""
     whole: dict[str, Any] = {}
     first: dict[str, dict[int, Any]] = {}  # the values before the step
     for of, place, old in machine.changes:

@@ -13,7 +13,7 @@ from .replaying import answers
 
 
 def lines_of(machine: Machine, number: int) -> list[str]:
-    """A line for each cell that the last step, of this number, changed."""
+    """A line for each cell that the last step changed; the step has this number."""
     return [f"{number} {cell} = {_shown(machine, cell)}" for cell in changed_cells(machine)]
 
 

@@ -1,5 +1,5 @@
-"""Only the machine's timers, for callers that don't need its other parts: a heap of armed timers, and the timers that went off but haven't
-run."""
+"""The machine's timers alone, for callers that don't need its other parts: a heap of armed timers, and the timers that
+went off but haven't run."""
 
 from __future__ import annotations
 
@@ -17,7 +17,8 @@ FEWEST = 64  # the number of timers above which the heap is swept
 
 @dataclass(eq=False, slots=True)
 class Timer:
-    """A timer that is armed or went off: its descriptor, the sides of its function, and the step that set the deadline."""
+    """A timer that is armed or has gone off: its descriptor, the sides of its function, and the step that set the
+    deadline."""
 
     due: int
     descriptor: int
@@ -41,7 +42,7 @@ class Descriptor:
 
 
 class Deadlines:
-    """All descriptors' deadlines, the armed timers, and those that went off."""
+    """All descriptors' deadlines, the armed timers, and the timers that went off."""
 
     def __init__(self) -> None:
         self.descriptors: dict[int, Descriptor] = {}
@@ -82,7 +83,7 @@ class Deadlines:
             self.disarm(descriptor, side)
 
     def changing(self, number: int, mode: str, deadline: int) -> list[tuple[int, bool]]:
-        """The sides whose timers a new deadline changes, and whether each then has one."""
+        """The sides whose timers a new deadline changes, and whether each side has a timer afterwards."""
         descriptor = self.descriptors[number]
         if descriptor.closing:
             return []
@@ -90,7 +91,7 @@ class Deadlines:
         new = (deadline if "r" in mode else read, deadline if "w" in mode else write)
         changes = []
         for side, is_running in enumerate(descriptor.running):
-            # (most descriptors have no timer for writing, and get none)
+            # (most descriptors neither have nor get a timer for writing)
             if (is_running or new[side] > 0) and (wants := followed(is_running, side, old, new)) is not None:
                 changes.append((side, wants))
         return changes
@@ -137,7 +138,7 @@ class Deadlines:
         return self.heap[0][2] if self.heap else None
 
     def pop(self) -> Timer | None:
-        """Lets the least timer go off, if there is one."""
+        """Lets the first timer go off, if a timer is armed."""
         timer = self.least()
         if timer:
             timer.armed = False
@@ -149,12 +150,13 @@ class Deadlines:
         return timer
 
     def place(self, number: int, side: int, sequence: int) -> int | None:
-        """The index of a firing in the list, if the list has it."""
+        """The index of a firing in the list, or None."""
         key = number, side, sequence
         return self._keys.index(key) if self._counts.get(key) else None  # (mostly it isn't one of hundreds)
 
     def fire(self, place: int, sides: str = "") -> tuple[Timer, bool]:
-        """Runs the function of a timer, for these sides or those that it covers; returns the timer, and whether it is stale."""
+        """Runs the function of a timer for these sides; by default, for the sides that the timer covers. Returns the
+        timer, and whether it is stale."""
         firing = self.firings.pop(place)
         self._counts[self._keys.pop(place)] -= 1
         descriptor = self.descriptors[firing.descriptor]

@@ -1,10 +1,10 @@
-"""A simple model of the shared debugger, to compare a session's replies with.
+"""A simple model of the shared debugger, with which a session's replies are compared.
 
-`Recording` has what is known about each position of a recording: the kinds of its steps, from its text, and the replies to queries, from
-one pass of `netrev run` over it. The vocabulary is in netrev_words/vocabulary.py.
+`Recording` has the kinds of a recording's steps, from its text, and the replies to queries at each position, from one
+pass of `netrev run` over it. The vocabulary is in netrev_words/vocabulary.py.
 
-The model itself follows docs/reference/COMMANDS.md: `read_line` returns the meaning of a line, and `Recording.answer` its reply in a state
-of the session, with the state after it.
+The model itself follows docs/reference/COMMANDS.md: `read_line` returns the meaning of a line. `Recording.answer`
+returns the reply to a line in a state of the session, and the next state.
 """
 
 from __future__ import annotations
@@ -42,7 +42,7 @@ class Asked(NamedTuple):
 
 
 class State(NamedTuple):
-    """The shared state: marks and checkpoints are pairs of a number and its object, in ascending order."""
+    """The shared state. Marks and checkpoints are pairs of a number and an object, in ascending order."""
 
     position: int = 0
     reverse: bool = False
@@ -71,7 +71,7 @@ def read_line(line: bytes) -> Optional[Asked]:
 
 
 def read_words(first: str, rest: list[str]) -> Optional[Asked]:
-    """The meaning of words whose first word is known; None if the others are wrong."""
+    """The meaning of a line's words if the first word is known; None if the other words are wrong."""
     number = number_of(rest[0]) if len(rest) == 1 else None
     match first:
         case "stepi" | "reverse-stepi":
@@ -113,7 +113,7 @@ def is_command(asked: Optional[Asked]) -> bool:
 
 @dataclass(frozen=True, eq=False)
 class Recording:
-    """A recording, and the results of some queries at each of its positions. It is used for a whole script."""
+    """A recording, and the results of some queries at each of its positions. A whole script uses it."""
 
     path: Optional[Path]
     kinds: tuple[str, ...]
@@ -157,7 +157,7 @@ class Recording:
 
     @lru_cache(maxsize=200_000)
     def nearest(self, marks: Marks, position: int, reverse: bool) -> Optional[tuple[int, list[int]]]:
-        """The nearest hit in that direction and the marks that hit there, or None."""
+        """The nearest position in this direction at which marks hit, and these marks; None if there is none."""
         found = [hit for _, mark in marks if (hit := self.nearest_of(mark, position, reverse)) is not None]
         if not found:
             return None
@@ -259,7 +259,7 @@ class Recording:
 
 
 def left_standing(marks: Marks, hitting: Sequence[int]) -> Marks:
-    """The marks that remain after a stop at which these marks hit: all except the temporary ones among these."""
+    """The marks that remain after a stop at which these marks hit: all marks except the temporary marks that hit."""
     return tuple(mark for mark in marks if mark[0] not in hitting or not mark[1].startswith("tbreak "))
 
 

@@ -18,8 +18,8 @@ WHOLE = -1  # the place for all other parts, each of which is replaced as a whol
 
 
 class Change(NamedTuple):
-    """A change with the old value: for a goroutine, socket or descriptor, the one at a place (None if it was new); for any other part, the
-    whole part."""
+    """A change with the old value. For a goroutine, socket or descriptor, that is the old object at a place (None if it
+    is new); for any other part, it is the whole part."""
 
     of: str
     place: int
@@ -30,7 +30,7 @@ Changes = list[Change]  # the changes of one step, in order
 
 
 class Machine:
-    """The state, and the changes of the last steps, at most as many as given."""
+    """The state, and the changes of at most this many last steps."""
 
     __slots__ = (*STATE, "steps", "_changes", "_seats")
 
@@ -93,7 +93,7 @@ class Machine:
         return d < len(self.descs) and d not in self.free
 
     def inside(self, d: int, side: str) -> list[int]:
-        """The goroutines inside the wait of a descriptor and side: at most one."""
+        """The goroutines, at most one, inside the wait of a descriptor and side."""
         g = self._seats.get((d, side))
         return [] if g is None else [g]
 
@@ -125,7 +125,7 @@ class Machine:
         return self
 
     def _put_all(self, name: str, old: list[Any], items: tuple[Any, ...]) -> None:
-        """Replaces these goroutines, sockets or descriptors, one of which may be new."""
+        """Replaces the goroutines, sockets or descriptors; one of them may be new."""
         if len(items) != len(old):
             self._changes.append(Change(name, len(old), None))
             old.extend(items[len(old) :])

@@ -23,7 +23,7 @@ GREATEST_COUNT = 2**32 - 1
 
 
 class Refused(Exception):
-    """The step is refused; `reason` is the number of the reason."""
+    """Raised if a step is refused; `reason` is the number of the reason."""
 
     def __init__(self, reason: int) -> None:
         super().__init__(reason)
@@ -45,7 +45,7 @@ class Lock(NamedTuple):
 
 
 class Socket(NamedTuple):
-    """A socket. Its input buffer is for reading, its output buffer for writing."""
+    """A socket. The socket's input buffer is for reading, and its output buffer is for writing."""
 
     capacities: tuple[int, int]
     lock: Lock = Lock()
@@ -86,7 +86,7 @@ class Timer(NamedTuple):
 
 
 class World(NamedTuple):
-    """The whole state. The first of the free list is the descriptor that was freed last; the timers are sorted."""
+    """The whole state. The first descriptor of the free list was freed last; the timers are sorted."""
 
     limits: Limits
     clock: int = 0
@@ -117,7 +117,7 @@ class World(NamedTuple):
 
 
 def put(items: tuple[Item, ...], place: int, item: Item) -> tuple[Item, ...]:
-    """The tuple with another item at a place."""
+    """The tuple with this item at this place."""
     return (*items[:place], item, *items[place + 1 :])
 
 

@@ -14,16 +14,16 @@ class Observer:
     """Receives each step and each line, and ignores them."""
 
     def applied(self, kind: str, answer: Answer) -> None:
-        """A step of this kind applied and had this answer."""
+        """Called if a step of this kind applied and had this answer."""
 
     def refused(self, kind: str, reason: int) -> None:
-        """A step of this kind didn't apply, for this reason."""
+        """Called if a step of this kind didn't apply, for this reason."""
 
     def differed(self, kind: str, recorded: Answer, answer: Answer) -> None:
-        """The recorded answer of a step of this kind isn't the machine's."""
+        """Called if the recorded answer of a step of this kind isn't the machine's."""
 
     def printed(self, fault: str) -> None:
-        """A recording has this fault."""
+        """Called if a recording has this fault."""
 
     def asked(self, asked: Asked, reply: Reply) -> None:
-        """A line that asked for this got this answer."""
+        """Called after a line got this answer; `asked` is the line's meaning."""

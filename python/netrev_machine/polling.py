@@ -1,4 +1,5 @@
-"""What changes of a descriptor inside one step: the check, unblocking, deadlines with their timers, events and closing."""
+"""The parts of steps that change a descriptor: the check, unblocking, deadlines with their timers, events and
+closing."""
 
 from typing import Optional, Sequence
 
@@ -34,7 +35,8 @@ def with_word(world: World, d: int, side: str, word: Word) -> World:
 
 
 def unblock(world: World, d: int, side: str, readiness: bool) -> World:
-    """Unblocks the word of a side: with readiness it becomes ready, and the goroutine that it held continues to the swap."""
+    """Unblocks the word of a side. If there is readiness, the word becomes ready; the goroutine that the word held
+    continues to the swap."""
     word = world.descs[d].words[at(side)]
     if word == "ready":
         return world
@@ -45,8 +47,8 @@ def unblock(world: World, d: int, side: str, readiness: bool) -> World:
 
 
 def opened(world: World, s: int) -> tuple[World, int]:
-    """The world with a descriptor opened for a socket, and its number. Refused with reason 3 if no descriptor is free and all have been
-    made."""
+    """The world with a descriptor opened for a socket, and its number. The step is refused with reason 3 if no
+    descriptor is free and all have been made."""
     if not world.free and len(world.descs) == world.limits.desc:
         raise Refused(3)
     if world.free:
@@ -94,7 +96,7 @@ def followed(is_running: bool, place: int, before: Sequence[int], now: Sequence[
 
 
 def deadline_of(clock: int, time: int) -> int:
-    """The deadline at a time from now; no deadline and a past one stay as given."""
+    """The deadline at this time from now. A time of 0 (no deadline) or below (a past deadline) is returned as it is."""
     return min(clock + time, GREATEST_TIME) if time > 0 else time
 
 
@@ -141,7 +143,7 @@ def with_timer(world: World, d: int, side: str, combo: bool) -> World:
 
 
 def fired(world: World, firing: Timer) -> Optional[World]:
-    """Runs a firing; None if it is stale. Its sequence belongs to the first side that it covers."""
+    """Runs a firing; returns None if it is stale. A firing has the sequence of the first side that it covers."""
     d, own = firing.desc, at(firing.covers[0])
     if firing.sequence != world.descs[d].sequences[own]:
         return None

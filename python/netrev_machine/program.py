@@ -24,7 +24,7 @@ LISTS: dict[str, Listed] = {
 
 
 class Printed(NamedTuple):
-    """An exit status and the standard output; and the reason why the output can't be right, if there is one."""
+    """An exit status, the standard output, and the reason, if any, why the output can't be right."""
 
     status: int
     output: bytes
@@ -32,7 +32,7 @@ class Printed(NamedTuple):
 
 
 class Broken(Exception):
-    """The model reached a state that isn't well formed."""
+    """Raised if the model reached a state that isn't well formed."""
 
 
 class Replayed(NamedTuple):
@@ -54,7 +54,7 @@ def replay(recording: bytes, observer: Observer, keeps_worlds: bool = True, keep
 def held_together(
     replayed: Iterable[tuple[World, Optional[Answer]]], keeps_worlds: bool, keeps_answers: bool
 ) -> tuple[list[World], list[Answer]]:
-    """The states of all positions, and the answers. The first states are checked for being well formed."""
+    """The states of all positions, and the answers. Checks that the first states are well formed."""
     worlds, answers = [], []
     for position, (world, answer) in enumerate(replayed):
         if position < HELD and (broken := breaches(world)):

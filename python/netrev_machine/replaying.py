@@ -16,8 +16,8 @@ def differs(recorded: Answer, answer: Answer) -> bool:
 
 
 def answers(recording: Recording, observer: Observer, make: Callable[[Step], Answer]) -> Iterator[Answer]:
-    """The answer of each step as it is made; raises the Fault of the first step that doesn't apply or has another
-    recorded answer. The observer gets each step."""
+    """Makes each step and yields its answer. Raises the Fault of the first step that doesn't apply or whose recorded
+    answer differs. The observer gets each step."""
     for number, (step, recorded) in enumerate(zip(recording.steps, recording.answers), 1):
         try:
             answer = make(step)

@@ -36,7 +36,7 @@ class Shown(dict[str, Looked]):
 
 
 def recording_of(steps: Sequence[Step], worlds: Sequence[World]) -> Recording:
-    """The debugger's data for a recording with these steps and with these states at its positions."""
+    """The debugger's data for a recording with these steps, whose positions have these states."""
     return Recording(None, tuple(step[0] for step in steps), Shown(worlds))
 
 

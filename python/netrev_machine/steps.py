@@ -30,7 +30,7 @@ def idle(world: World, g: int) -> None:
 
 
 def within(world: World, g: int, place: str) -> Status:
-    """The descriptor and side of the wait in which a goroutine is at this place."""
+    """The descriptor and side of a goroutine's wait; the goroutine must be at this place of the wait."""
     status = there(world, g)
     need(status[0] == place, 2)
     return status[1:]
@@ -109,7 +109,7 @@ def drain(world: World, s: int, n: int) -> Outcome:
 
 
 def operate(world: World, g: int, s: int, operation: Operation, *arguments: str) -> Outcome:
-    """An operation on a lock word. Afterwards a goroutine that owes releases or has to wait isn't idle."""
+    """Makes an operation on a lock word. Afterwards, a goroutine that owes releases or has to wait isn't idle."""
     answer, lock, owed = operation(socket(world, s).lock, *arguments)
     status = ("owing", s, *owed) if any(owed) else IDLE
     if answer == "wait":
@@ -287,5 +287,5 @@ OF_KIND = {function.__name__: function for function in KINDS}
 
 
 def apply(world: World, step: Step) -> Outcome:
-    """The next state and the answer of a step, which is a tuple of a kind and its arguments."""
+    """The next state and the answer of a step. The step is a tuple of a kind and its arguments."""
     return OF_KIND[step[0]](world, *step[1:])

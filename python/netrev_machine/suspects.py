@@ -1,11 +1,12 @@
-"""The output of `netrev suspects` for a recording, following the definitions in docs/reference/COMMANDS.md word for word: each question
-goes over all steps, with the states before and after each. So it takes quadratic time, and is meant for short recordings.
+"""The output of `netrev suspects` for a recording, following the definitions in docs/reference/COMMANDS.md word for
+word: each question goes over all steps, with the states before and after each. This takes quadratic time, so it is
+meant for short recordings.
 
-    passed deadline  a `fire` by which the deadline of a side passes, with the `setdeadline` that set it
-    timeout          a check answered `code 2`, by which a call ends, with the `setdeadline` that set the deadline
-    taken back       a `setdeadline` of a side whose deadline has passed, before the goroutine that it woke checked why
-    lost wake-up     a goroutine parked at a side, though no try was answered EAGAIN after the side's last event
-    asleep           a goroutine parked at a side, though a check would end its wait, or its socket has what it waits for
+    passed deadline  a `fire` that lets the deadline of a side pass, and the `setdeadline` that set the deadline
+    timeout          a check that is answered `code 2` and ends a call, and the `setdeadline` that set the deadline
+    taken back       a `setdeadline` of a side whose deadline has passed, before the woken goroutine has checked
+    lost wake-up     a goroutine that is parked at a side, although no try was answered EAGAIN after the side's last event
+    asleep           a goroutine that is parked at a side, although a check would end its wait or its socket is ready
     held reference   a goroutine that took more references of a closed socket than it gave back
 
 Each line has one finding. Findings about deadlines come step by step; the others are about the last position.
@@ -68,7 +69,7 @@ def suspects(recording: bytes, observer: Observer, hunts: Sequence[str] = HUNTS)
 
 
 def suspect_lines(replayed: Replayed, hunts: Sequence[str] = HUNTS) -> list[str]:
-    """The lines of these hunts, without the last one."""
+    """The lines of these hunts, without the final line."""
     at_the_end = (*lost_wake_ups(replayed), *asleep(replayed), *held_references(replayed))
     lines = [*came_of_deadlines(replayed), *at_the_end]
     return [line for line in lines if line.split()[2] in hunts]
@@ -78,7 +79,7 @@ def suspect_lines(replayed: Replayed, hunts: Sequence[str] = HUNTS) -> list[str]
 
 
 def came_of_deadlines(replayed: Replayed) -> Iterator[str]:
-    """What deadlines cause, step by step, reading before writing."""
+    """The findings about deadlines, step by step, with reading before writing."""
     for n in range(1, replayed.end + 1):
         yield from passed_deadlines(replayed, n)
         yield from timeouts(replayed, n)
@@ -110,7 +111,8 @@ def timeouts(replayed: Replayed, n: int) -> Iterator[str]:
 
 
 def checked(replayed: Replayed, n: int) -> Optional[tuple[int, int, str]]:
-    """The goroutine, the descriptor and the side of step n, if it is a reset, the beginning of a wait, or the last check of one."""
+    """The goroutine, the descriptor and the side of step n, if it is a reset, the beginning of a wait, or the last
+    check of a wait."""
     kind, *arguments = replayed.step(n)
     if kind in NAMES_ITS_SIDE:
         g, d, side = arguments
@@ -122,7 +124,8 @@ def checked(replayed: Replayed, n: int) -> Optional[tuple[int, int, str]]:
 
 
 def taken_back(replayed: Replayed, n: int) -> Iterator[str]:
-    """Step n, if it sets the deadline of a side whose deadline has passed, while the goroutine that this woke hasn't checked yet."""
+    """Step n, if it sets the deadline of a side whose deadline has passed, and the goroutine that was woken by that
+    hasn't checked yet."""
     if replayed.step(n)[0] == "setdeadline":
         _, _, d, mode, _ = replayed.step(n)
         for side in SIDES:
@@ -132,8 +135,8 @@ def taken_back(replayed: Replayed, n: int) -> Iterator[str]:
 
 
 def woken(replayed: Replayed, until: int, d: int, side: str) -> Optional[int]:
-    """The goroutine that was parked at a side when its deadline last passed before a step, if since then the side's deadline wasn't set,
-    the descriptor wasn't opened, and the goroutine didn't check."""
+    """The goroutine that was parked at a side when the side's deadline last passed before a step. None if, since then,
+    the deadline was set, the descriptor was opened, or the goroutine checked."""
     passed = [n for n in replayed.between(0, until) if (d, side) in passings(replayed, n)]
     if (
         not passed
@@ -155,7 +158,8 @@ def looked(replayed: Replayed, n: int, g: int, d: int, side: str) -> bool:
 
 
 def setting(replayed: Replayed, until: int, d: int, side: str) -> str:
-    """The last setting of a side's deadline before a step, and the first setting of only the other side after it."""
+    """The last step that set a side's deadline before this step, and the first later step that set only the other
+    side's."""
     other = "w" if side == "r" else "r"
     set_at = last_setting(replayed, until, d, side)
     _, g, _, mode, _ = replayed.step(set_at)
@@ -192,7 +196,8 @@ def lost_wake_ups(replayed: Replayed) -> Iterator[str]:
 
 
 def owed(replayed: Replayed, d: int, side: str) -> Optional[int]:
-    """The last event of a side, if since then the descriptor wasn't opened and no try at that side was answered `again`."""
+    """The last event of a side. None if, since then, the descriptor was opened or a try at that side was answered
+    `again`."""
     events = [n for n in range(1, replayed.end + 1) if is_event(replayed, n, d, side)]
     opened = last_opening(replayed, d, replayed.end + 1)
     if not events or events[-1] < opened:
@@ -209,7 +214,7 @@ def is_event(replayed: Replayed, n: int, d: int, side: str) -> bool:
 
 
 def last_opening(replayed: Replayed, d: int, until: int) -> int:
-    """The last `pollopen` before a step whose answer was this descriptor."""
+    """The last `pollopen` before a step that was answered with this descriptor."""
     openings = (n for n in replayed.between(0, until) if replayed.has(n, "pollopen", "number"))
     return max(n for n in openings if replayed.answers[n - 1][1] == d)
 

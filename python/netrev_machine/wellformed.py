@@ -16,8 +16,8 @@ def breaches(world: World) -> list[str]:
 
 
 def waits(world: World) -> Iterator[str]:
-    """At most one goroutine is inside each wait, and only of an open descriptor; words hold exactly the parked goroutines, and waiters
-    counts them."""
+    """At most one goroutine is inside each wait, and the descriptor of its wait is open. Words hold exactly the parked
+    goroutines, and `waiters` counts them."""
     held: dict[int, Status] = {}
     for d, desc in enumerate(world.descs):
         for side in SIDES:
@@ -53,7 +53,8 @@ def current(world: World, timer: Timer) -> bool:
 
 
 def timers(world: World) -> Iterator[str]:
-    """An armed timer has its side's sequence, deadline and function; for each side, at most one timer or firing counts."""
+    """An armed timer has its side's sequence, deadline and function. For each side, at most one timer or firing is
+    current."""
     for timer in world.timers:
         desc, place = world.descs[timer.desc], at(timer.side)
         function = "write" if timer.side == "w" else "both" if is_combo(desc) else "read"
@@ -83,7 +84,7 @@ def free_descriptors(world: World) -> Iterator[str]:
 
 
 def limits(world: World) -> Iterator[str]:
-    """Nothing outgrows the recording's limits, and no buffer its capacity."""
+    """No count exceeds the recording's limits, and no buffer exceeds its capacity."""
     most = world.limits
     made = (len(world.goroutines), len(world.sockets), len(world.descs), len(world.firings))
     if any(count > limit for count, limit in zip(made, (most.gor, most.sock, most.desc, 2 * most.desc))):

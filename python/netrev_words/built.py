@@ -15,7 +15,7 @@ LAUNCHER = b"netrev_words.launching"  # a text in pip's script that looks for ne
 
 
 def is_launcher(path: Path) -> bool:
-    """Whether a file only looks for netrev."""
+    """Whether a file is only pip's script that looks for netrev."""
     with path.open("rb") as file:
         return LAUNCHER in file.read(4096)
 
@@ -30,7 +30,8 @@ def on_the_path() -> Optional[str]:
 
 
 def netrev_program() -> Optional[str]:
-    """The program that NETREV names; or else the one built here, the one installed beside the running program, or another installed one."""
+    """The program that NETREV names. By default, it is the program that was built here, the program that is installed
+    beside the running program, or another installed netrev, in this order."""
     beside = Path(sys.argv[0]).resolve().with_name("netrev")
     there = [str(path) for path in (BUILT, beside, INSTALLED) if path.is_file() and not is_launcher(path)]
     return os.environ.get("NETREV") or next(iter(there), None) or on_the_path()

@@ -15,12 +15,13 @@ IN_A_CLONE = {"nrdb": "nrdb", "netrev-go": "tools/go/netrev-go"}
 
 
 def command_line(name: str, *words: object) -> str:
-    """A program's command line with these words, quoted for a shell."""
+    """A program's command line with these arguments, quoted for a shell."""
     return " ".join([command(name), *(shlex.quote(str(word)) for word in words)])
 
 
 def command(name: str) -> str:
-    """How `nrdb` or `netrev-go` is called in the current folder: by its name if the PATH leads to this installation, else by its path."""
+    """The command that calls `nrdb` or `netrev-go` in the current folder: its name if the PATH leads to this
+    installation, else its path."""
     scripts = [path for path in scripts_of(name) if is_executable(path)]
     found = shutil.which(name)
     if found and Path(found).resolve() in [path.resolve() for path in scripts]:
@@ -64,19 +65,21 @@ def path_from_here(path: Path) -> str:
 
 
 def file_word(path: object) -> str:
-    """A file's name as an argument of a command: a name that begins with `-` would be read as an option."""
+    """A file's name as an argument of a command. A name that begins with `-` is changed, because it would be read as an
+    option."""
     return f"./{path}" if str(path).startswith("-") else str(path)
 
 
 def how_to_get_netrev(option: str = "NETREV") -> str:
-    """What to do if netrev's program isn't found. `option` is the option that names another program."""
+    """A text that says what to do if netrev's program isn't found. `option` is the option that names another
+    program."""
     build = make_command("netrev")
     get = f"`{build}` builds it" if build else "the Debian package and the archive contain it"
     return f"{get}; {option} names another one"
 
 
 def make_command(target: str) -> str | None:
-    """How `make` makes a target in this clone; None if this isn't a clone."""
+    """The `make` command for a target in this clone; None if this isn't a clone."""
     top = PACKAGES.parent
     if PACKAGES.name != "python" or not (top / "Makefile").is_file():
         return None

@@ -46,7 +46,7 @@ def whole(path: Path, mode: str = "w") -> Iterator[IO[Any]]:
 
 
 def check_name(path: str | Path) -> None:
-    """Raises an OSError if no file can have that name."""
+    """Raises an OSError if no file can have this name."""
     try:
         is_name = b"\0" not in os.fsencode(path)
     except UnicodeEncodeError:

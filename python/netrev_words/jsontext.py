@@ -3,9 +3,11 @@
 - `NaN`, `Infinity`, numbers too large for floating point, and half of a surrogate pair;
 - arrays and objects nested 128 deep;
 
-and doesn't accept as a whole number `-0`, a number with a point or an exponent, or one with more digits than 64 bits hold.
+It doesn't accept, as a whole number, `-0`, a number with a point or an exponent, or a number that doesn't fit into 64
+bits.
 
-JSON parsers differ about numbers close to the largest floating-point number. `Doubtful` is raised for these, and the case isn't judged.
+JSON parsers differ about numbers close to the largest floating-point number. `Doubtful` is raised for such a number,
+and the case isn't judged.
 """
 
 import json
@@ -18,7 +20,7 @@ DOUBTED = (Decimal("1.7976e308"), Decimal("1.7978e308"))
 
 
 class NoJson(ValueError):
-    """The text isn't JSON."""
+    """Raised if the text isn't JSON."""
 
 
 class Doubtful(Exception):

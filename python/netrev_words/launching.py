@@ -1,5 +1,5 @@
-"""The command `netrev` of a pip installation: pip doesn't install the proved program, so this runs the one that it finds, or says how to
-get it."""
+"""The command `netrev` of a pip installation. pip doesn't install the proved program, so this command runs a program
+that it finds, or says how to get one."""
 
 import os
 import sys
@@ -13,7 +13,7 @@ FAILED = 3
 
 
 def main() -> int:
-    """Becomes netrev; returns the exit status if netrev is missing."""
+    """Replaces this process by netrev; returns an exit status if netrev is missing."""
     program = netrev_program()
     if program is None:
         print(MISSING, file=sys.stderr)

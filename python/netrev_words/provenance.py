@@ -1,4 +1,4 @@
-"""Which program netrev is: its path, its SHA-256, and, if the package says so, the logic of its proofs."""
+"""The origin of netrev's program: its path, its SHA-256 and, if the package has it, the logic of its proofs."""
 
 import hashlib
 import os

@@ -20,7 +20,8 @@ RANGES = {
 
 
 def forms_of(kind: Kind) -> tuple[str, ...]:
-    """The forms of a kind's arguments. `n` is a capacity or a count of bytes; of the times, only deadlines are signed."""
+    """The forms of a kind's arguments. `n` is a capacity or a count of bytes. Among the times, only deadlines are
+    signed."""
     of_time = "deadline" if kind.name == "setdeadline" else "clock"
     return tuple({"rc": "n", "wc": "n", "time": of_time}.get(argument, argument) for argument in kind.arguments)
 

@@ -1,6 +1,6 @@
-"""The vocabulary of recordings and commands, with each table only here: kinds of steps with their arguments, cells, dumps,
-reasons, faults and the header's keys. docs/internals/MACHINE.md, docs/reference/RECORDING.md and docs/reference/COMMANDS.md
-explain them."""
+"""The only tables of the vocabulary of recordings and commands: kinds of steps with their arguments, cells, dumps,
+reasons, faults and the header's keys. docs/internals/MACHINE.md, docs/reference/RECORDING.md and
+docs/reference/COMMANDS.md explain them."""
 
 from dataclasses import dataclass
 from enum import Enum
@@ -13,7 +13,7 @@ VERSIONS = (1, 2)
 
 
 class Of(Enum):
-    """What a cell belongs to: the whole machine, or each goroutine, socket or descriptor."""
+    """The owner of a cell: the whole machine, or each goroutine, socket or descriptor."""
 
     ALL = "machine"
     GOROUTINE = "goroutine"
@@ -92,7 +92,7 @@ OF_A_GOROUTINE = tuple(name for name, kind in KINDS.items() if kind.arguments[:1
 
 NUMBERS = {name: number for number, name in enumerate(KINDS, 1)}  # a kind's number is its index in the table
 
-# a recorded answer is one of these names, or an array of one of the next names and a number
+# a recorded answer is one of these names, or an array of a name from the next table and a number
 PLAIN_ANSWERS = ("done", "yes", "no", "wait", "last", "notlast", "eof", "again", "stale", "pipe")
 COUNTED_ANSWERS = ("number", "code", "got", "put")
 
@@ -164,7 +164,7 @@ _WRITTEN = {
 
 
 def written(kind: Kind, argument: str) -> Written:
-    """The form of this argument of this kind: a deadline's time may be negative, a clock's may not."""
+    """The form of this argument of this kind: a deadline's time may be negative, and a clock's time may not."""
     if kind.name == "setdeadline" and argument == "time":
         return Written.DEADLINE
     return _WRITTEN.get(argument, Written.NUMBER)
@@ -231,7 +231,7 @@ def cell_of(words: Sequence[str]) -> Optional[str]:
 
 
 def number_of(word: str) -> Optional[int]:
-    """The number that a word stands for, or None."""
+    """The number that a word means, or None."""
     digits = word.lstrip("0") or word[:1]
     if not (word.isascii() and word.isdigit()) or len(digits) > len(str(MOST)):  # int() rejects 4,301 digits
         return None
@@ -240,7 +240,8 @@ def number_of(word: str) -> Optional[int]:
 
 
 def break_of(words: Sequence[str]) -> Optional[str]:
-    """The target of a break in these words, spelled as in `info breakpoints`: a kind, or `@` and a step; None if they name neither."""
+    """The target of a break that the words name, spelled as in `info breakpoints`: a kind, or `@` and a step. None if
+    the words name neither."""
     if len(words) != 1:
         return None
     word = words[0]

@@ -16,7 +16,7 @@ def json_answer(answer: Answer) -> object:
 
 
 def line_of(step: Step, answer: Optional[Answer]) -> str:
-    """A step as a line of compact JSON, with its recorded answer if there is one."""
+    """A step as a line of compact JSON, with its recorded answer, if any."""
     parts = [part.hex() if isinstance(part, bytes) else part for part in step]
     return json.dumps(parts + ([json_answer(answer)] if answer else []), separators=(",", ":"))
 
