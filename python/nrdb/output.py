@@ -1,5 +1,5 @@
 """nrdb's output: events, as text for people or as lines of JSON for editors and scripts. netrev's replies are printed
-unchanged. Everything else begins with `|`."""
+unchanged. All other output begins with `|`."""
 
 import json
 import os

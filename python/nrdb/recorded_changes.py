@@ -178,8 +178,8 @@ class RecordedChanges:
             first = end
 
     def _is_asked_little(self) -> bool:
-        """Whether searching the lines is fast enough for the number of queries so far. If not, puts the changes so far
-        into the arrays."""
+        """Whether searching the lines is fast enough for the number of queries so far. If it isn't, puts the changes so
+        far into the arrays."""
         self._asked += 1
         if self._asked > FEW:
             self._hold()

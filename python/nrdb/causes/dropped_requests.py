@@ -71,7 +71,7 @@ def has_answer(recording: Recording, wait: Waiting, request: Use) -> bool:
 
 def taker_of(recording: Recording, wait: Waiting, request: Use, waiters: Mapping[Name, Waiter]) -> Optional[Taken]:
     """The goroutine that took a request. The result is None unless all requests were taken, and each goroutine that
-    took a request has ended or waits for the next."""
+    took a request has ended or waits for the next request."""
     lines, number = recording.lines, request.object
     uses = lines.uses[number]
     put, took = (sum(use.often for use in uses if use.what == what) for what in (PUT, TOOK))

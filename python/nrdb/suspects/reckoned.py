@@ -32,7 +32,7 @@ def lost_wake_ups(notes: Notes) -> Iterator[LostWakeUp]:
 
 
 def passed_deadlines(notes: Notes) -> Iterator[OfDeadline]:
-    """Each deadline that passed by a firing."""
+    """The deadlines that passed in a `fire` step."""
     for use in notes.uses:
         for side, passings in zip("rw", use.passings):
             for step, kind, due in passings:

@@ -97,7 +97,7 @@ class Drawing:
         self._write(12, y - 22, "position", "soft")
 
     def _sockets(self) -> list[int]:
-        """The sockets to draw, starting with those of the story."""
+        """The sockets to draw, starting with the sockets of the story."""
         first = self._story["s"] if self._story else None
         return sorted(
             (socket for socket in self._index.by_socket if socket >= 0), key=lambda socket: (socket != first, socket)
