@@ -1,10 +1,10 @@
 #!/usr/bin/env python3
 """Prints the definitions that the laws rest on:  scripts/beliefs.py [--names | --write] [CRATE/FILE:NAME ..]
 
-It prints the tables of docs/proof/THEOREM.md: the numbers of definitions and of their lines, and the files in reading order. `--write`
-writes them into the page. It leaves sentences with numbers alone; scripts/pages.py finds outdated ones. `--names` prints the definitions
-themselves, file by file. Definitions named as arguments replace the laws: `scripts/beliefs.py nr_rev/Step:outcome` prints the definitions
-that this one rests on.
+It prints the tables of docs/proof/THEOREM.md: the numbers of definitions and of their lines, and the files in reading
+order. `--write` writes them into the page. It doesn't change sentences with numbers; scripts/pages.py finds outdated
+sentences. `--names` prints the definitions themselves, file by file. Definitions named as arguments replace the laws:
+`scripts/beliefs.py nr_rev/Step:outcome` prints the definitions that this one rests on.
 """
 
 import argparse
@@ -37,7 +37,7 @@ def write(page: Path, rows: list[str]) -> None:
 
 
 def main(given_words: list[str] | None = None) -> int:
-    """Prints the result for these words, or for the command line's."""
+    """Prints the result for these arguments, or for those of the command line."""
     given = argparse.ArgumentParser(description=__doc__, formatter_class=argparse.RawDescriptionHelpFormatter)
     how = given.add_mutually_exclusive_group()
     how.add_argument("--names", action="store_true", help="print the definitions, file by file")

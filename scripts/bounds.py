@@ -1,9 +1,9 @@
 #!/usr/bin/env python3
 """Finds the numbers that no proof needs:  scripts/bounds.py [--list] [CRATE ..]
 
-Makes each constant and each loop bound one less in a copy of the repository, where `rt ci` tries the change as an edit that must fail. If
-the change is refused, a contract fixes the number. If the crate is still proved, the number rests only on the source: with a smaller one
-netrev is slower, or gives up earlier, and no theorem excludes that.
+In a copy of the repository, reduces each constant and each loop bound by one; `rt ci` tries each change as an edit that
+must fail. If the change is refused, a contract fixes the number. If the crate is still proved, the number rests only on
+the source: with a smaller number netrev is slower, or gives up earlier, and no theorem excludes that.
 
 Without names it tries netrev's crates. With --list it prints what it would change. A crate takes some minutes. The status is 0 if each
 change was tried, else 1.
@@ -39,7 +39,7 @@ class Number(NamedTuple):
 
     @property
     def edit(self) -> str:
-        """The edit that makes the number one less."""
+        """The edit that reduces the number by one."""
         before, _, after = self.line.rpartition(self.text)
         return f"file: {self.file}\nold: {self.line}\nnew: {before}({self.text}) - 1{after}\n"
 
@@ -59,7 +59,8 @@ def crates_of_netrev() -> list[str]:
 
 
 def numbers_of(crate: str) -> Iterator[Number]:
-    """The numbers of a crate, file by file. Lines that occur twice in a file can't be named by an edit, and are left out."""
+    """The numbers of a crate, file by file. An edit can't name a line that occurs twice in its file, so such lines are
+    left out."""
     folder = ROOT / "crates" / crate
     for path in sorted((folder / "src").rglob("*.rt")):
         source, file = path.read_text("utf-8"), str(path.relative_to(folder))

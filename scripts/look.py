@@ -1,7 +1,7 @@
 #!/usr/bin/env python3
 """Opens nrdb's prompt on a recording, with a netrev that is compiled but not proved:  scripts/look.py FILE [SCRIPT]
 
-With SCRIPT netrev runs the commands of that file instead, as `netrev run FILE < SCRIPT`.
+With SCRIPT, netrev runs the commands in that file instead, as in `netrev run FILE < SCRIPT`.
 """
 
 import os

@@ -77,7 +77,8 @@ def rows_of(table: list[str]) -> list[list[str]]:
 
 
 def entries(table: list[str]) -> list[str]:
-    """A table as a list: the first column is the term, and the other columns are below it. Four columns are two tables side by side."""
+    """Converts a table to a list: the first column is the term, and the other columns are below it. A table with four
+    columns counts as two tables side by side."""
     rows = rows_of(table)
     if len(rows[0]) == 4:
         rows = [row[:2] for row in rows] + [row[2:] for row in rows]
@@ -113,7 +114,7 @@ def page(markdown: str) -> str:
     return TITLE + HEAD + "\n".join(line for lines in blocks for line in block(lines)) + "\n" + TAIL
 
 
-# For each other program: its parser, a short description, its usage, what it does, and its exit statuses.
+# For each program except netrev: its parser, a short description, its usage, what it does, and its exit statuses.
 OTHERS: dict[str, tuple[argparse.ArgumentParser, str, str, str]] = {
     "nrdb": (
         cli.parser(),

@@ -1,11 +1,11 @@
 #!/usr/bin/env python3
 """Measures the processor time of a run:  scripts/minutes.py LOG COMMAND ..  or  scripts/minutes.py LOG
 
-With a command, runs it, samples the running checks every second, and writes their processor seconds to LOG, with a line for each crate and
-kind of check. The status is the command's. Without a command, prints LOG as a table:
+With a command, runs it, samples the running checks every second, and writes their processor seconds to LOG, with a line
+for each crate and kind of check. The exit status is the command's. Without a command, prints LOG as a table:
 
-    proofs   each crate's own, from which the libraries and the program are built
-    tests    the proofs once more with the crate's tests
+    proofs   the proofs of each crate, from which the libraries and the program are built
+    tests    the same proofs, repeated with the crate's tests
     seeds    the beginning of the crate's edits, and the final check of the unchanged crate
     edits    the edits that must fail
 
@@ -47,7 +47,7 @@ def words_of(number):
 
 
 def check_of(number):
-    """The crate and the kind of a check; None if the process isn't one."""
+    """The crate and the kind of a check; None if the process isn't a check."""
     words = words_of(number)
     if len(words) < 2 or not words[0].endswith("/rattle") or words[1] not in CHECKS or "--crate-name" not in words:
         return None

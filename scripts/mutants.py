@@ -13,8 +13,8 @@ An edit counts as refused if a function that it changes isn't proved because of 
 function calls another one that isn't proved doesn't count. An edit that changes more than bodies (a constant, a type, a definition) is
 named and left to `rt must-fail`, which tries it alone.
 
---plant FILE tries mistakes other than the crate's: FILE contains edits in the form of must-fail/, each after a line `name: NAME`. --list
-checks nothing, and prints which function each edit changes, and in which check it is tried.
+--plant FILE tries the mistakes in FILE instead of the crate's edits. FILE contains edits in the form of must-fail/, each after a
+line `name: NAME`. --list checks nothing, and prints which function each edit changes, and in which check it is tried.
 
 The status is 0 if each edit is refused, else 1.
 """
@@ -38,7 +38,7 @@ UNPROVED = re.compile(r"not proved$|.*did not prove|.*could not tell")
 
 
 class Wrong(Exception):
-    """An edit or a check that can't be used."""
+    """Raised if an edit or a check can't be used."""
 
 
 @dataclass
@@ -60,7 +60,7 @@ class Edit:
 
 
 def read_edits(text, name):
-    """The edits in a text. Each has its name there, but a single one may be named by its file."""
+    """The edits in a text. Each edit has its name in the text; a single edit without a name gets the given name."""
     edits, file, old = [], "", ""
     for line in text.split("\n"):
         key, _, rest = line.partition(":")
@@ -89,8 +89,8 @@ def name_of_impl(head):
 
 
 def function_at(crate, file, text, place):
-    """The end of the name that the prover prints for the function whose body contains a place in a source; None if no body does. A method
-    is named after its type, wherever its block is."""
+    """The end of the name that the prover prints for the function whose body contains this place of a source; None if
+    no body contains it. A method is named after its type, wherever its block is."""
     if not file.startswith("src/"):
         return None
     head = text[:place]
@@ -189,7 +189,7 @@ def verdict(edit, said, output):
 
 
 def try_batch(crate, batch, jobs):
-    """Tries a batch of edits in one check, and returns the names of those that weren't refused."""
+    """Tries a batch of edits in one check, and returns the names of the edits that weren't refused."""
     functions = set().union(*(edit.functions for edit in batch))
     with tempfile.TemporaryDirectory(prefix="mutants-") as room:
         said, output = check(copied(Path(room), crate, batch), functions, jobs)

@@ -13,7 +13,7 @@ HEADING = re.compile(r"^## \[?(Unreleased|\d[\w.+-]*)\]?.*\n", re.MULTILINE)
 
 
 class NotesError(Exception):
-    """Why there are no notes."""
+    """Raised if there are no notes; the message is the reason."""
 
 
 def sections(changelog: str) -> dict[str, str]:

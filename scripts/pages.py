@@ -52,7 +52,7 @@ from page_rules.tree import Finding, Tree
 
 Rule = Callable[[Tree], Iterator[Finding]]
 
-# what the rules of pages examine: without one of these, they would find nothing
+# files that the rules about pages examine; if one of them is missing, a rule finds nothing
 NEEDED = (
     "docs/proof/THEOREM.md",
     "docs/proof/TRUSTED.md",
@@ -90,7 +90,7 @@ RULES: dict[str, Rule] = {
 
 
 def main(given_words: list[str] | None = None) -> int:
-    """Runs the rules named by these words, or by the command line's."""
+    """Runs the rules that these arguments name, or those that the command line names."""
     given = argparse.ArgumentParser(description=__doc__, formatter_class=argparse.RawDescriptionHelpFormatter)
     given.add_argument("--diagram", action="store_true", help="print the diagram of the crates")
     given.add_argument("--write", action="store_true", help="put the imports into the table of CONTRIBUTING.md first")

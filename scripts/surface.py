@@ -83,7 +83,8 @@ def table(text: str) -> dict[str, list[str]]:
 
 
 def missing(wanted: dict[str, list[str]]) -> list[str]:
-    """The faults: each call in the table that its crate doesn't have in this form, with the calls of that name that it has."""
+    """The faults: each call in the table that its crate doesn't have in this form, with the crate's calls of the same
+    name."""
     faults = []
     for crate, calls in wanted.items():
         there = crate_calls(crate)

@@ -34,12 +34,12 @@ Say = Callable[[str], None]
 
 
 class UnprovedError(Exception):
-    """Why there is no unproved netrev."""
+    """Raised if no unproved netrev can be made; the message is the reason."""
 
 
 def unproved_netrev(say: Say) -> Path:
-    """An unproved netrev of the current sources: the one that an earlier call kept, or a new one. A lock protects it from removal until
-    this process ends, or the program that replaces this process."""
+    """An unproved netrev of the current sources: the one that an earlier call kept, or a new one. A lock protects it
+    from removal until this process, or the program that replaces this process, ends."""
     program = KEPT / f"netrev-{source_sum(kit_name())}"
     KEPT.mkdir(parents=True, exist_ok=True)
     with exclusive(KEPT / "lock", say):

@@ -63,7 +63,7 @@ def prints_it(folder: Path, program: Program) -> bool:
 
 
 def main() -> int:
-    """Tries the programs that are named, or all."""
+    """Tries the named programs, or all programs."""
     found = programs(PAGE.read_text(encoding="utf-8"))
     asked = [program for program in found if program.name in sys.argv[1:] or not sys.argv[1:]]
     if not asked or len(asked) < len(sys.argv[1:]):

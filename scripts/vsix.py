@@ -1,7 +1,8 @@
 """Packs the extension for VS Code without node:  scripts/vsix.py OUT.vsix,  or  scripts/vsix.py --check FILE.vsix
 
-editors/vscode is an extension without code. A .vsix is a zip file of the extension, with two XML files that describe it. The same folder
-gives the same bytes. --check reads a packed file and reports its faults; the status is 1 if it has any.
+editors/vscode is an extension without code. A .vsix is a zip file of the extension, with two XML files that describe
+it. Packing the same folder again yields the same bytes. --check reads a packed file and reports its faults; the status
+is 1 if it has any.
 """
 
 import argparse
@@ -25,7 +26,7 @@ WHEN = (2020, 1, 1, 0, 0, 0)
 
 
 def types() -> str:
-    """The file that gives each file ending its type."""
+    """The XML file that has a type for each file extension."""
     rows = "".join(f'<Default Extension="{ending}" ContentType="{sort}"/>' for ending, sort in SORTS.items())
     return f'<?xml version="1.0" encoding="utf-8"?>\n<Types xmlns="{OF_TYPES[1:-1]}">{rows}</Types>\n'
 
@@ -91,7 +92,8 @@ def faults(file: Path) -> list[str]:
 
 
 def faults_of_parts(data: dict[str, bytes]) -> Iterator[str]:
-    """The faults in the parts' names: each ending needs a type, and each part must be in the folder that is unpacked."""
+    """The faults in the parts' names: each file extension needs a type, and each part must be in the folder that is
+    unpacked."""
     known = {one.get("Extension") for one in ElementTree.fromstring(data[TYPES]).iter(f"{OF_TYPES}Default")}
     for name in data:
         if name != TYPES and Path(name).suffix not in known:

@@ -1,6 +1,5 @@
-// Runs scenes on one processor, so that the log is the same in each run (go_recorded.py). The scenes have connections
-// of each kind, deadlines, queues for a lock, channels, timers, WaitGroups, locks and dials, and at the end notes of
-// open descriptors.
+// Scenes on one processor, which log the same in each run (go_recorded.py): connections of each kind, deadlines, queues
+// for a lock, channels, timers, WaitGroups, locks and dials, and at the end notes of open descriptors.
 package main
 
 import (
@@ -231,8 +230,7 @@ func held(mutex, unlocked *sync.Mutex, shared, written *sync.RWMutex) {
 	runtime.Gosched()
 }
 
-// open makes a connection in each state that notes can have, and sets the last connection's deadlines repeatedly until
-// the log has notes.
+// open makes a connection in each state of notes, and sets the last one's deadlines repeatedly until notes exist.
 func open() {
 	a, b := pair("tcp4", "127.0.0.1:0")
 	for i := 0; i < 2; i++ {

@@ -1,5 +1,5 @@
-"""The mutants of a Python module: each changes one place of its text. The kinds are everyday mistakes: a wrong comparison, a dropped case,
-swapped sides, off by one, a forgotten step."""
+"""The mutants of a Python module: each changes one place of its text. The kinds are everyday mistakes: a wrong
+comparison, a dropped case, swapped sides, an off-by-one error, a forgotten step."""
 
 from __future__ import annotations
 
@@ -44,7 +44,7 @@ CALLS_FORGOTTEN = {
 
 @dataclass(frozen=True)
 class Mutant:
-    """A change of a file: the text from one place to another becomes a new one."""
+    """A change of a file, which replaces the text between two places."""
 
     file: str  # relative to the repository's folder
     line: int
@@ -86,7 +86,7 @@ class Finder(ast.NodeVisitor):
         self.found: list[Mutant] = []
 
     def place(self, line: int, column: int) -> int:
-        """The offset in the text for a line and a column, which counts bytes."""
+        """The offset in the text for a line and a column; columns count bytes."""
         return self.starts[line - 1] + len(self.lines[line - 1].encode()[:column].decode())
 
     def span(self, node: ast.AST) -> tuple[int, int]:
@@ -242,7 +242,7 @@ class Finder(ast.NodeVisitor):
         self.generic_visit(node)
 
     def is_kept_order(self, node: ast.Call) -> bool:
-        """Whether swapping the arguments isn't worth trying: their order doesn't matter, or types check it."""
+        """Whether to leave out swapped arguments, because their order doesn't matter or is checked by types."""
         return isinstance(node.func, ast.Name) and node.func.id in (
             "isinstance", "issubclass", "min", "max", "map", "filter", "field", "getattr", "hasattr", "TypeVar",
         )  # fmt: skip

@@ -46,7 +46,7 @@ def arguments(words: list[str]) -> argparse.Namespace:
 
 
 def table(verdicts: list[Verdict]) -> str:
-    """The survivors, and how many of each kind were found."""
+    """The mutants that survived, and how many mutants of each kind were found."""
     lines = ["| Mutant | Kind | Change | Verdict |", "|---|---|---|---|"]
     for one in sorted(verdicts, key=lambda one: (one.mutant.file, one.mutant.line)):
         if one.answer not in (FOUND, UNBUILT):

@@ -1,9 +1,9 @@
 """A pytest plugin that tries one mutant after another, each in a process of its own that starts with all tests loaded.
 
-It reads requests, a line of JSON each, from the first of the two descriptors in NETREV_MUTANTS: the file, its text before and after the
-change, and the tests, each with its time limit in seconds. To the second descriptor it writes the result: the test that failed, nothing, or
-"too long" and the test. Meanwhile the mutant's file is on disk, for processes that tests start; in this process, the loaded function gets
-the code of the changed one.
+It reads requests, a line of JSON each, from the first of the two descriptors in NETREV_MUTANTS: the file, its text
+before and after the change, and the tests, each with its time limit in seconds. It writes the result to the second
+descriptor: the test that failed, nothing, or "too long" and the test. Meanwhile the mutant's file is on disk, for
+processes that tests start; in this process, the loaded function gets the changed code.
 """
 
 from __future__ import annotations
@@ -26,7 +26,7 @@ from .changes import NOT_PUT_IN, TOO_LONG
 
 
 def codes_in(code: CodeType) -> Iterator[CodeType]:
-    """The code objects in a code object, itself first, in the order of the source."""
+    """A code object and all code objects inside it, in the order of the source."""
     yield code
     for constant in code.co_consts:
         if isinstance(constant, CodeType):
@@ -38,7 +38,7 @@ def key(code: CodeType) -> tuple[str, int, str]:
 
 
 def changed_codes(file: str, before: str, behind: str) -> dict[tuple[str, int, str], CodeType]:
-    """The code objects that a mutant changes, by the places of the old ones. A change may not add lines."""
+    """The changed code objects of a mutant, by the places of the original code objects. A change may not add lines."""
     old, new = (list(codes_in(compile(text, file, "exec", dont_inherit=True))) for text in (before, behind))
     named: dict[tuple[str, int, str], CodeType] = {key(code): code for code in new}
     return {key(code): named[key(code)] for code in old if key(code) in named and named[key(code)] != code}
@@ -70,7 +70,8 @@ def run_until_one_fails(items: list[pytest.Item], begun: int) -> str:
 
 
 def tried(request: dict[str, Any], items: list[tuple[pytest.Item, float]]) -> str:
-    """The first of these tests, each with the seconds that it may take, that fails in a process of its own."""
+    """The first of these tests that fails in a separate process. Each test is given with the seconds that it may
+    take."""
     reading, writing = os.pipe()
     process = os.fork()
     if process == 0:

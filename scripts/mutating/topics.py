@@ -1,7 +1,7 @@
-"""The tests to try against a mutant: those that call the function that it changes, the fastest first.
+"""The tests to try against a mutant: the tests that call the changed function, the fastest first.
 
-One run of the tests records what each of them calls (`called.py`); a test file that has changed since is run again. `topics.txt` names the
-tests of the recorder's Go, whose calls can't be recorded."""
+One run of the tests records what each of them calls (`called.py`); a test file that has changed since then is run
+again. `topics.txt` names the tests of the recorder's Go, whose calls can't be recorded."""
 
 from __future__ import annotations
 
@@ -34,7 +34,7 @@ class Test:
 
     @property
     def group(self) -> str:
-        """Its class, or, if it is a function, its file: tests of a class share what is slow to set up."""
+        """The test's class, or the test's file if it has no class. Tests of a class share what is slow to set up."""
         return self.name.partition("[")[0].rpartition("::")[0]
 
 
@@ -132,6 +132,7 @@ def _file_of(row: dict[str, str]) -> str:
 
 
 def read_overrides(text: str) -> list[tuple[str, list[str]]]:
-    """Lines `PATTERN: TEST ..`; the first line whose pattern matches a file's name counts."""
+    """The lines `PATTERN: TEST ..` of a text. For a file, the first line counts whose pattern matches the file's
+    name."""
     lines = [line for line in text.splitlines() if line.strip() and not line.startswith("#")]
     return [(pattern.strip(), tests.split()) for pattern, _, tests in (line.partition(":") for line in lines)]

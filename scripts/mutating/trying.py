@@ -69,7 +69,7 @@ def all_mutants(root: Path, parts: Iterable[str] = PACKAGES) -> Iterator[Mutant]
 
 
 def drawn(mutants: Iterable[Mutant], count: int, seed: int) -> list[Mutant]:
-    """This many mutants, the same number of each kind; fewer if there aren't so many."""
+    """This many mutants, with the same number of each kind; fewer if not enough exist."""
     dice = random.Random(seed)
     piles: dict[str, list[Mutant]] = {kind: [] for kind in KINDS}
     for mutant in mutants:
@@ -114,7 +114,7 @@ class Server:
             raise RuntimeError(f"pytest didn't load the tests: {self.output.read().decode()[-2_000:]}")
 
     def first_failed(self, file: Path, before: str, behind: str, tests: list[Test]) -> str:
-        """The first of the tests that fails with a mutant; empty if none does."""
+        """The first of the tests that fails with a mutant; empty if no test fails."""
         patient = [(test.name, LONGEST + TIMES * test.seconds) for test in tests]
         request = {"file": str(file), "before": before, "behind": behind, "tests": patient}
         os.write(self._requests, f"{json.dumps(request)}\n".encode())
@@ -135,14 +135,14 @@ class Worker:
         self._server: Server | None = None
 
     def put(self, file: str, text: str) -> None:
-        """Writes a file with a modification time that differs from those in its compiled modules."""
+        """Writes a file, with a modification time that none of its compiled modules has."""
         path = self.room / file
         path.write_text(text, encoding="utf-8")
         self.time += 2
         os.utime(path, (self.time, self.time))
 
     def run_anew(self, tests: list[str], patience: float) -> str:
-        """The first of the tests, or test files, that fails in a new pytest; empty if none does."""
+        """The first of the tests, or test files, that fails in a new pytest; empty if no test fails."""
         process = subprocess.Popen(
             [*pytest_by(self.python), "-x", *tests], cwd=self.room, env={**os.environ, "PYTHONHASHSEED": "0"},
             stdin=subprocess.DEVNULL, stdout=subprocess.PIPE, stderr=subprocess.STDOUT, start_new_session=True,

@@ -1,7 +1,9 @@
-"""The definitions that a law rests on, in the crates' specs/: those that it names, those that these name, and so on.
+"""Finds the definitions in the crates' specs/ that a law rests on: the definitions that it names, the definitions that
+these name, and so on.
 
-It reads words, not types: a word that a definition contains and imports, or that its file defines, counts as named. So it may count too
-many definitions, but misses none that is named. Definitions of the toolchain's libraries aren't followed.
+It reads words, not types: a word that a definition contains and imports, or that its file defines, counts as named. So
+it may count too many definitions, but it doesn't miss a named definition. Definitions of the toolchain's libraries
+aren't followed.
 """
 
 import re
@@ -87,7 +89,8 @@ def _name_of(line: str, in_module: bool) -> str:
 
 
 def _pieces(block: list[str], in_module: bool) -> Iterator[tuple[str, list[str]]]:
-    """A block's definitions, each with its lines. A block that continues an earlier one has that block's first word."""
+    """A block's definitions, each with its lines. A block that continues an earlier block begins with that block's
+    first word."""
     name, kept = "", []  # type: str, list[str]
     for line in block:
         found = "" if name and CONSTRUCTOR.match(line) else _name_of(line, in_module)
@@ -129,7 +132,7 @@ class Beliefs:
         self._modules: dict[str, Module] = {}
 
     def module(self, place: Place) -> Module:
-        """The file of a definition; an empty one if there is none."""
+        """The file of a definition; an empty file if the tree has no such file."""
         if place.path not in self._modules:
             text = self.tree.text(place.path) if self.tree.has(place.path) else ""
             self._modules[place.path] = module_of(text)
@@ -166,7 +169,8 @@ class Beliefs:
         return {one for word in words for one in self._named_by(place, word)} - {place}
 
     def below(self, seeds: set[Place], closed: set[Place]) -> set[Place]:
-        """All that these definitions rest on, including themselves. Closed ones count, but not what they name."""
+        """All that these definitions rest on, including themselves. A closed definition counts, but the definitions
+        that it names don't."""
         seen: set[Place] = set()
         left = set(seeds)
         while left:

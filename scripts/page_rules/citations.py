@@ -12,7 +12,7 @@ from page_rules.sources import Crate, crates_of
 from page_rules.tree import Finding, Tree
 
 PROMISES = "docs/proof/PROMISES.md"
-# where the labels in a cell end: they are all code font before one of these words
+# words that end the labels in a cell: all code font before the first such word is a label
 UP_TO = re.compile(r"\b(?:against|over|with|by|of|within|in|which|for|whatever)\b|\(")
 NAME = re.compile(r"(?:\w+::)*[\w-]+")
 QUALIFIED = re.compile(r"(?:\w+::)*?(?:(?P<owner>\w+)::)?(?P<name>[\w-]+)")
@@ -63,7 +63,7 @@ class Cited:
 
 
 def _wrong_in(part: str, cited: Cited, before: list[str]) -> Iterator[str]:
-    """The citations in a part of a cell that don't exist. Its subjects are added to the list of earlier ones."""
+    """The citations in a part of a cell that don't exist. Adds the part's subjects to the list of earlier subjects."""
     left, colon, right = (OUTSIDE_CODE.split(part, maxsplit=1) + ["", ""])[:3]
     subjects = CODE.findall(left) if colon else CODE.findall(part)
     before.extend(subjects)
@@ -117,7 +117,7 @@ def names(tree: Tree) -> Iterator[Finding]:
                 yield Finding(page, block.line, f"nothing here has the name {code}")
 
 
-# names, and after "in" or "of" their file
+# names, then "in" or "of", and then their file
 IN_FILE = re.compile(r"((?:`[^`]+`(?:, | and )?)+) (?:in|of) `([\w./*-]+\.(?:rt|antt|py|sh|rs|go))`")
 
 

@@ -7,7 +7,7 @@ from page_rules.tree import Finding, Tree
 
 MOST_COLUMNS = 100
 
-# the first line of a comment: of a doc comment, of a definition's comment, or of a docstring
+# the first line of a doc comment, of a definition's comment, or of a docstring
 FIRST = re.compile(r"^(?P<indent>\s*)(?P<mark>///|--|\"\"\") ?(?P<text>\S.*)$")
 # first words of a comment that mean something only together with another text
 LEANS = re.compile(

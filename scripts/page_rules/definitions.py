@@ -1,7 +1,8 @@
 """The definitions of the crates: which modules of specs/ a caller needs, and which names two crates share.
 
-`specs/Lib.antt` of a crate names its modules under two headings: those that callers need, and internal ones. A caller needs a module if
-another crate imports it, or if a contract of the crate's public functions and types cites it.
+`specs/Lib.antt` of a crate names its modules under two headings: one for the modules that callers need, and one for
+internal modules. A caller needs a module if another crate imports it, or if a contract of the crate's public functions
+and types cites it.
 """
 
 import re
@@ -87,7 +88,7 @@ def groups(tree: Tree) -> Iterator[Finding]:
 
 
 def defined(tree: Tree) -> dict[str, dict[str, tuple[str, int]]]:
-    """The definition of each name: by crate the file and the line."""
+    """For each name: the file and the line of its definition, by crate."""
     found: dict[str, dict[str, tuple[str, int]]] = defaultdict(dict)
     for path in tree.matching("crates/*/specs/*.antt"):
         for number, line in enumerate(without_comments(tree.text(path)).split("\n"), 1):

@@ -1,7 +1,8 @@
-"""Checks CONTRIBUTING.md's table of Python packages: each package imports only those that its row names, which are above it.
+"""Checks CONTRIBUTING.md's table of Python packages: each package imports only packages that its row names, and these
+are in rows above it.
 
-A row is a folder below python/, or some files of one, and a module belongs to the row with the longest matching path. So no two packages
-import each other.
+A row is a folder below python/, or some files of such a folder. A module belongs to the row with the longest matching
+path. So no two packages import each other.
 """
 
 import ast

@@ -1,7 +1,7 @@
 """Finds values whose memory is never freed, and places that report refused memory.
 
-No contract says that undoing frees memory, so each place that forgets a value is checked. And no contract says when an allocation is
-refused, so only code that has the library's error may report a refusal.
+No contract says that undoing frees memory, so each place that forgets a value is checked. No contract says when an
+allocation is refused, so only code that has the library's error may report a refusal.
 """
 
 import re
@@ -29,7 +29,7 @@ def forgotten(tree: Tree) -> Iterator[Finding]:
 TYPE = re.compile(
     r", AllocError>|\bFrom<AllocError>|\bfn from\(\w+: AllocError\)|^use std::alloc::(?:AllocError|\{[\w, ]*\});$"
 )
-# if its name occurs anywhere else, a refusal is made there, or renamed
+# the name of the refusal; anywhere else, it means that a refusal is created or renamed there
 MADE = re.compile(r"\bAllocError\b")
 # a library's own name for a refused allocation, without the type that carries the refusal
 SAID = re.compile(r"\b(?:\w+::OutOfMemory|Category::Memory)\b.*=>")
@@ -42,7 +42,8 @@ PRINTS = "crates/nr_recording/src/fault.rt"
 
 
 def refused(tree: Tree) -> Iterator[Finding]:
-    """Places in the program that report refused memory without the library's refusal: they make one, or print the line themselves."""
+    """Places in the program that report refused memory without the library's refusal: they create a refusal, or print
+    the line themselves."""
     for crate in verdict.below(tree, verdict.PROGRAM):
         for path in tree.matching(f"crates/{crate}/src/*.rt"):
             for number, line in enumerate(without_comments(tree.text(path)).split("\n"), 1):

@@ -63,7 +63,7 @@ def bytes_of(text: str) -> bytes | None:
 
 
 def texts(tree: Tree) -> Iterator[Finding]:
-    """Definitions whose bytes differ from their files'."""
+    """Definitions whose bytes differ from the bytes of their files."""
     source = tree.text(EXAMPLES) if tree.has(EXAMPLES) else ""
     found = list(BYTES.finditer(source))
     if source and not found:

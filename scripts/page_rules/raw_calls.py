@@ -16,7 +16,8 @@ from page_rules.tree import Finding, Tree
 PAGE = "docs/proof/TRUSTED.md"
 LOOPBACK = "crates/netrev/src/loopback.rt"
 
-# a call, and the functions that make it, each this often: on a raw stream, on its wrapper, or on a log
+# for each call on a raw stream, on its wrapper, or on a log: the functions that make it, and how many times each makes
+# it
 CALLS: dict[str, dict[str, int]] = {
     ".read(": {"LoggedReader::read": 1, "Source::read": 1, "answer_by": 1, "read_away": 1},
     ".write(": {"LoggedWriter::write": 1, "write_some": 1},
@@ -80,7 +81,7 @@ ROW = re.compile(r"^\| `([\w:./]+)`", re.MULTILINE)
 
 
 def _count(call: str, line: str) -> int:
-    """How often a call occurs in a line: of a method, or of a function with this name."""
+    """How often a line calls a method or a function with this name."""
     before = "" if call.startswith(".") else r"(?<!\w)"
     return 0 if re.search(rf"\bfn {re.escape(call)}", line) else len(re.findall(before + re.escape(call), line))
 

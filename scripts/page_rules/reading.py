@@ -1,8 +1,9 @@
 """Checks the reading list of docs/proof/THEOREM.md: the definitions that its laws rest on, by crate and file, and their lines.
 
-A file comes after the files that it rests on, and a crate after the crates that it imports. The counted lines are the definitions', without
-imports; a law's are counted without comments, a file's with comments. If a law has a definition only in a premise, which another contract
-proves, that definition counts, but not the definitions that it uses: the law only says what follows from the premise.
+A file comes after the files that it rests on, and a crate after the crates that it imports. Only the lines of
+definitions are counted, and not imports. Comments count for a file, but not for a law. If a law has a definition only
+in a premise, which another contract proves, that definition counts, but not the definitions that it uses: the law only
+says what follows from the premise.
 
 The definitions that the laws rest on are in files of their own, and each crate lists these files under one heading.
 """
@@ -28,7 +29,8 @@ IN_WORDS = re.compile(r"([\d,]+) definitions in ([\d,]+) lines")
 
 @dataclass(frozen=True)
 class Law:
-    """A law, by the definitions that its contract cites: CRATE/FILE:NAME. If a law needs more lines, its number here has to be changed."""
+    """A law, by the definitions that its contract cites: CRATE/FILE:NAME. If the law needs more than `most_lines`
+    lines, that number has to be changed."""
 
     says: str
     cites: tuple[str, ...]

@@ -1,9 +1,9 @@
 """Checks that docs/proof/TRUSTED.md says what the verdict on the program takes as given, and that no function that the program calls may
 wait.
 
-The last line of a crate's check is its verdict. The gate stores it (scripts/verdicts.py), with a checksum of the crate's files. If `rt ci`
-reuses an earlier proof, it prints no verdict; then the stored one counts, as long as the files are unchanged. If there is none, a note says
-so, and only the page, README.md and crates.txt are compared.
+The last line of a crate's check is its verdict. The gate stores it (scripts/verdicts.py), with a checksum of the
+crate's files. If `rt ci` reuses an earlier proof, it prints no verdict; then the stored verdict counts, as long as the
+files are unchanged. If no verdict is stored, a note says so, and only the page, README.md and crates.txt are compared.
 """
 
 import hashlib
@@ -24,7 +24,8 @@ NOT_OF_TRUST = {"functions"}
 SECTION = re.compile(r"^== (\w+)$")
 # on the page, a line break may occur here
 LINE = re.compile(r"^    (logic=proved .*(?:\n    \S.*)*)", re.MULTILINE)
-# words of lines that aren't a verdict on a crate: about its tests, or from a check that continued an earlier one
+# words of lines that aren't a verdict on a crate: lines about its tests, or from a check that continued an earlier
+# check
 NO_VERDICT = re.compile(r" (?:tests|incremental)=")
 KIT = re.compile(r"rattle-kit-\w+ logic (\w+)")
 MAY_WAIT = re.compile(r"^(\w+)\b[^:\n]*\bmay_wait=(\d+)", re.MULTILINE)

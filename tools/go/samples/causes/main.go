@@ -1,5 +1,5 @@
-// Programs with an ordinary bug each, at the line marked BUG, which netrev-go's first output must name. With `good`,
-// each does the same without reaching its bug.
+// Each program has an ordinary bug at the line marked BUG, which netrev-go's first output must name. With the argument
+// `good`, it runs without reaching its bug.
 //
 //	causes NAME bad|good
 package main
@@ -56,7 +56,7 @@ func ask(end net.Conn, text string) error {
 	return err
 }
 
-// idleClose: a goroutine closes a connection that seems idle, but another has begun to use it.
+// idleClose: a goroutine closes a connection that seems idle, but another goroutine has begun to use it.
 func idleClose(bad bool) error {
 	near, far := pair()
 	pause := time.Duration(0)
@@ -71,7 +71,7 @@ func idleClose(bad bool) error {
 	return ask(near, "one")
 }
 
-// half: when one direction ends, a proxy closes both.
+// half: when one direction ends, a proxy closes both directions.
 func half(bad bool) error {
 	client, front := pair()
 	back, server := pair()
@@ -102,7 +102,7 @@ func half(bad bool) error {
 	return nil
 }
 
-// stale: the cancellation of one question comes so late that it hits the next one.
+// stale: the cancellation of one question comes so late that it hits the next question.
 func stale(bad bool) error {
 	near, far := pair()
 	go echo(far, 3*short)

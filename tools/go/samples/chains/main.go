@@ -1,5 +1,5 @@
-// Programs in which a call fails, or waits forever, because of something that another goroutine did before: it left a connection open, a mutex locked,
-// or a buffer unflushed. The line marked BUG causes that, and the first cause names it. With `good` each program does the same without its bug.
+// Programs in which a call fails, or waits forever, because another goroutine left a connection open, a mutex locked, or a buffer unflushed. The line
+// marked BUG causes that, and the first cause names it. With the argument `good`, each program runs without its bug.
 //
 //	chains NAME bad|good
 package main
@@ -440,7 +440,7 @@ func firstOf(addresses []string, room int) string {
 	return <-answers
 }
 
-// fanned: a function that takes only one of three answers returns, and the channel has no room for the others.
+// fanned: a function returns after it has taken one of three answers, and the channel has no room for the other two.
 func fanned(isBad bool) {
 	addresses, room := []string{}, 3
 	for count := range 3 {
@@ -514,7 +514,7 @@ func connect(ctx context.Context, end net.Conn) error {
 	return secure.HandshakeContext(ctx)
 }
 
-// handshake: a server shakes hands in its accept loop, where a silent client holds up all others.
+// handshake: a server shakes hands in its accept loop, so a silent client holds up all other clients.
 func handshake(isBad bool) {
 	listener := listen()
 	go accept(listener, &tls.Config{Certificates: []tls.Certificate{certificate()}}, isBad)

@@ -59,7 +59,7 @@ func through(room int) func() {
 	}
 }
 
-// throughSelect does the same, but the other goroutine waits in a select of three or five.
+// throughSelect does the same as through, but the other goroutine waits in a select of three or five cases.
 func throughSelect(isOfFive bool) func() {
 	there, back := make(chan int), make(chan int)
 	var never [4]chan int

@@ -1,8 +1,8 @@
-// A server of many connections at once, with two goroutines each: one reads, and one waits for texts to write:
+// A server of many connections at once. At each connection, one goroutine reads, and another one waits for texts to write:
 //
 //	crowd CONNECTIONS SECONDS
 //
-// Each connection makes one round trip, and then all wait. It prints the number of goroutines.
+// Each connection makes one round trip, and then all connections wait. The program prints the number of goroutines.
 package main
 
 import (

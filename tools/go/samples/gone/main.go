@@ -1,6 +1,6 @@
-// Programs in which a goroutine waits for something that was lost: an answer that was read and dropped, a goroutine
-// that ended, a missing call of Done, a ticker that was stopped. The line marked BUG causes that, and is named first.
-// With `good`, each does the same without its bug.
+// Programs in which a goroutine waits for something that was lost: an answer that was read and dropped, a goroutine that
+// ended, a missing call of Done, a ticker that was stopped. The line marked BUG causes that, and netrev-go names it first.
+// With the argument `good`, each program runs without its bug.
 //
 //	gone NAME bad|good
 package main
@@ -264,7 +264,7 @@ func reply(in, out *net.UDPConn) {
 	}
 }
 
-// elsewhere: an answer comes from another address than the one that was asked.
+// elsewhere: an answer comes from an address other than the one that was asked.
 func elsewhere(bad bool) error {
 	in, other := packets(), packets()
 	out := map[bool]*net.UDPConn{true: other, false: in}
@@ -318,7 +318,7 @@ func (s slots) within(work func()) {
 	work()
 }
 
-// nested: a goroutine that holds a slot waits for others that need one.
+// nested: a goroutine that holds a slot waits for goroutines that need a slot.
 func nested(bad bool) error {
 	listener, free := listen(), make(slots, map[bool]int{true: 2, false: 9}[bad])
 	go serve(listener, echo)

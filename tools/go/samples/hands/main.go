@@ -1,5 +1,5 @@
-// Programs in which the goroutines that should have handed something on have ended, or never get there. The line marked
-// BUG causes that, and the first cause names it. With `good`, each does the same without its bug.
+// Programs in which the goroutines that should hand something on have ended, or never do so. The line marked BUG causes that, and
+// the first cause names it. With the argument `good`, each program runs without its bug.
 //
 //	hands NAME bad|good
 package main
@@ -268,7 +268,7 @@ func events(quit chan bool) http.HandlerFunc {
 	}
 }
 
-// hidden: a writer that wraps another one has no Flush.
+// hidden: a writer that wraps another writer has no Flush.
 func hidden(isBad bool) {
 	quit := make(chan bool)
 	handler := events(quit)
@@ -299,7 +299,7 @@ func ask(end net.Conn, name string) error {
 	}
 }
 
-// mingled: two goroutines wait for answers at one socket, and each drops the other's.
+// mingled: two goroutines wait for answers at one socket, and each drops the other's answers.
 func mingled(isBad bool) {
 	server, err := net.ListenPacket("udp", "127.0.0.1:0")
 	must(err)
@@ -365,7 +365,7 @@ func (d *tower) fetch(end net.Conn, name string, isBad bool) (string, error) {
 	return text, err
 }
 
-// stranded: a goroutine that waits for another's answer isn't told that it failed.
+// stranded: a goroutine waits for another goroutine's answer, and isn't told that the other has failed.
 func stranded(isBad bool) {
 	listener, d := listen(), &tower{flights: map[string]*flight{}}
 	go serve(listener, func(end net.Conn) {

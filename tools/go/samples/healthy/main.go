@@ -1,4 +1,4 @@
-// Healthy programs: bytes move in each way that Go has, and the goroutines that still wait at the end may do so. There should be no suspects in them.
+// Healthy programs: bytes move in each way that Go has, and the goroutines that still wait at the end may do so. They should have no suspects.
 //
 //	healthy NAME
 package main
@@ -180,7 +180,7 @@ func idle() {
 	time.Sleep(moment)
 }
 
-// A pool of connections between two requests, and goroutines that would notice the end of one.
+// A pool of connections between two requests, and goroutines that would notice the end of a connection.
 func pool() {
 	server := listen("tcp")
 	go serve(server, echo)

@@ -1,5 +1,5 @@
-// Programs in which a call fails because a goroutine hangs, or a goroutine hangs because a call failed, and whose reason is one
-// step further. The line marked BUG causes that, and the first cause names it. With `good`, each does the same without its bug.
+// Programs in which a call fails because a goroutine hangs, or a goroutine hangs because a call failed; the reason is one step further
+// back. The line marked BUG causes that, and the first cause names it. With the argument `good`, each program runs without its bug.
 //
 //	joins NAME bad|good
 package main
@@ -49,7 +49,7 @@ func serve(listener net.Listener, session func(net.Conn)) {
 	}
 }
 
-// gaveup: the only goroutine that takes from a queue returns after a timeout, and those that fill the queue wait.
+// gaveup: the only goroutine that takes from a queue returns after a timeout, and the goroutines that fill the queue wait.
 type outbox struct {
 	lines chan string
 	end   net.Conn
@@ -100,7 +100,7 @@ func gaveup(isBad bool) {
 	writers.Wait()
 }
 
-// guarded: a client's Read times out, because the server's goroutine waits for a mutex that another left locked.
+// guarded: a client's Read times out, because the server's goroutine waits for a mutex that another goroutine left locked.
 type ledger struct {
 	mutex  sync.Mutex
 	counts map[string]int

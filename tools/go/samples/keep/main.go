@@ -1,6 +1,6 @@
 // A server with clients over keep-alive connections that send requests repeatedly:  keep CONNECTIONS SECONDS BUG PAUSE
 //
-// A client pauses PAUSE milliseconds between requests. One connection is as old as the server: a line every 20 ms, and its answer. After SECONDS there is a bug, or none:
+// A client pauses PAUSE milliseconds between requests. One connection is as old as the server: a line passes every 20 ms, and its answer. After SECONDS, a bug occurs, or none:
 //
 //	none      the program ends
 //	deadline  the old connection's server has set both deadlines once, and then moves only the read deadline: a write fails
@@ -92,7 +92,7 @@ func echo(connection net.Conn) {
 	}
 }
 
-// A byDescriptor reads with system calls. It tries first, and waits if nothing is there; after some seconds, it waits first.
+// A byDescriptor reads with system calls. It tries to read first, and waits if no bytes have arrived; after some seconds, it waits first.
 type byDescriptor struct{ syscall.RawConn }
 
 func (b byDescriptor) Read(into []byte) (n int, failed error) {

@@ -1,7 +1,7 @@
 // Many connections to an echo server, with two goroutines and short deadlines at each end:  load CONNECTIONS ROUNDS PAUSE
 //
-// It stops after ROUNDS round trips in total. With a pause, each connection is closed after eight round trips and opened
-// again after the pause, like those of a server that runs for hours.
+// It stops after ROUNDS round trips in total. With a pause, each connection is closed after eight round trips and
+// opened again after the pause, like the connections of a server that runs for hours.
 package main
 
 import (
@@ -51,7 +51,7 @@ func serve(listener net.Listener) {
 	}
 }
 
-// talk runs two goroutines at one connection, until that many round trips were made there.
+// talk runs two goroutines at one connection, until they have made this many round trips.
 func talk(address string, made *int64, most int64) {
 	connection, err := net.Dial("tcp", address)
 	must(err)

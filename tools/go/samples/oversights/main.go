@@ -1,5 +1,5 @@
-// More programs with an ordinary bug each, at the line marked BUG, like those of samples/causes: netrev-go's first output
-// should name it. They were written before its output about them was known. With `good`, each does the same without its bug.
+// More programs like those of samples/causes, each with an ordinary bug at the line marked BUG, which netrev-go's first output should name.
+// They were written before netrev-go's output about them was known. With the argument `good`, each program runs without its bug.
 //
 //	oversights NAME bad|good
 package main
@@ -55,7 +55,7 @@ func ask(end net.Conn, text string) error {
 	return err
 }
 
-// within returns work's error, or another one if work takes too long.
+// within returns work's error, or another error if work takes too long.
 func within(work func() error) error {
 	done := make(chan error, 1)
 	go func() { done <- work() }()

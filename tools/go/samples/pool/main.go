@@ -1,7 +1,7 @@
 // A pool of connections to PostgreSQL, with Debian's golang-github-lib-pq-dev:  pool CONNECTIONS SECONDS BUG PAUSE
 //
 // PGHOST, PGPORT, PGUSER and PGDATABASE name the database, as for psql. All connections are opened first. The same number of goroutines each read an account,
-// book on it, and pause PAUSE milliseconds; one audits an account that no other goroutine uses. After SECONDS seconds the program has a bug, or none:
+// book on it, and pause PAUSE milliseconds; one more audits an account that no other goroutine uses. After SECONDS seconds the program has a bug, or none:
 //
 //	none   the program ends
 //	mutex  an update that holds the mutex waits for the lock of a row, and the transaction that has it waits for the mutex

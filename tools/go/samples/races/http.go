@@ -48,7 +48,7 @@ func httpHijack() bool {
 	return ended(done)
 }
 
-// httpWatchdog ends an upload that takes too long with a deadline in the past, and removes it for the answer.
+// httpWatchdog uses a deadline in the past to end an upload that takes too long, and removes it for the answer.
 func httpWatchdog() bool {
 	connections := make(chan net.Conn, 1)
 	done := make(chan bool, 1)
@@ -70,7 +70,7 @@ func httpWatchdog() bool {
 	return ended(done)
 }
 
-// httpIdle ends a server's connection that should be idle with a deadline. The server removes the deadline before it reads a request.
+// httpIdle uses a deadline to end a server's connection that should be idle. The server removes the deadline before it reads a request.
 func httpIdle() bool {
 	connections := make(chan net.Conn, 1)
 	server, address := served(http.HandlerFunc(func(http.ResponseWriter, *http.Request) {}), connections)

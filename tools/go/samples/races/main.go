@@ -1,4 +1,4 @@
-// Programs with a race each, which go well nearly always:  netrev-go run . NAME, or how many of 1,000 runs go wrong: go run . NAME 1000
+// Programs with a race, which nearly always succeed: netrev-go run . NAME. To count the failures in 1,000 runs: go run . NAME 1000
 package main
 
 import (
@@ -18,7 +18,7 @@ const (
 
 var past = time.Unix(1, 0)
 
-// Each returns whether it went well.
+// Each function returns whether its run succeeded.
 var races = map[string]func() bool{
 	"taken-back": takenBack, "lost-wake-up": lostWakeUp, "left-behind": leftBehind, "behind-shut": behindShut,
 	"early-cancel": earlyCancel, "http-hijack": httpHijack, "http-watchdog": httpWatchdog, "http-idle": httpIdle,

@@ -19,7 +19,7 @@ func takenBack() bool {
 	return ended(done)
 }
 
-// lostWakeUp waits for bytes without trying to read them first. If all goes well, they arrive later.
+// lostWakeUp waits for bytes without trying to read them first. If all goes well, the bytes arrive later.
 func lostWakeUp() bool {
 	end, other := pair()
 	defer end.Close()

@@ -15,7 +15,7 @@ func (Echo) Say(asked string, answer *string) error {
 	return nil
 }
 
-// rpcKeepalive ends the wait for a call with a deadline, while another goroutine removes deadlines now and then.
+// rpcKeepalive uses a deadline to end the wait for a call, while another goroutine removes deadlines now and then.
 func rpcKeepalive() bool {
 	end, other := pair()
 	defer end.Close()

@@ -12,7 +12,7 @@ import (
 
 var server, client = configurations()
 
-// configurations returns those of a server with its own certificate, and of a client that trusts it.
+// configurations returns the configuration of a server with its own certificate, and that of a client that trusts it.
 func configurations() (*tls.Config, *tls.Config) {
 	key, err := ecdsa.GenerateKey(elliptic.P256(), rand.Reader)
 	must(err)
@@ -42,7 +42,7 @@ func tlsShut() bool {
 	return ended(done)
 }
 
-// tlsHandshake ends a handshake with a silent client with a deadline, which it removes to send a last message.
+// tlsHandshake uses a deadline to end a handshake with a silent client, and removes it to send a last message.
 func tlsHandshake() bool {
 	end, other := pair()
 	defer end.Close()

@@ -1,5 +1,5 @@
-// Programs in which many goroutines wait for one thing: the line marked BUG causes that, and is named first, before the
-// lines of the waiting goroutines. With `good`, each does the same without its bug.
+// Programs in which many goroutines wait for one thing. The line marked BUG causes that; netrev-go names it before the lines of
+// the waiting goroutines. With the argument `good`, each program runs without its bug.
 //
 //	roots NAME bad|good
 package main
@@ -32,7 +32,7 @@ func listen() net.Listener {
 	return listener
 }
 
-// within returns work's error, or another one if work takes too long.
+// within returns work's error, or another error if work takes too long.
 func within(work func() error) error {
 	done := make(chan error, 1)
 	go func() { done <- work() }()
@@ -44,7 +44,7 @@ func within(work func() error) error {
 	}
 }
 
-// room has clients, each of which is sent everything that one of them says.
+// room sends each of its clients everything that any client says.
 type room struct {
 	lock    sync.Mutex
 	clients []net.Conn
@@ -151,7 +151,7 @@ func pass(to, from net.Conn, bad bool) {
 	}
 }
 
-// relay: it copies both ways, and doesn't pass on the end of one side.
+// relay: a relay copies both ways, but doesn't pass on the end of one side.
 func relay(bad bool) error {
 	back, front := listen(), listen()
 	go func() {

@@ -1,6 +1,6 @@
-// Programs in which the bytes that are sent aren't those that are read: a datagram is longer than its buffer, a length
-// belongs to something else, an answer stays in its handler's buffer, or a request outlives the one for which it was
-// made. The line marked BUG causes that, and is named first. With `good`, each does the same without its bug.
+// Programs in which the bytes that are read aren't the bytes that were sent: a datagram is longer than its buffer, a length
+// belongs to something else, an answer stays in its handler's buffer, or a request outlives the request for which it was made.
+// The line marked BUG causes that, and netrev-go names it first. With the argument `good`, each program runs without its bug.
 //
 //	sizes NAME bad|good
 package main
@@ -176,7 +176,7 @@ func ask(ctx context.Context, address string, isBad bool) {
 	http.DefaultClient.Do(request)
 }
 
-// alone: a request made on behalf of another continues when that one has ended.
+// alone: a request that was made on behalf of another request continues after that request has ended.
 func alone(isBad bool) {
 	quit := make(chan struct{})
 	slow := serve(func(w http.ResponseWriter, r *http.Request) {

@@ -1,6 +1,6 @@
-// Programs in which one path through a function skips a necessary action: a slot isn't released, a body isn't closed, Done isn't called,
-// a buffer isn't flushed, a timer isn't reset, the end of a reply isn't written, a reader is dropped with what it has read ahead, a
-// request isn't answered. The line marked BUG is on that path, and is named first. With `good`, each does the same without its bug.
+// Programs in which one path through a function skips a necessary action: a slot isn't released, a body isn't closed, Done isn't called, a buffer
+// isn't flushed, a timer isn't reset, the end of a reply isn't written, a reader is dropped with what it has read ahead, a request isn't answered.
+// The line marked BUG is on that path, and netrev-go names it first. With the argument `good`, each program runs without its bug.
 //
 //	skips NAME bad|good
 package main

@@ -1,5 +1,5 @@
-// Programs in which a goroutine waits for an action of another one, and only the source says where: no stack has it.
-// The line marked BUG causes the hang, and the first cause names it. With `good`, each does the same without its bug.
+// Programs in which a goroutine waits for an action of another goroutine; only the source shows its place, and no stack does. The
+// line marked BUG causes the hang, and the first cause names it. With the argument `good`, each program runs without its bug.
 //
 //	sources NAME bad|good
 package main
@@ -191,7 +191,7 @@ func (t *table) joinAll() {
 	}
 }
 
-// oneOnly: all wait for a condition, but only one is woken.
+// oneOnly: all goroutines wait for a condition, but only one of them is woken.
 func oneOnly(isBad bool) {
 	listener, t := listen(), &table{seats: 4}
 	t.changed = sync.NewCond(&t.lock)
@@ -358,7 +358,7 @@ func (l *link) commit() {
 	l.answer()
 }
 
-// unpushed: of two kinds of requests, one isn't flushed.
+// unpushed: one of two kinds of requests isn't flushed.
 func unpushed(isBad bool) {
 	listener := listen()
 	go serve(listener, echo)
@@ -637,7 +637,7 @@ func (d *office) page(end net.Conn, name string) {
 	}
 }
 
-// signalled: a Signal wakes another goroutine than the one that it is meant for.
+// signalled: a Signal wakes a goroutine other than the one that it is meant for.
 func signalled(isBad bool) {
 	listener, d := listen(), &office{acks: map[string]bool{}}
 	d.heard = sync.NewCond(&d.lock)

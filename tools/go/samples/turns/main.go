@@ -1,5 +1,5 @@
-// Programs in which a goroutine doesn't do what another waits for: it returns a connection twice, never calls Done, doesn't
-// flush, or gives up early. The line marked BUG causes that, and is named first. With `good`, each does the same without its bug.
+// Programs in which a goroutine doesn't do what another goroutine waits for: it returns a connection twice, never calls Done, doesn't flush, or gives
+// up early. The line marked BUG causes that, and netrev-go names it first. With the argument `good`, each program runs without its bug.
 //
 //	turns NAME bad|good
 package main
@@ -144,7 +144,7 @@ func (s *survey) visit(address string) {
 	s.pending.Done()
 }
 
-// undone: a WaitGroup counts several goroutines, and one whose Dial fails never calls Done.
+// undone: a WaitGroup counts several goroutines, and a goroutine whose Dial fails never calls Done.
 func undone(bad bool) error {
 	listener, away := listen(), listen()
 	go serve(listener, echo)
@@ -446,7 +446,7 @@ func work(address, line string, results chan<- string, bad bool) {
 	results <- answer
 }
 
-// uncounted: several goroutines should each send a result, but one ends without sending any.
+// uncounted: several goroutines should each send a result, but one of them ends without sending a result.
 func uncounted(bad bool) error {
 	listener, results, lines := listen(), make(chan string), []string{"one", "odd", "two"}
 	go serve(listener, echo)
