@@ -4,7 +4,7 @@
 It prints the tables of docs/proof/THEOREM.md: the numbers of definitions and of their lines, and the files in reading
 order. `--write` writes them into the page. It doesn't change sentences with numbers; scripts/pages.py finds outdated
 sentences. `--names` prints the definitions themselves, file by file. Definitions named as arguments replace the laws:
-`scripts/beliefs.py nr_rev/Step:outcome` prints the definitions that this one rests on.
+`scripts/beliefs.py nr_rev/Step:outcome` prints the definitions that `outcome` rests on.
 """
 
 import argparse

@@ -5,13 +5,14 @@
 `around` draws mutants of nrdb, netrev_calls and netrev_go by a seed, and tries them against their tests (scripts/mutating). Otherwise the
 edits of a crate are tried, many in a single check.
 
-The gate tries each edit of crates/CRATE/must-fail alone, over the whole crate. This script puts the edits of different functions into one
-copy of the repository, and checks only these functions, each separately, because the proof of a function doesn't rest on another's body. So
-all edits of a crate are tried in minutes. This is a tool for developers, and not a part of the gate.
+The gate tries each edit of crates/CRATE/must-fail alone, over the whole crate. This script puts the edits of different
+functions into one copy of the repository, and checks only these functions, each separately, because the proof of a
+function doesn't rest on the body of another function. So all edits of a crate are tried in minutes. This is a tool for
+developers, and not a part of the gate.
 
-An edit counts as refused if a function that it changes isn't proved because of a goal of its own. A goal that fails only because the
-function calls another one that isn't proved doesn't count. An edit that changes more than bodies (a constant, a type, a definition) is
-named and left to `rt must-fail`, which tries it alone.
+An edit counts as refused if a function that it changes isn't proved because of a goal of its own. A goal doesn't count
+if it fails only because the function calls another function that isn't proved. An edit that changes more than bodies (a
+constant, a type, a definition) is named and left to `rt must-fail`, which tries it alone.
 
 --plant FILE tries the mistakes in FILE instead of the crate's edits. FILE contains edits in the form of must-fail/, each after a
 line `name: NAME`. --list checks nothing, and prints which function each edit changes, and in which check it is tried.
@@ -79,7 +80,7 @@ def read_edits(text, name):
 
 
 def name_of_impl(head):
-    """The beginning of a method's printed name: the name of its type, and then of the trait, if there is one."""
+    """The beginning of a method's printed name: the name of its type, followed by the name of the trait, if any."""
     impls = list(IMPL.finditer(head))
     if not impls:
         return None

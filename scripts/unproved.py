@@ -38,8 +38,8 @@ class UnprovedError(Exception):
 
 
 def unproved_netrev(say: Say) -> Path:
-    """An unproved netrev of the current sources: the one that an earlier call kept, or a new one. A lock protects it
-    from removal until this process, or the program that replaces this process, ends."""
+    """An unproved netrev of the current sources: the program that an earlier call kept, or a new program. A lock
+    protects it from removal until this process, or the program that replaces this process, ends."""
     program = KEPT / f"netrev-{source_sum(kit_name())}"
     KEPT.mkdir(parents=True, exist_ok=True)
     with exclusive(KEPT / "lock", say):

@@ -66,8 +66,8 @@ def is_good(recording: Recording) -> bool:
 
 
 class Outcome(NamedTuple):
-    """The result of exploring: the number of schedules, for each finding the number of schedules that have it and the
-    first of them, and the seconds."""
+    """The result of exploring: the number of schedules; for each finding, the number of schedules that have it, and the
+    first of these; and the seconds."""
 
     played: int
     times: Counter[str]

@@ -37,7 +37,7 @@ def built(go: Go, out: Path, is_recording: bool) -> Path:
 
 
 def good_recording(go: Go, program: Path, name: str, processors: int) -> Optional[Recording]:
-    """A recording of a run that succeeded and in which no rule finds anything; None if no run was such."""
+    """A recording of a run that succeeded and in which no rule finds anything; None if no run did so."""
     path = program.with_name(f"{name}-{processors}.jsonl")
     for _ in range(TRIES):
         run = recorded(go, [str(program), name], RACES, processors, path)

@@ -68,7 +68,7 @@ class Recording:
         return "".join(f"{line}\n" for line, _ in self.parts[part]).encode()
 
     def expect(self, program: str, part: str, replies: bytes) -> None:
-        """Compares a program's replies with the expected ones."""
+        """Compares a program's replies with the expected replies."""
         asked = self.parts[part]
         came = replies.decode().splitlines()
         for index, (line, right) in enumerate(asked):

@@ -100,7 +100,7 @@ def measured(recordings: Iterable[Recording], measure: Measuring) -> Cases:
 
 
 def shapes(folder: Path, steps: int, sockets: int = 0) -> Iterator[Recording]:
-    """A recording of each shape; each is removed when the next one is made."""
+    """A recording of each shape, which is removed when the next recording is made."""
     for shape in SHAPES:
         recording = of_shape(folder, shape, steps, sockets)
         yield recording

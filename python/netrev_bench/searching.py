@@ -29,7 +29,7 @@ WITHOUT_REP = "GLIBC_TUNABLES=glibc.cpu.x86_rep_stosb_threshold=1000000000:glibc
 
 
 def ask(stream, line, right):
-    """The seconds until a line is answered. Checks that the reply is the given one."""
+    """The seconds until a line is answered. Checks that the reply is the given reply."""
     began = time.perf_counter()
     stream.write(f"{line}\n")
     stream.flush()

@@ -1,5 +1,5 @@
-"""Runs of servers, recorded when the benchmark runs: Go's own tests of a package, all in one process, so that a recording has many open
-sockets. Go is the `go` on the PATH."""
+"""Runs of servers, recorded when the benchmark runs: they are Go's own tests of a package, all in one process, so that
+a recording has many open sockets. Go is the `go` on the PATH."""
 
 import json
 from pathlib import Path

@@ -40,7 +40,7 @@ class Measurement:
 
     @property
     def netrevs(self) -> list[str]:
-        """The netrevs that were measured, the older one first."""
+        """The netrevs that were measured, the older netrev first."""
         return [program for program in (BEFORE, NOW) if self.has(program)]
 
     def ratio(self, shape: str, steps: int, program: str, name: str) -> float:
@@ -53,7 +53,7 @@ class Measurement:
 
 
 def quotient(figures: Figures, name: str, above: str, below: str) -> float:
-    """The ratio of one program's figure to another's."""
+    """The ratio of one program's figure to another program's figure."""
     return figures[above][name] / figures[below][name]
 
 

@@ -36,7 +36,7 @@ ENDS = {Sort.UNLOCK: (Sort.LOCK,), Sort.GIVE_UP: (Sort.REFER, Sort.CLOSE)}  # th
 # operations in between, which are skipped if an earlier operation failed
 TRIES = (Sort.RESET, Sort.WAIT, Sort.READ, Sort.WRITE)
 
-# the step that a goroutine with this status makes, whatever its operation; a sleeping goroutine makes none
+# the step that a goroutine with this status makes, whatever its operation; a sleeping goroutine makes no step
 BY_STATUS = {
     "acquiring": "acquire",
     "relock": "rwlock",

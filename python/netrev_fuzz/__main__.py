@@ -1,10 +1,11 @@
 """Runs the fuzzer, as `make fuzz` does:  python3 python netrev_fuzz [--minutes M] [--cases N] [--seed S] [--of nrdb]
 
-Runs random cases until the time or their number is used up. Half of the time goes to cases for netrev and half to sessions of nrdb, except
-that `--cases` runs no sessions; `--of` runs only one kind. Each case has a seed: `S-1`, `S-2` and so on, or `S-nrdb-1` and so on for nrdb;
-`--case S-7` runs only that case. If netrev's output differs from the model's, the case is kept in `out/fuzz/S-7/`, reduced to the lines
-that still show the difference, with netrev's output (`told`) and the model's (`wanted`); `--again out/fuzz/S-7` runs it again. The program
-is $NETREV, or else the built one. The status is 1 if there was a difference.
+Runs random cases until the time or their number is used up. Half of the time goes to cases for netrev and half to
+sessions of nrdb, except that `--cases` runs no sessions; `--of` runs only one kind. Each case has a seed: `S-1`, `S-2`
+and so on, or `S-nrdb-1` and so on for nrdb; `--case S-7` runs only that case. If netrev's output differs from the
+model's, the case is kept in `out/fuzz/S-7/`, reduced to the lines that still show the difference, with netrev's output
+(`told`) and the model's (`wanted`); `--again out/fuzz/S-7` runs it again. The program is $NETREV, or else the built
+netrev. The status is 1 if there was a difference.
 """
 
 import argparse
@@ -86,7 +87,7 @@ def play(
     out: Path = ROOT / "out/fuzz",
     of: str = "",
 ) -> int:
-    """Runs cases, keeps each that differs, and returns how many did."""
+    """Runs cases, keeps each case that differs, and returns how many cases differed."""
     until, found = time.monotonic() + 60 * minutes, 0
     with tempfile.TemporaryDirectory() as name:
         for case in map(case_of, wanted_seeds(seed, cases, of)):

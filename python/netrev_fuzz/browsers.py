@@ -1,5 +1,5 @@
-"""Cases for the page: lines that a browser sends, including forbidden ones. No line may read or write a file or end nrdb, and the page must
-be able to show every answer."""
+"""Cases for the page: lines that a browser sends, including forbidden lines. No line may read or write a file or end
+nrdb, and the page must be able to show every answer."""
 
 import os
 import random

@@ -2,7 +2,7 @@
 are killed. views.py checks all output up to the end of the session.
 
 nrdb runs in this process, with its own netrev processes. Events happen at random points of nrdb's communication with
-netrev: when it sends lines, and when it waits for a reply. The signals are real, and a slow netrev is one that is
+netrev: when it sends lines, and when it waits for a reply. The signals are real, and netrev is slow because it is
 stopped for a while.
 """
 

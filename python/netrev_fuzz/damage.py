@@ -23,7 +23,7 @@ def byte_changed(dice: random.Random, text: bytes) -> bytes:
 
 
 def byte_likened(dice: random.Random, text: bytes) -> bytes:
-    """Changes one byte to another that occurs in such texts."""
+    """Changes one byte to another byte that occurs in recordings."""
     if not text:
         return text
     place = dice.randrange(len(text))
@@ -89,7 +89,7 @@ def line_lengthened(dice: random.Random, text: bytes) -> bytes:
 
 
 def number_changed(dice: random.Random, text: bytes) -> bytes:
-    """Changes one number to another, near it or at a limit."""
+    """Changes a number to another number that is near it or at a limit."""
     numbers = list(re.finditer(rb"-?\d+", text))
     if not numbers:
         return text
@@ -100,7 +100,7 @@ def number_changed(dice: random.Random, text: bytes) -> bytes:
 
 
 def word_changed(dice: random.Random, text: bytes) -> bytes:
-    """Changes one text in quotes to another that occurs there, or to one that doesn't."""
+    """Changes a text in quotes to another text, which may or may not be valid there."""
     words = list(re.finditer(rb'"[^"\n]*"', text))
     if not words:
         return text

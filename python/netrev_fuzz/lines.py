@@ -1,4 +1,4 @@
-"""Random scripts of command lines: mostly good ones, in all possible spellings, and some bad ones."""
+"""Random scripts of command lines: mostly good lines, in all possible spellings, and some bad lines."""
 
 import random
 from typing import Sequence

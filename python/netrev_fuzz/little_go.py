@@ -90,7 +90,7 @@ class Program:
         yield from self.gives("decref", g, s)
 
     def gives(self, kind: str, g: int, s: int, *side: str) -> Turns:
-        """Drops a reference; the goroutine that drops the last one destroys the descriptor."""
+        """Drops a reference; the goroutine that drops the last reference destroys the descriptor."""
         answer, _ = yield from self.operation(kind, g, s, *side)
         if answer == LAST:
             self.do("pollclose", g, self.descriptors[s])

@@ -34,9 +34,9 @@ def binary(
     holders_lost: int = 0,
     is_sparse: bool = False,
 ) -> bytes:
-    """The log with these points, each at the place for its number. `room` is the number of places. `holders` is the
-    table of locked mutexes, or None. `holders_lost` is how many times the table was full. In a sparse log, a point
-    without a time has the previous point's time."""
+    """The log with these points, each of which is at the place for its number. `room` is the number of places.
+    `holders` is the table of locked mutexes, or None. `holders_lost` is how many times the table was full. In a sparse
+    log, a point without a time has the previous point's time."""
     points = list(points)
     room = room or max((point.number for point in points), default=0) + 1
     last = max((point.number for point in points), default=-1) + 1

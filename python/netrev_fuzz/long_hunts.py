@@ -1,4 +1,4 @@
-"""Makes a long random recording, from a seed, of one of two programs with a bug:
+"""Makes a long random recording of one of two programs with a bug, from a seed:
 
     python3 -m netrev_fuzz.long_hunts keeper|refused STEPS OUT.jsonl [SEED]
 

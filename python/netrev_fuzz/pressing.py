@@ -1,6 +1,7 @@
-"""Ctrl-C for the fuzzer: a real signal, which may be sent at any time but arrives only while a session runs a line. Within `confined`, the
-main thread blocks the signal, except in the call that `heard` makes. So no signal arrives while the output is checked, and none after the
-end: all threads that may send one have ended by then, and late signals are dropped."""
+"""Ctrl-C for the fuzzer: a real signal, which may be sent at any time but arrives only while a session runs a line.
+Within `confined`, the main thread blocks the signal, except in the call that `heard` makes. So no signal arrives while
+the output is checked. None arrives after the end, because all threads that send signals have ended by then, and late
+signals are dropped."""
 
 import signal
 import threading

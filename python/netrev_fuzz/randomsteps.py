@@ -45,7 +45,7 @@ def random_limits(dice: random.Random, version: int) -> Limits:
 
 
 def random_answer(dice: random.Random, kind: str, near: Answer) -> Answer:
-    """A random answer: of the same sort as the given one, another answer of the kind, or any."""
+    """A random answer: one of the same sort as the given answer, another answer of the step's kind, or any answer."""
     number = near[1] if len(near) == 2 else 0
     names = dice.choice([near[:1], OF_NRDB[kind].answers, PLAIN_ANSWERS + COUNTED_ANSWERS])
     name = dice.choice(names)
@@ -133,8 +133,8 @@ class Author:
         return self.dice.choice(having[self.dice.choice(sorted(having))])
 
     def refused_step(self, world: World) -> Optional[Step]:
-        """A step that doesn't apply, if one is found: each reason among the candidates has the same chance, and so has each kind with that
-        reason."""
+        """A step that doesn't apply, or None if none is found. Each reason among the candidates has the same chance,
+        and so has each kind with that reason."""
         found: dict[int, dict[str, Step]] = {}
         for _ in range(80):
             step = self.wild_step(world) if self.dice.random() < 0.5 else self.step(world)
@@ -227,7 +227,7 @@ class Author:
         raise ValueError(form)
 
     def size(self, world: World) -> int:
-        """A count of bytes, often small, sometimes 0 or one more than a buffer may hold."""
+        """A count of bytes, which is often small, and sometimes 0 or one more than a buffer may hold."""
         most = world.limits.buf
         if self.dice.random() < self.past:
             return self.dice.choice([0, most + 1, 65_536]) if most < 65_536 else 0

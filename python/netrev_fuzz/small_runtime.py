@@ -370,7 +370,8 @@ class Runtime:
             self.unblock(pd, "w", False)
 
     def event(self, pd: PollDescriptor, mode: str, is_error: bool, tag: int) -> None:
-        """netpoll's loop for one event, with the tag that the descriptor had when the system was asked for events."""
+        """Does what netpoll's loop does for one event; the tag is the one that the descriptor had when the system was
+        asked for events."""
         is_stale = self.has_tags and tag != pd.fdseq
         c = tag if self.has_tags else 0
         self.log(Kind.EVENT, 0, pd.address, MODES[mode], int(is_error) + 2 * is_stale, c)

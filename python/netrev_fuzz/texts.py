@@ -148,7 +148,7 @@ def at_limits(dice: random.Random) -> bytes:
 
 
 def limits_answer(dice: random.Random) -> str:
-    """A recorded answer as text, or something that isn't one."""
+    """A text that is or isn't a recorded answer."""
     if dice.random() < 0.1:
         return dice.choice(NO_ANSWERS)
     if dice.random() < 0.5:

@@ -1,6 +1,6 @@
-"""Checks nrdb's output in a session against the model's values at the same positions. A session is followed event by event, because it may
-be interrupted anywhere, and all output up to that point must be right. `Judge` gets the events in order, and reports the first wrong
-one."""
+"""Checks nrdb's output in a session against the model's values at the same positions. A session is followed event by
+event, because it may be interrupted anywhere, and all output up to that point must be right. `Judge` gets the events in
+order, and reports the first wrong event."""
 
 import re
 from fnmatch import fnmatchcase

@@ -157,7 +157,7 @@ class Recording:
 
     @lru_cache(maxsize=200_000)
     def nearest(self, marks: Marks, position: int, reverse: bool) -> Optional[tuple[int, list[int]]]:
-        """The nearest position in this direction at which marks hit, and these marks; None if there is none."""
+        """The nearest position in this direction at which marks hit, and these marks; None if no mark hits."""
         found = [hit for _, mark in marks if (hit := self.nearest_of(mark, position, reverse)) is not None]
         if not found:
             return None

@@ -65,7 +65,7 @@ class Machine:
         return answer
 
     def undo(self) -> bool:
-        """Undoes the last step; returns whether one was stored."""
+        """Undoes the last step; returns whether a step was stored."""
         if not self.steps:
             return False
         self._lead_back(self.steps.pop())

@@ -17,7 +17,7 @@ def more(number: int) -> int:
 
 
 def given_up(lock: Lock) -> tuple[str, Lock]:
-    """The answer to giving up a reference, and the word with one reference less."""
+    """The answer when a reference is given up, and the word with one reference fewer."""
     lock = lock._replace(references=lock.references - 1)
     return ("last" if lock.closed and lock.references == 0 else "notlast"), lock
 

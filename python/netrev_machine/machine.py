@@ -1,4 +1,4 @@
-"""The machine's state, as in docs/internals/MACHINE.md. A state is immutable: a step makes the next one from it.
+"""The machine's state, as in docs/internals/MACHINE.md. A state is immutable: a step makes the next state from it.
 
 A status is a tuple of the words of `print gor`: ("idle",), ("acquiring", 0, "r"), ("owing", 0, 2, 1). Values for both sides are pairs,
 reading first.

@@ -11,7 +11,7 @@ if TYPE_CHECKING:
 
 
 class Observer:
-    """Receives each step and each line, and ignores them."""
+    """Receives all steps and lines, and ignores them."""
 
     def applied(self, kind: str, answer: Answer) -> None:
         """Called if a step of this kind applied and had this answer."""

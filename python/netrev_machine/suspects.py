@@ -9,7 +9,7 @@ meant for short recordings.
     asleep           a goroutine that is parked at a side, although a check would end its wait or its socket is ready
     held reference   a goroutine that took more references of a closed socket than it gave back
 
-Each line has one finding. Findings about deadlines come step by step; the others are about the last position.
+Each line has one finding. Findings about deadlines come step by step; the other findings are about the last position.
 """
 
 from typing import Iterator, NamedTuple, Optional, Sequence
@@ -32,7 +32,7 @@ TAKES_A_REFERENCE, GIVES_A_REFERENCE = ("incref", "increfclose", "rwlock"), ("de
 
 
 class Replayed(NamedTuple):
-    """The steps of a recording, their answers, and the states: the state of position n is the one after step n."""
+    """The steps of a recording, their answers, and the states: the state of position n is the state after step n."""
 
     steps: Sequence[Step]
     answers: Sequence[Answer]

@@ -1,6 +1,6 @@
-"""The invariants of each state, from the list "What always holds" of docs/internals/MACHINE.md. The fuzzer checks them for the model, in
-each state that a recording reaches: if a state breaks one, the pages contradict each other, or the model is wrong. `breaches` names the
-broken invariants."""
+"""The invariants of each state, from the list "What always holds" of docs/internals/MACHINE.md. The fuzzer checks them
+for the model, in each state that a recording reaches: if a state breaks an invariant, the pages contradict each other,
+or the model is wrong. `breaches` names the broken invariants."""
 
 from typing import Iterator
 

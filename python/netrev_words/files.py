@@ -19,9 +19,9 @@ def beside(path: Path) -> Path:
 
 @contextmanager
 def whole(path: Path, mode: str = "w") -> Iterator[IO[Any]]:
-    """A file to write to, which replaces the old one at the end; raises an OSError that names the file if it can't be written. A path
-    that isn't a regular file, such as a pipe or /dev/stdout, is written to directly. A link is followed unless it belongs to another
-    user."""
+    """A file to write to, which replaces the old file at the end; raises an OSError that names the file if it can't be
+    written. A path that isn't a regular file, such as a pipe or /dev/stdout, is written to directly. A link is followed
+    unless it belongs to another user."""
     try:
         check_name(path)
         check_links(path)

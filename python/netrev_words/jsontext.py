@@ -55,7 +55,7 @@ def no_constant(text: str) -> NoReturn:
 
 
 def pairs(items: list[tuple[str, object]]) -> dict[str, object]:
-    """An object; if a key occurs twice, the last one counts. Each string in it is checked."""
+    """An object; if a key occurs twice, its last value counts. Each string in it is checked."""
     for key, value in items:
         whole_text(key)
         whole_text(value)

@@ -1,1 +1,1 @@
-"""The tests in Python. The modules here don't need a built program; those in `program/` run it."""
+"""The tests in Python. The tests in this folder don't need the built program; the tests in `program/` run it."""

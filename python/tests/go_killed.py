@@ -111,7 +111,7 @@ class Trial:
 
 
 def is_empty(group: int) -> bool:
-    """Whether a group has no process left."""
+    """Whether a process group has no process left."""
     try:
         os.killpg(group, 0)
     except ProcessLookupError:

@@ -230,7 +230,7 @@ func held(mutex, unlocked *sync.Mutex, shared, written *sync.RWMutex) {
 	runtime.Gosched()
 }
 
-// open makes a connection in each state of notes, and sets the last one's deadlines repeatedly until notes exist.
+// open makes a connection in each state of notes, and sets the last connection's deadlines repeatedly until notes exist.
 func open() {
 	a, b := pair("tcp4", "127.0.0.1:0")
 	for i := 0; i < 2; i++ {

@@ -101,7 +101,7 @@ class Tool(unittest.TestCase):
         return os.environ | {"NETREV": netrev_program() or "", "GO111MODULE": "off", "GOFLAGS": ""} | settings
 
     def called(self, *words: str, **settings: str) -> tuple[int, str]:
-        """netrev-go's status, and its output with the program's."""
+        """netrev-go's status, and the output of netrev-go and of the program."""
         run = subprocess.run(
             [TOOL, *words], cwd=self.folder, env=self.environment(**settings), stdin=subprocess.DEVNULL,
             stdout=subprocess.PIPE, stderr=subprocess.STDOUT, text=True, errors="replace", timeout=300, check=False,

@@ -120,7 +120,7 @@ func passes(a net.Conn) {
 	}
 }
 
-// numbers returns the open descriptors, without the one that is used to find them.
+// numbers returns the open descriptors, except for the descriptor that it uses to find them.
 func numbers() []int {
 	folder, err := os.Open("/proc/self/fd")
 	check(err)
@@ -332,7 +332,7 @@ func pipeOfChildren() {
 	fmt.Println(one.Wait(), other.Wait())
 }
 
-// daemon starts a program in a session of its own, which outlives this one.
+// daemon starts a program in a new session; that program outlives this one.
 func daemon(name string) {
 	c := exec.Command(self, name)
 	c.SysProcAttr = &syscall.SysProcAttr{Setsid: true}

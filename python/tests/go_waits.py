@@ -211,7 +211,8 @@ class Waits(Tool):
             self.assertGreater(making.time, 0)
 
     def look_at_holders(self) -> None:
-        """The locks at the end: two that main has locked, and an RWMutex with one of two readers and a writer that waits for them."""
+        """The locks at the end: two mutexes that main has locked, and an RWMutex with one of its two readers and a
+        writer that waits for the readers."""
         found, held = self.parks(), self.lines.held
         assert held is not None
         (at,) = {park.objects[0].object for park in found["locks"]}

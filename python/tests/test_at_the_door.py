@@ -87,7 +87,7 @@ class Launching(unittest.TestCase):
             path.chmod(0o755)
 
     def found(self, *folders: Path) -> object:
-        """The netrev that pip's nrdb finds with such a PATH."""
+        """The netrev that pip's nrdb finds with this PATH."""
         with (
             mock.patch.object(built, "BUILT", self.folder / "none"),
             mock.patch.object(built, "INSTALLED", self.folder / "none"),

@@ -28,7 +28,7 @@ def value_at(prompt: Prompt, position: int) -> str:
 
 
 def stops(prompt: Prompt, line: str) -> list[int]:
-    """The positions at which the session stops with one move after another, until an end of the recording."""
+    """The positions at which the session stops when it repeats this move until it reaches an end of the recording."""
     found = []
     while not prompt(line).splitlines()[0].endswith((" end", " start")):
         found.append(prompt.session.stood)

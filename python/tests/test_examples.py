@@ -1,4 +1,4 @@
-"""The list of examples agrees with their folder, and the scripts that use it find the same."""
+"""The list of examples agrees with their folder, and the scripts that use the list find the same examples."""
 
 import os
 import re

@@ -1,4 +1,4 @@
-"""The gate after `rt ci`: each failed test is counted, and each skipped one is named and doesn't count as passed."""
+"""The gate after `rt ci`: each failed test is counted, and each skipped test is named and doesn't count as passed."""
 
 import os
 import shutil

@@ -10,7 +10,7 @@ GOS_OWN = {"run": "`go help run`", "test": "`go help test`", "build": "`go help 
 
 
 def printed(capsys: pytest.CaptureFixture[str], *words: str) -> tuple[object, str, str]:
-    """The status of netrev-go with these words, and its output on standard output and on standard error."""
+    """The status of netrev-go with these arguments, and its output on standard output and on standard error."""
     try:
         status: object = cli.main(list(words))
     except SystemExit as ended:

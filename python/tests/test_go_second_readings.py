@@ -34,7 +34,7 @@ class Synchronized:
             self.turn(self.dice.randint(1, 4), self.dice.randint(1, 4))
 
     def point(self, kind: int, g: int, at: int = 0, a: int = 0, b: int = 0, behind: tuple[int, ...] = ()) -> int:
-        """Adds a point of a goroutine, which follows the goroutine's last point and the given ones."""
+        """Adds a point of a goroutine, which follows the goroutine's last point and the given points."""
         number = len(self.points)
         self.points.append(Point(number, kind, g, at, a, b, 0, 0, 0))
         self.edges[number] = self.last.get(g, set()) | set(behind)

@@ -18,7 +18,7 @@ CANCELLING = (signal.SIGQUIT, signal.SIGHUP, signal.SIGTERM, signal.SIGINT)
 
 
 def catching(number: signal.Signals) -> str:
-    """A script that handles a signal and ends with 7, and records each signal that comes."""
+    """A script that handles a signal, records each signal that comes, and ends with status 7."""
     return f"trap 'echo {number.name} >> caught; exit 7' {number.name.removeprefix('SIG')}; touch here; {WAITS}"
 
 

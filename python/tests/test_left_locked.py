@@ -1,4 +1,4 @@
-"""Functions that return with a mutex locked, in a file of a few lines: those that have a path without an Unlock."""
+"""Functions that return with a mutex locked because a path has no Unlock, in a file of a few lines."""
 
 import tempfile
 import unittest

@@ -1,4 +1,5 @@
-"""`make mutants`: the mutants of a module, the tests to try against them, and the name of a test that notices one."""
+"""`make mutants`: the mutants of a module, the tests to try against them, and the name of a test that notices a
+mutant."""
 
 import ast
 from dataclasses import replace

@@ -1,4 +1,5 @@
-"""The goroutine that could end a wait outside the poller: the one at the same channel, and the one that serves the awaited request."""
+"""The goroutine that could end a wait outside the poller: the goroutine at the same channel, or the goroutine that
+serves the awaited request."""
 
 import unittest
 

@@ -1,4 +1,5 @@
-"""scripts/pages.py: each rule finds the mistake planted for it in a small tree, and nothing without one."""
+"""scripts/pages.py: each rule finds the mistake planted for it in a small tree, and finds nothing without that
+mistake."""
 
 import unittest
 

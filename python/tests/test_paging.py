@@ -1,4 +1,5 @@
-"""The pager on a screen of a given size: it asks when the next line would push the first one since the last question off the screen."""
+"""The pager on a screen of a given size: it asks when the next line would push the first line since the last question
+off the screen."""
 
 import io
 import os

@@ -60,7 +60,7 @@ OTHER_WORD, OTHER = WORD + 20, DESCRIPTOR + 300
 
 
 def two_timers(*fired: tuple[int, int], now: int = 105) -> Points:
-    """Deadlines of two descriptors pass at once, at 105; then these timers of theirs go off."""
+    """Deadlines of two descriptors pass at once, at 105; then these timers go off."""
     log = Points().opened().opened(OTHER_WORD, OTHER)
     for descriptor in (DESCRIPTOR, OTHER):
         log.add(Kind.SET_DEADLINE, 1, descriptor, 114, 5, time=100)

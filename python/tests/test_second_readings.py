@@ -318,8 +318,8 @@ def test_notes_are_what_the_states_say(seed: int) -> None:
 
 @pytest.mark.parametrize("seed", range(30))
 def test_each_step_is_of_the_socket_that_it_names(seed: int) -> None:
-    """A step belongs to the socket that it names, or to the socket of its descriptor, its timer or its event's tag, or to the one that its
-    goroutine named last."""
+    """A step belongs to the socket that it names, or to the socket of its descriptor, its timer or its event's tag, or
+    to the socket that its goroutine named last."""
     text, worlds = random_text(f"whose {seed}", {**LOCKING, **TIMING, **WAITING}, ALONE)
     recording, named, tags = Recording(write_plain(text)), dict[int, tuple[int, int]](), dict[tuple[int, int], int]()
     of_timers, expected = timers(steps_of(text, worlds)), []

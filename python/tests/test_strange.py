@@ -23,7 +23,7 @@ ROOT = Path(__file__).resolve().parents[2]
 FIRST = ROOT / "examples/first.jsonl"
 POSITION = b"at 5 of 10 forward\n"
 # characters that control a terminal or can't be seen: control characters, including those of the upper half, marks that
-# change the writing direction, and invisible ones
+# change the writing direction, and invisible characters
 OBEYED = ("\x1b[2J", "\x07", "\r", "\x7f", "\x9b2J", "\u202e", "\u2066", "\u2028", "\u200b", "\ufeff")
 UNSEEN = ("Cc", "Cf", "Cs", "Cn", "Co", "Zl", "Zp")  # categories of characters
 ASKED: tuple[str, ...] = (

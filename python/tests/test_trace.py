@@ -44,7 +44,8 @@ def traffic() -> Traffic:
 
 
 def slices_of(events: list[Event]) -> dict[tuple[int, int], list[Event]]:
-    """The slices of each thread, by their beginnings, the longer ones first."""
+    """The slices of each thread, sorted by their beginnings; of two that begin together, the longer slice comes
+    first."""
     threads: dict[tuple[int, int], list[Event]] = {}
     for event in events:
         if event["ph"] == "X":

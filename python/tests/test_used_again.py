@@ -1,4 +1,4 @@
-"""A reused descriptor number: facts about its first use are never reported for the next one."""
+"""A reused descriptor number: facts about its first use are never reported for its next use."""
 
 import unittest
 

@@ -163,7 +163,7 @@ class Page(Served):
 
 class Hostile(Served):
     def expect_refused(self, rows: "dict[str, tuple[int, bytes]]") -> None:
-        """Expects that each of these requests is refused with this status, and that none reaches the session."""
+        """Expects that each of these requests is refused with this status, and that no request reaches the session."""
         for name, (status, data) in rows.items():
             with self.subTest(name):
                 self.assertEqual(self.address.send(data).status, status)

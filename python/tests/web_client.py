@@ -54,7 +54,8 @@ class Address(NamedTuple):
         return socket.create_connection((LOOPBACK, self.port), timeout=PATIENCE)
 
     def request(self, method: str, target: str, body: bytes = b"", /, **headers: str) -> bytes:
-        """A request as the page makes it, with the given headers, named with _ for -; a header whose text is empty is omitted."""
+        """A request as the page makes it, with the given headers, whose names have _ in place of -. A header with an
+        empty text is omitted."""
         own = {"Host": f"{LOOPBACK}:{self.port}", "Netrev-Token": self.token}
         if method == "POST":
             own |= {"Origin": f"http://{LOOPBACK}:{self.port}", "Content-Length": str(len(body))}

@@ -1,4 +1,4 @@
-"""A pytest plugin that tries one mutant after another, each in a process of its own that starts with all tests loaded.
+"""A pytest plugin that tries one mutant after another, each in a separate process that starts with all tests loaded.
 
 It reads requests, a line of JSON each, from the first of the two descriptors in NETREV_MUTANTS: the file, its text
 before and after the change, and the tests, each with its time limit in seconds. It writes the result to the second
@@ -60,7 +60,7 @@ def put_in(file: str, before: str, behind: str) -> bool:
 
 
 def run_until_one_fails(items: list[pytest.Item], begun: int) -> str:
-    """Runs tests until one fails, and returns its name. Writes a line to a descriptor when each test begins."""
+    """Runs tests until a test fails, and returns its name. Writes a line to a descriptor when each test begins."""
     for item, following in zip(items, [*items[1:], None]):
         os.write(begun, b"\n")
         reports = runtestprotocol(item, log=False, nextitem=following)

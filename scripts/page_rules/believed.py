@@ -125,7 +125,7 @@ def module_of(text: str) -> Module:
 
 
 class Beliefs:
-    """The definitions of a tree's crates, and those that some of them rest on."""
+    """The definitions of a tree's crates, and the definitions that some definitions rest on."""
 
     def __init__(self, tree: Tree) -> None:
         self.tree = tree

@@ -22,7 +22,7 @@ OUTSIDE_CODE = re.compile(r"([;:])(?=(?:[^`]*`[^`]*`)*[^`]*$)")
 
 
 class Cited:
-    """The names that a section may cite: those of its crate and of the crates below it."""
+    """The names that a section may cite: the names in its crate and in the crates below it."""
 
     def __init__(self, crates: dict[str, Crate], own: list[str]) -> None:
         self.own = [crates[name] for name in own]

@@ -37,7 +37,7 @@ def _exports(tree: Tree, crate: str) -> tuple[set[str], set[str]]:
 
 
 def _public_contracts(tree: Tree, crate: str, path: str) -> str:
-    """The contracts that a caller sees: those of public functions, and those of the views of public types."""
+    """The contracts that a caller sees: the contracts of public functions, and of the views of public types."""
     modules, names = _exports(tree, crate)
     text = without_comments(tree.text(path))
     is_public = PurePosixPath(path).stem in {*modules, "lib"}

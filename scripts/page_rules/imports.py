@@ -135,6 +135,6 @@ def written(tree: Tree) -> str:
 
 
 def _row_of(rows: list[Row], path: str) -> Row | None:
-    """The row of a module: the one with the longest matching place."""
+    """The row of a module: the row with the longest matching place."""
     longest = max(rows, key=lambda row: row.fits(path))
     return longest if longest.fits(path) else None

@@ -1,8 +1,9 @@
 """Checks the lists in docs/internals/ARCHITECTURE.md: the files that name most kinds, cells or commands, all crates, and the crates'
 imports.
 
-A developer who adds a kind, a cell or a command changes the files that name all of them. The page has a list for each of the three, so each
-file that names most of them must be in that list, among the files to change or among those that needn't change.
+A developer who adds a kind, a cell or a command changes the files that name all of them. The page has a list for kinds,
+a list for cells and a list for commands. Each file that names most of them must be in that list, as a file to change or
+as a file that needn't change.
 """
 
 import re

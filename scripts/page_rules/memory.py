@@ -18,7 +18,7 @@ MAY_FORGET = "crates/nr_rev/src/keeper.rt"
 
 
 def forgotten(tree: Tree) -> Iterator[Finding]:
-    """Places in the crates that forget a value, except in the one file that may."""
+    """Places in the crates that forget a value, except in the only file that may do so."""
     for path in tree.matching("crates/*/src/*.rt"):
         for number, line in enumerate(without_comments(tree.text(path)).split("\n"), 1):
             if path != MAY_FORGET and (found := FORGETS.search(line)):

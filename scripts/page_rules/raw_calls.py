@@ -52,7 +52,7 @@ CALLS: dict[str, dict[str, int]] = {
     ".forever(": {},
 }
 
-# the functions above whose entries a contract checks; the others are read by eye
+# the functions above whose entries a contract checks; the other functions are read by eye
 HELD = {
     "Buffered::into_inner",
     "LoggedCallers::give_up",

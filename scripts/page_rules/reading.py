@@ -5,7 +5,7 @@ definitions are counted, and not imports. Comments count for a file, but not for
 in a premise, which another contract proves, that definition counts, but not the definitions that it uses: the law only
 says what follows from the premise.
 
-The definitions that the laws rest on are in files of their own, and each crate lists these files under one heading.
+The definitions that the laws rest on are in separate files, and each crate lists these files under one heading.
 """
 
 import re
@@ -240,7 +240,7 @@ def tables(tree: Tree) -> list[str]:
 
 
 def _in_words(tree: Tree, counted: set[tuple[str, str]]) -> Iterator[Finding]:
-    """Sentences whose numbers of definitions and lines differ from the counted ones."""
+    """Sentences whose numbers of definitions and lines differ from the counted numbers."""
     for page in filter(tree.has, PAGES):
         for block in prose(tree.text(page)):
             for numbers in IN_WORDS.findall(block.text):
@@ -249,7 +249,7 @@ def _in_words(tree: Tree, counted: set[tuple[str, str]]) -> Iterator[Finding]:
 
 
 def _differences(page: str, wanted: list[str]) -> Iterator[Finding]:
-    """The first row of the page's tables that differs from the computed one, is missing, or shouldn't be there."""
+    """The first row of the page's tables that differs from the computed row, is missing, or shouldn't be there."""
     _, heading, rest = page.partition(f"{HEADING}\n")
     at = page.count("\n", 0, len(page) - len(rest)) + 1
     section = rest.split("\n## ")[0].split("\n") if heading else []

@@ -208,7 +208,7 @@ def kinds_met(play):
 
 
 def a_hundred_sizes(play):
-    """Eighty sizes up to an ample one, and twenty near the smallest in which the program loads."""
+    """Eighty sizes up to an ample size, and twenty sizes near the smallest in which the program loads."""
     least = loads_in()
     ample = least
     while play(ample) != "whole":

@@ -61,7 +61,7 @@ def walk(steps: Sequence[Step], seed: str) -> bytes:
 
 @pytest.fixture(autouse=True)
 def plain() -> None:
-    """Fails, with the name of the missing program, unless both are built."""
+    """Fails, with the name of the missing program, unless both programs are built."""
     assert is_program(PLAIN), f"{PLAIN} is no program: `make agree` builds it, and NETREV_PLAIN=FILE names another"
 
 

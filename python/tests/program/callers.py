@@ -34,7 +34,7 @@ def end_and_reset(caller):
 
 
 def play_reset(folder):
-    """Front 1 is served meanwhile, and so is the next caller at front 0."""
+    """Callers at front 0 reset their connections. Front 1 is served meanwhile, and so is the next caller at front 0."""
     with Server(file_of("large", LARGE.encode())(folder).decode(), fronts=2, connections=3) as server:
         expect("the replies", [f"at {ARRIVED}", "bye"], talk(server.call(1), [f"stepi {ARRIVED}", "quit"]))
         other = server.call(1)

@@ -47,7 +47,7 @@ STORED = (
     (OTHER, 1, MADE + OPENED + PARKED + WOKEN + b"step 11: fault 109 answer\n"),
 )
 
-# the words, the status, standard output, and standard error
+# the arguments, the status, standard output, and standard error
 REFUSED = (
     ("no file named", ["changes"], 2, b"", USAGE),
     ("two files", ["changes", READS, READS], 2, b"", USAGE),

@@ -8,9 +8,9 @@ so.
 
 The search goes from the beginning, and decides at each point which front's line comes next. A query or a fault that
 fits is taken at once. This loses no history, because the line changes nothing and could come this early in any history.
-If several commands fit, those whose replies show where they began (such as the reply to `stepi`) are tried first. The
-search doesn't leave a position that remaining lines need and can't reach again, and doesn't delete a mark that another
-line still shows. It doesn't enter the same state with the same remaining lines twice.
+If several commands fit, the search first tries the commands whose replies show where they began (such as the reply to
+`stepi`). The search doesn't leave a position that remaining lines need and can't reach again, and doesn't delete a mark
+that another line still shows. It doesn't enter the same state with the same remaining lines twice.
 """
 
 from __future__ import annotations
@@ -121,7 +121,7 @@ class Search:
         return [[clue._replace(stands_at=clue.stands_at & reached) for clue in front] for front in clues]
 
     def count(self, front: int, at: int, more: int) -> None:
-        """Adds a line to the remaining ones, or removes it."""
+        """Adds a line to the remaining lines, or removes it from them."""
         clue = self.clues[front][at]
         self.unplaced += more * self.fronts[front][at].is_placed()
         if clue.leads_to is not None:
@@ -199,7 +199,7 @@ class Search:
 
     def may_go_now(self, front: int) -> bool:
         """Whether the front's next line may come as soon as it fits: it deletes a mark or checkpoint, and no reply of
-        the session says that there is room for no more of them."""
+        the session says that no more of them fit."""
         return bool(self.clue_of(front).takes_away) and not self.are_full
 
     def worth(self, choice: Choice) -> tuple[bool, int]:

@@ -269,7 +269,8 @@ def test_elsewhere(parked):
 
 
 def other_addresses():
-    """This machine's addresses other than 127.0.0.1: further ones of 127.0.0.0/8, and those of its network."""
+    """This machine's addresses other than 127.0.0.1: further addresses of 127.0.0.0/8, and its addresses in the
+    network."""
     found = [(socket.AF_INET, "127.0.0.2"), (socket.AF_INET, "127.255.255.254")]
     # connecting a datagram socket sends nothing: it only finds the local address
     for family, far in ((socket.AF_INET, "192.0.2.1"), (socket.AF_INET6, "2001:db8::1"), (socket.AF_INET6, "::1")):
@@ -396,7 +397,7 @@ def test_hostile(parked):
 
 
 def play_taken_port(parked):
-    """The middle one of three ports is in use: the other two are served."""
+    """The middle port of three is in use; the other two ports are served."""
     taken = socket.socket()
 
     def take(first):

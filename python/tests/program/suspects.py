@@ -58,7 +58,7 @@ STORED = (
     (ANSWERS, 0, b"ok 12 steps\n"),
     (OTHER, 1, b"step 11: fault 109 answer\n"),
 )
-# the words, the status, the output, and the text on standard error
+# the arguments, the status, the output, and the text on standard error
 REFUSED = (
     ("no file named", ["suspects"], 2, b"", USAGE),
     ("two files", ["suspects", LOST, LOST], 2, b"", USAGE),
@@ -114,7 +114,7 @@ def test_traffic(folder: Path, bug: Bug) -> None:
 
 @pytest.mark.long
 def test_random(folder: Path, request: pytest.FixtureRequest) -> None:
-    """Random recordings; their lines must include some of each hunt."""
+    """Random recordings; their lines must include some lines of each hunt."""
     path, listed = folder / "random.jsonl", dict.fromkeys(HUNTS, 0)
     for seed in range(max(IN_THE_GATE, request.config.getoption("--random"))):
         print(f"seed {seed}")

@@ -237,7 +237,7 @@ def inputs():
     yield Function("output that is a terminal, which is gone: run", play_output_terminal_gone)
 
 
-# valid words with a file that doesn't exist, and words that are usage errors
+# valid arguments with a file that doesn't exist, and arguments that are usage errors
 GREATEST = ["--fronts=64", "--port", "65472", "--workers=16", "--journal", "1000000"]
 ASKING: tuple[tuple[str, list[str]], ...] = (
     ("a name without letters", ["check", ""]),

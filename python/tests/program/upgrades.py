@@ -73,7 +73,7 @@ USAGE = b"""usage: netrev run FILE
        netrev suspects FILE
        netrev serve FILE --port P [--fronts N] [--workers W] [--journal H] [--connections C]
 """
-# the words, the status, the output, and the text on standard error
+# the arguments, the status, the output, and the text on standard error
 REFUSED = (
     ("no file named", ["upgrade"], 2, b"", USAGE),
     ("two files", ["upgrade", ANSWERS, ANSWERS], 2, b"", USAGE),
@@ -91,13 +91,13 @@ LOOKS = b"".join(
 
 
 def ended(words, given=b""):
-    """The status, the output and the errors of netrev with these words."""
+    """The status, the output and the errors of netrev with these arguments."""
     ran = subprocess.run([NETREV, *words], input=given, capture_output=True, timeout=PATIENCE, check=False)
     return ran.returncode, ran.stdout, ran.stderr
 
 
 def played(words, status, output, errors=b""):
-    """Runs netrev with these words, and checks the status, the output and the errors."""
+    """Runs netrev with these arguments, and checks the status, the output and the errors."""
     expect("status, output and errors", (status, output, errors), ended(words))
 
 

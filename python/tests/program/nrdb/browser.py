@@ -14,7 +14,7 @@ CHROMIUM = next(
 PATIENCE = 60  # seconds
 LIGHT, DARK = 1, 0  # the colour schemes that a browser may ask for
 
-# The tools of a script in the page: wheel, keys, pointer, text at places, and errors.
+# Tools for a script in the page: wheel, keys, pointer, text at places, and errors.
 HANDS = """
 const wrong = [];
 addEventListener("error", (event) => wrong.push(String(event.message)));

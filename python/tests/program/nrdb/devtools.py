@@ -1,5 +1,5 @@
 """Drives chromium through its DevTools protocol. Several people have pages side by side, each with a separate profile.
-It uses a pair of pipes, so that no port is open."""
+It talks to chromium over a pair of pipes, so that no port is open."""
 
 from __future__ import annotations
 
@@ -102,7 +102,7 @@ class Chromium:
         return message
 
     def page(self, address: str) -> Page:
-        """A new page for a person, which shares nothing with the others."""
+        """A new page for a person, which shares nothing with other pages."""
         person = self("Target.createBrowserContext")["browserContextId"]
         target = self("Target.createTarget", url="about:blank", browserContextId=person)["targetId"]
         session = self("Target.attachToTarget", targetId=target, flatten=True)["sessionId"]

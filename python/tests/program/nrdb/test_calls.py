@@ -21,7 +21,7 @@ LOST = EXAMPLES / "lost-wakeup.jsonl"
 
 
 def said(path, *lines):
-    """The output for these lines, without the text before the first one."""
+    """The output for these lines, without the text before the first line."""
     words = [word for line in lines for word in ("-ex", line)]
     return nrdb("--batch", *words, path).split(f"(netrev) {lines[0]}\n", 1)[1]
 

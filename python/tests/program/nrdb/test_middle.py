@@ -42,7 +42,7 @@ class Middle(unittest.TestCase):
         self.assertIn("| goroutine 1: ", nrdb("--batch", "-ex", "goto 7", "-ex", "goroutine 1", self.path))
 
     def used_again(self):
-        """Number 0 names another goroutine after step 6. Steps 4, 5 and 7 are by number 0."""
+        """Goroutine number 0 makes steps 4, 5 and 7, but the number names another goroutine after step 6."""
         lines = [{"where": 1, "steps": self.steps}, {"taken": [[0, 0, 42], [0, 6, 99]]}]
         self.path.with_suffix(".where").write_text("".join(f"{json.dumps(line)}\n" for line in lines))
 

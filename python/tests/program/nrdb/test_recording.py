@@ -1,5 +1,5 @@
-"""The text of recordings: steps are found by number, whatever lines are between them. Also the holders of references,
-in small recordings."""
+"""The text of recordings: steps are found by number, whatever lines are between them. Other tests are about the holders
+of references in small recordings."""
 
 import itertools
 import json

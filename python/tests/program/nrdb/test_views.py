@@ -49,8 +49,8 @@ def open_descriptors(recording, position):
 
 
 def balance(recording, words, position):
-    """How many references of a socket each goroutine has, from the changes of the count in the lock word at the
-    goroutine's steps."""
+    """How many references to a socket each goroutine holds, found from how the goroutine's steps change the count in
+    the lock word."""
     references = [0 if word == "absent" else lock_fields(word)[3] for word in words]
     held: Counter[int] = Counter()
     for step in range(1, position + 1):

@@ -27,7 +27,7 @@ def opened(page: str) -> str:
 
 
 def rows_of(data: Any) -> list[tuple[str, str, bool]]:
-    """The waits of goroutines without steps: the goroutine's name, what it waits for, and whether the wait lasts to the
+    """The waits of goroutines without steps: the goroutine's name, what it does, and whether the wait lasts to the
     end."""
     texts = data["texts"]
     return [(data["others"][-1 - g][0], texts[does], not last) for g, _, last, does, _, _ in data["rows"] if g < 0]

@@ -475,7 +475,7 @@ func fastest(address string, isBad bool) net.Conn {
 	return first // BUG latecomer
 }
 
-// latecomer: the first of two dialed connections is used, and the other one stays in the channel.
+// latecomer: the first of two dialed connections is used, and the other connection stays in the channel.
 func latecomer(isBad bool) {
 	listener := listen()
 	go serve(listener, echo)

@@ -149,7 +149,7 @@ func sendfile() {
 	time.Sleep(moment)
 }
 
-// Several buffers are written with one call, also more than the other end accepts at once.
+// Several buffers are written with one call, even if they have more bytes than the other end accepts at once.
 func buffers(network string) {
 	server := listen(network)
 	got := make(chan int64)
@@ -169,7 +169,7 @@ func buffers(network string) {
 	ask(client, "still there")
 }
 
-// Listeners to which no client connects, or only one.
+// Listeners to which no client or only one client connects.
 func idle() {
 	for i := 0; i < 3; i++ {
 		go serve(listen("tcp"), echo)
