@@ -24,7 +24,7 @@ PATIENCE = 4  # seconds after which a run counts as hanging
 
 
 def shows(program: Path, name: str, delays: int) -> bool:
-    """Whether the race occurs in one run; a run that doesn't end hangs."""
+    """Whether the race occurs in one run; it does if the run doesn't end in time."""
     logs = logs_folder(POINTS)
     settings = {
         "NETREV_LOG": str(logs / "log"), "NETREV_POINTS": str(POINTS), "NETREV_LINES": "0",

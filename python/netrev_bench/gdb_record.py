@@ -1,9 +1,10 @@
 """Measures GDB's `record full`, the alternative without netrev, on a small C program:  python3 python netrev_bench.gdb_record [ROUNDS]
 
-The program (gdb_record.c) makes 1,000 rounds, or ROUNDS: it takes a lock, writes to a socket pair, reads from it and releases the lock.
-Prints, per second, how many rounds the program makes alone, how many instructions and rounds GDB records, how many instructions a
-`reverse-stepi 10000` goes back, and how many a `reverse-continue` over the whole record examines, with a watchpoint that never hits. Each
-figure is the best of three runs, in elapsed time. Without gdb or a C compiler it only says so.
+The program (gdb_record.c) makes 1,000 rounds, or ROUNDS: it takes a lock, writes to a socket pair, reads from it and
+releases the lock. Prints, per second, how many rounds the program makes alone, how many instructions and rounds GDB
+records, how many instructions a `reverse-stepi 10000` goes back, and how many a `reverse-continue` over the whole
+record examines, with a watchpoint that never hits. Each figure is the best of three runs, in elapsed time. If gdb or a
+C compiler is missing, it only prints that.
 """
 
 import re

@@ -77,7 +77,7 @@ def tracebacks() -> Iterator[io.StringIO]:
 
 
 def fault_of(seed: str, program: str) -> str:
-    """The fault of a seed's case, or an empty text."""
+    """The fault that a seed's case finds; empty if it finds none."""
     sort = seed.rsplit("-", 2)[1]
     folder = Path(tempfile.mkdtemp(prefix="netrev-fuzz-"))
     try:

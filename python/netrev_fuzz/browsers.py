@@ -107,7 +107,7 @@ def body(dice: random.Random, length: int) -> bytes:
 
 
 def wrong(seed: str, folder: Path, program: str) -> str:
-    """The fault in the effects of a seed's lines, or an empty text."""
+    """The fault in the effects of a seed's lines; empty if they are right."""
     dice = random.Random(seed)
     recording, _ = Author(dice).recording(dice.choice([5, 20]))
     path = folder / "recording.jsonl"
@@ -144,7 +144,7 @@ def typed(dice: random.Random, shared: Shared, told: Told, length: int) -> str:
 
 
 def files_wrong(folder: Path) -> str:
-    """The fault if the files in nrdb's folder have changed, or an empty text."""
+    """The fault if the files in nrdb's folder have changed; empty if they haven't."""
     found = sorted(os.listdir(folder))
     if found != ["recording.jsonl", "recording.where"] or (folder / found[1]).read_text() != "mine":
         return f"files were written: {found}"

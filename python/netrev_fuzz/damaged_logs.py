@@ -191,7 +191,7 @@ def tests_of(seed: str) -> bytes:
 
 
 def wrong(seed: str, folder: Path) -> str:
-    """The fault of what a seed's log becomes, or an empty text."""
+    """The fault in the result of converting a seed's log; empty if the result is right."""
     reading, writing = os.pipe()
     process = os.fork()
     if process == 0:

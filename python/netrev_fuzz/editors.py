@@ -108,7 +108,7 @@ def conversation(seed: str, path: str) -> tuple[list[dict[str, Any]], bytes]:
 
 
 def wrong(seed: str, folder: Path, program: str) -> str:
-    """The fault of the messages to the editor, or an empty text."""
+    """The fault in the messages to the editor; empty if they are right."""
     path = folder / "recording.jsonl"
     recording, _ = Author(random.Random(f"{seed} recording")).recording(20)
     path.write_bytes(write_plain(recording))

@@ -369,7 +369,7 @@ def log_of(program: Program) -> Log:
 
 
 def wrong(seed: str) -> str:
-    """The fault in the recording of a seed's log, or an empty text."""
+    """The fault in the recording of a seed's log; empty if the recording is right."""
     return wrong_with(program_of(seed))
 
 
@@ -477,7 +477,7 @@ def socket_differs(program: Program, recording: Recording, machine: Machine, num
 
 
 def bytes_differ(points: list[tuple[Point, int]], steps: list[tuple[Step, Any]]) -> str:
-    """The socket that moved other bytes than it did in the log."""
+    """The socket that moved other bytes in the recording than in the log."""
     moved, had = Counter[tuple[int, str]](), Counter[tuple[int, str]]()
     for point, socket in points:
         if point.kind in (Kind.READ, Kind.WRITE) and point.b > 0:

@@ -115,7 +115,7 @@ def file_of(dice: random.Random, steps: int) -> tuple[bytes, bool]:
 
 
 def wrong(seed: str, folder: Path, program: str) -> str:
-    """The fault in what the views of a seed print or write, or an empty text."""
+    """The fault in the output and the files of a seed's views; empty if they are right."""
     dice = random.Random(seed)
     recording, _ = Author(dice).recording(dice.choice([4, 20, 60]))
     path = folder / "recording.jsonl"

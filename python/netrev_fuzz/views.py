@@ -43,7 +43,7 @@ class Judge:
         return [] if shown in ("-", "absent") else [int(word) for word in shown.split()]
 
     def wrong(self, line: str, event: Event) -> str:
-        """The fault in an event that a line caused, or an empty text."""
+        """The fault in an event that a line caused; empty if the event is right."""
         judge: Callable[[str, Any], str] = getattr(self, f"wrong_{event['event']}")
         return judge(line, event)
 

@@ -81,7 +81,7 @@ class Heard(unittest.TestCase):
         self.says = -1
 
     def asked(self, *messages: bytes) -> Request:
-        """Sends these requests, and returns the first one."""
+        """Sends these requests, and returns the first request."""
         os.write(self.says, b"".join(messages))
         request = self.hearing.request()
         assert request is not None

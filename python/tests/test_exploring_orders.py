@@ -1,5 +1,5 @@
-"""Each schedule respects the program's orders and what the network may answer. The calls that hang are those whose
-deadline was set, and a deadline that no goroutine sees pass in the recording may pass."""
+"""Each schedule respects the program's orders and what the network may answer. A hang is a finding only if the call's
+deadline was set, and a deadline may pass that no goroutine sees pass in the recording."""
 
 import unittest
 from itertools import islice
@@ -103,7 +103,7 @@ class Planted(unittest.TestCase):
 
 
 def broken(script: Script, delay: Delay, orders: Pairs) -> Pairs:
-    """The orders that a schedule violates: the second step comes before the first, or without it."""
+    """The orders that a schedule violates, because their second step comes before their first step."""
     player = Player(script, (delay,))
     player.end(2_000)
     at = {made.number: at for at, made in enumerate(player.steps) if made.number}

@@ -1,4 +1,5 @@
-"""The program that reads source lines: it comes with Go, or is built once for each release; a shell script stands in for Go."""
+"""The program that reads source lines: it comes with Go, or is built once for each release; a shell script is called in
+place of Go."""
 
 import os
 import struct

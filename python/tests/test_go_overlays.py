@@ -1,6 +1,6 @@
-"""The recorder's rules fit Go 1.19 and 1.27 as they did when they were tried: each changed file has the stored checksum (this repository
-contains no source of Go). For changes planted into Go, the stored lines say what isn't recorded. It needs Go as netrev_go.fetching fetches
-it.
+"""The recorder's rules still fit Go 1.19 and 1.27: each changed file has the stored checksum (this repository contains
+no source of Go). For changes planted into Go, the stored lines say what isn't recorded. It needs Go as
+netrev_go.fetching fetches it.
 
     /usr/bin/python3 python tests.test_go_overlays    stores both anew"""
 

@@ -1,5 +1,5 @@
-"""No signal loses a run: the program gets it, netrev-go ends with the program's status, and the recording is made. A shell script stands in
-for Go."""
+"""No signal loses a run: the program gets it, netrev-go ends with the program's status, and the recording is made. A
+shell script is called in place of Go."""
 
 import os
 import pty

@@ -52,7 +52,7 @@ SAYS = {
 
 @contextlib.contextmanager
 def in_source(recording: Recording) -> Iterator[Recording]:
-    """A recording whose source exists and isn't newer than it."""
+    """A recording whose source exists and isn't newer than the recording."""
     recording.lines.written = float("inf")
     with in_the_folder_of_the_source(GONE):
         yield recording

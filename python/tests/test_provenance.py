@@ -1,4 +1,4 @@
-"""`nrdb --version` says which netrev it runs: the program's path, whether that is the installed one, its checksum,
+"""`nrdb --version` says which netrev it runs: the program's path, whether it is the installed program, its checksum,
 and its proofs."""
 
 import hashlib

@@ -1,5 +1,5 @@
-"""Reducing without netrev: replayed units give the recording's own steps; when a unit is removed, the units that need it go too; and
-numbers are assigned anew."""
+"""Reducing without netrev: replayed units give the recording's own steps; when a unit is removed, the units that need
+it are removed too; and new numbers are assigned."""
 
 import tempfile
 import unittest

@@ -1,4 +1,4 @@
-"""The scout, which queries positions with its own netrev, or with a borrowed one."""
+"""The scout, which queries positions with its own netrev or with the session's."""
 
 import gc
 from pathlib import Path

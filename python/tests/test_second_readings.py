@@ -57,8 +57,9 @@ def steps_of(text: Text, worlds: list[World]) -> Steps:
 
 
 def holders(steps: Steps, s: int) -> list[tuple[int, int, str]]:
-    """A step that raises the count of a lock word takes a reference. A step that lowers it gives back the newest reference of that side
-    that belongs to the goroutine, or else the newest of that side, or else the newest of all."""
+    """A step that raises the count of a lock word takes a reference. A step that lowers the count gives back a
+    reference: the goroutine's newest reference of that side, or else the newest reference of that side, or else the
+    newest reference of all."""
     held: list[tuple[int, int, str]] = []
     for number, (kind, *arguments), before, after in steps:
         if s >= len(after.sockets):

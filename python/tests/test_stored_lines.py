@@ -2,7 +2,7 @@
 Because the texts are long, a checksum is stored for every few answers.
 
     /usr/bin/python3 python tests.test_stored_lines stores new checksums /usr/bin/python3 python tests.test_stored_lines
-    NAME prints a recording's answers, to compare them with earlier ones"""
+    NAME prints a recording's answers, to compare them with earlier answers"""
 
 import hashlib
 import json

@@ -554,7 +554,7 @@ def random_step(dice: random.Random, world: World) -> Step:
 
 @pytest.mark.parametrize("hunt, steps, lines", ROWS)
 def test_row(hunt: str, steps: Steps, lines: list[str]) -> None:
-    """The lines of a row's hunt, and no other lines except those that come with them."""
+    """The lines of a row's hunt. Checks that the only other lines are those of hunts that may come with it."""
     end = f"ok {len(steps)} steps"
     assert suspects(text_of(steps), Observer(), [hunt]) == ([*lines, end], True)
     others = [other for other in HUNTS if other != hunt and (hunt, other) not in TOGETHER]

@@ -1,5 +1,6 @@
-"""The rules of `info suspects`: each finds its bug in a small recording, and not in a similar correct one; the bugs of the examples and
-bugs planted at random are listed first; traffic without a bug has no suspect."""
+"""The rules of `info suspects`: each rule finds its bug in a small recording, and finds nothing in a similar correct
+recording; the bugs of the examples and bugs planted at random are listed first; traffic without a bug has no
+suspect."""
 
 import json
 import unittest
@@ -42,7 +43,7 @@ USED_AGAIN: Steps = [
 
 
 class Pair(NamedTuple):
-    """A recording with a bug, and a similar one without it."""
+    """A recording with a bug, and a similar recording without the bug."""
 
     bad: Steps
     good: Steps

@@ -1,4 +1,5 @@
-"""Waits outside the poller: from points of the recorder, in NAME.where, and in the text about a hanging call."""
+"""Waits outside the poller: points of the recorder become waits in NAME.where, and the text about a hanging call names
+them."""
 
 import json
 import unittest

@@ -133,7 +133,7 @@ class Listener:
         return self.until(lambda event: event["event"] == name)
 
     def asks(self, line: str) -> list[Event]:
-        """Types a line; returns the events from its beginning to its end, without those about participants."""
+        """Types a line; returns the events from its beginning to its end, without the events about participants."""
         taken = self._address.type(line, Netrev_Browser=str(self.you["number"]))
         assert taken.status == 202, taken
         mine = {"who": self.you["who"], "line": line}

@@ -234,7 +234,7 @@ class Worker:
 
 
 def tried(mutants: list[Mutant], topics: Topics, room: Path, at_once: int, python: str) -> Iterator[Verdict]:
-    """The verdicts, as they come."""
+    """The verdicts, in the order in which they are reached."""
     queue: SimpleQueue[Mutant] = SimpleQueue()
     for mutant in mutants:
         queue.put(mutant)

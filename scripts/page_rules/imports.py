@@ -117,9 +117,9 @@ def imports(tree: Tree) -> Iterator[Finding]:
 
 
 def written(tree: Tree) -> str:
-    """The page, with the table's column of imports as they are in the tree, in the order of the rows. The packages, their
-    descriptions and the row that imports everything above it stay; an import from a lower row isn't written, because it is a fault of
-    the tree."""
+    """The page with a new column of imports in its table: the imports in the tree, in the order of the rows. The
+    packages, their descriptions and the row that imports everything above it stay; an import from a lower row isn't
+    written, because it is a fault of the tree."""
     rows, lines = rows_of(tree), tree.text(PAGE).split("\n")
     met: dict[str, set[str]] = {row.name: set() for row in rows}
     for _, _, own, _, other in uses(tree, rows):

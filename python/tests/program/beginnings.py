@@ -69,7 +69,7 @@ def every_beginning(folder: Path, whole: bytes, differs: Optional[int]) -> None:
 
 
 def expect_in_turn(sizes: Sequence[int], wanted: Sequence[str], came: str) -> None:
-    """Checks that the output for each beginning is the expected one."""
+    """Checks that the output for each beginning is as expected."""
     for size, one in zip(sizes, wanted):
         expect(f"check of the first {size} bytes", one, came[: len(one)] if came.startswith(one) else came[:500])
         came = came[len(one) :]

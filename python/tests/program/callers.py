@@ -34,7 +34,8 @@ def end_and_reset(caller):
 
 
 def play_reset(folder):
-    """Callers at front 0 reset their connections. Front 1 is served meanwhile, and so is the next caller at front 0."""
+    """While a caller at front 0 resets its connection, front 1 is served; then the next caller at front 0 is served
+    too."""
     with Server(file_of("large", LARGE.encode())(folder).decode(), fronts=2, connections=3) as server:
         expect("the replies", [f"at {ARRIVED}", "bye"], talk(server.call(1), [f"stepi {ARRIVED}", "quit"]))
         other = server.call(1)

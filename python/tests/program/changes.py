@@ -105,7 +105,7 @@ def test_recording(path: Path) -> None:
 
 
 def test_random(folder: Path, request: pytest.FixtureRequest) -> None:
-    """Random recordings, first with the least limits and then with larger ones."""
+    """Random recordings, first with the least limits and then with larger limits."""
     for seed in range(request.config.getoption("--random")):
         dice = random.Random(f"changes {seed}")
         recording, _ = Author(dice).recording(dice.choice([3, 12, 40, 120]))

@@ -23,7 +23,7 @@ SETTINGS = (
     "NO_COLOR",
 )
 
-# A toolchain that has already compiled netrev. Like the real one, its `rt try` runs the program as a child in a
+# A toolchain that has already compiled netrev. Like the real toolchain's, its `rt try` runs the program as a child in a
 # temporary folder; when it is interrupted, it kills the child and removes the folder. The toolchain records each of its
 # calls.
 RT = """#!/bin/sh

@@ -1,10 +1,9 @@
 """Finds a history for the replies of all fronts of a session, or reports that none exists.
 
-A history is an order of all lines that keeps each front's own order, in which a line comes before another if its reply
-was read before the other was sent, and in which each reply is the one that netrev_machine's debugger gives after the
-commands before it. So a query shows a state that the session had between the query's sending and its reply, and that is
-no older than the last state its front has seen. Once the journal is full, each further command gets the reply that says
-so.
+A history is an order of all lines that keeps each front's own order. A line comes before another line if its reply was
+read before the other line was sent, and each reply is what netrev_machine's debugger replies after the earlier
+commands. So a query shows a state that the session had between the query's sending and its reply, and that is no older
+than the last state its front has seen. Once the journal is full, each further command gets the reply that says so.
 
 The search goes from the beginning, and decides at each point which front's line comes next. A query or a fault that
 fits is taken at once. This loses no history, because the line changes nothing and could come this early in any history.
@@ -187,7 +186,7 @@ class Search:
         self.state = state
 
     def choices(self) -> list[Choice]:
-        """Takes all lines that fit and change nothing. Returns the lines that fit after them, the best one last."""
+        """Takes all lines that fit and change nothing. Returns the lines that fit after them, the best line last."""
         while True:
             fitting = [(front, state) for front in self.open_fronts() if (state := self.behind(front)) is not None]
             calm = [choice for choice in fitting if self.next_of(choice[0]).is_calm()]

@@ -153,7 +153,7 @@ HEADERS = (
     (HEADER.replace("16", "65536"), 0),
 )
 
-# the lines after a header, the number of the faulty line (counting blank ones), and its fault
+# the lines after a header, the number of the faulty line (blank lines count), and its fault
 PLACES = (
     (["", " \t\r", '["jump"]'], 4, "103 unknown step"),
     (['["spawn"]', '["spawn"]]', "["], 3, "102 not JSON"),

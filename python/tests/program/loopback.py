@@ -208,7 +208,7 @@ def as_text(exchanged):
 
 
 def test_table(parked):
-    """Known replies: with room for one command, and for four."""
+    """The replies are known: with room for one command, and with room for four."""
     for journal, placed, moved in (
         (1, 1, ["fault 303 journal full", "at 3 of 12 forward"]),
         (4, 2, ["at 2", "at 2 of 12 forward"]),

@@ -46,7 +46,7 @@ class Exchange:
 
 
 class Wrong(Exception):
-    """Raised if the result isn't the expected one."""
+    """Raised if a result isn't as expected."""
 
 
 def expect(what, expected, came):

@@ -143,8 +143,8 @@ MOST_STEPS = 1_000_000
 
 @pytest.mark.long
 def test_greatest_numbers(folder: Path) -> None:
-    """The last possible goroutine, socket and descriptor are listed just as the first ones are, with steps up to the
-    last possible one."""
+    """The last possible goroutine, socket and descriptor are listed like any others, with steps up to the last possible
+    step."""
     path = folder / "greatest.jsonl"
     steps = ['["spawn"]'] * 4_095 + ['["sockopen",16,16]'] * 256 + [f'["pollopen",0,{s}]' for s in range(256)]
     event = len(steps) + 1

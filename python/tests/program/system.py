@@ -609,7 +609,7 @@ def signals():
 
 @contextmanager
 def answered_run():
-    """A `run` that has answered a line and waits for the next one."""
+    """A `run` that has answered a line and waits for the next line."""
     with started([NETREV, "run", FIRST], stdin=subprocess.PIPE, bufsize=0) as process:
         process.stdin.write(b"stepi\n")
         expect("the reply", b"at 1\n", process.stdout.readline())

@@ -1,5 +1,5 @@
 """The outputs that `netrev-go test` makes from recordings after a run: a page for each recording, and findings in other
-schedules of tests that passed. A script stands in for Go."""
+schedules of tests that passed. A script is called in place of Go."""
 
 import json
 import pathlib

@@ -101,7 +101,7 @@ class Client:
 
 
 class Adapter(Client):
-    """A client with an adapter of its own."""
+    """A client that has its own adapter."""
 
     def __init__(self) -> None:
         self.process = subprocess.Popen(

@@ -1,4 +1,4 @@
-"""The hunts of examples/hunts and examples/real, and two long generated ones: `info suspects`, and the command that it
+"""The hunts of examples/hunts and examples/real, and two long generated hunts: `info suspects`, and the command that it
 suggests, find each bug that a rule knows, and print the stored text. A recording with an answer that differs from the
 machine's is refused, and nrdb explains why."""
 

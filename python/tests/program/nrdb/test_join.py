@@ -52,7 +52,7 @@ class Joined:
 
 
 class Other:
-    """Another caller, at a front of its own."""
+    """Another caller, which has its own front."""
 
     def __init__(self, caller):
         self.caller, self.lines = caller, caller.makefile("rw")

@@ -64,7 +64,7 @@ class Views(unittest.TestCase):
         self.random = random.Random(SEED)
 
     def places(self, path):
-        """Random positions of a recording, and its ends."""
+        """Random positions of a recording, and its first and last position."""
         length = shown(path).length
         return sorted({0, length, *(self.random.randint(0, length) for _ in range(AT))})
 

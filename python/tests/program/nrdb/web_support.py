@@ -1,4 +1,4 @@
-"""`nrdb --web` in a process of its own, and the other participants of its session."""
+"""`nrdb --web` in a separate process, and the other participants of its session."""
 
 from __future__ import annotations
 

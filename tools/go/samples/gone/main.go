@@ -50,7 +50,7 @@ func serve(listener net.Listener, session func(net.Conn)) {
 	}
 }
 
-// echo answers each line with itself.
+// echo sends each line back.
 func echo(end net.Conn) {
 	defer end.Close()
 	for in := bufio.NewScanner(end); in.Scan(); {

@@ -57,7 +57,7 @@ func serveWeb(handler http.HandlerFunc) (*http.Server, string) {
 	return server, "http://" + listener.Addr().String()
 }
 
-// echo answers each line with itself.
+// echo sends each line back.
 func echo(end net.Conn) {
 	defer end.Close()
 	for in := bufio.NewScanner(end); in.Scan(); {
