@@ -151,7 +151,7 @@ def woken(replayed: Replayed, until: int, d: int, side: str) -> Optional[int]:
 
 
 def looked(replayed: Replayed, n: int, g: int, d: int, side: str) -> bool:
-    """Whether goroutine g checked a side in step n, or took its readiness."""
+    """Whether goroutine g checked a side in step n, or took the side's readiness."""
     if checked(replayed, n) == (g, d, side):
         return True
     return replayed.step(n)[0] in TAKES_READINESS and replayed.step(n)[1] == g and takes(replayed, n, d, side)

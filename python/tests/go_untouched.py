@@ -2,7 +2,7 @@
 output, status and files.
 
     python3 python tests.go_untouched [RELEASE ..] prints a line for each program, with these releases of Go or with all
-    that are installed"""
+    installed releases"""
 
 import contextlib
 import os

@@ -39,7 +39,7 @@ class PlainBoard(Board):
 
 
 class PlainPlayer(Player):
-    """A player without the stored recorded run, in which every waiting goroutine checks again."""
+    """A player that doesn't reuse the recorded run, and in which every waiting goroutine checks again."""
 
     def _note(self, g: int, place: Place, answer: Answer, status: Status) -> None:
         pass

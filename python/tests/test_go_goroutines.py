@@ -33,7 +33,7 @@ STEPS = [(0, 1, 1), (10, 1, 2), (20, 1, 3)]
 
 
 class Points:
-    """Points of a log, each a microsecond after the one before."""
+    """Points of a log, each of which is a microsecond after the previous point."""
 
     def __init__(self) -> None:
         self.points: list[Point] = []

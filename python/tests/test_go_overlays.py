@@ -1,8 +1,8 @@
 """The recorder's rules still fit Go 1.19 and 1.27: each changed file has the stored checksum (this repository contains
-no source of Go). For changes planted into Go, the stored lines say what isn't recorded. It needs Go as
-netrev_go.fetching fetches it.
+no source of Go). For changes planted into Go, the stored lines say what isn't recorded. It needs the Go that
+netrev_go.fetching fetches.
 
-    /usr/bin/python3 python tests.test_go_overlays    stores both anew"""
+    /usr/bin/python3 python tests.test_go_overlays stores new checksums and lines"""
 
 import hashlib
 import json

@@ -112,7 +112,8 @@ Made = tuple[int, int, int]
 
 
 def random_waits(seed: int) -> tuple[list[Point], list[Made]]:
-    """Points of goroutines that wait, wake and start others, make timers and end; and steps, by the numbers of their points."""
+    """Points of goroutines that wait, wake and start other goroutines, make timers, and end; and the steps, by the
+    numbers of their points."""
     dice, points, steps = random.Random(seed), list[Point](), list[Made]()
     for number in range(100):
         kind = dice.choice(

@@ -1,5 +1,5 @@
-"""A recorded program leaves the same results as without recording: output, status, descriptors and files. It needs Go 1.27 as
-netrev_go.fetching fetches it."""
+"""A recorded program leaves the same results as without recording: output, status, descriptors and files. It needs the
+Go 1.27 that netrev_go.fetching fetches."""
 
 import os
 import re

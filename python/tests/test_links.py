@@ -1,4 +1,4 @@
-"""No file is written through another user's link, which could lead to one of this user's files."""
+"""No file is written through another user's link, because the link could lead to a file of this user."""
 
 import errno
 import os
@@ -16,7 +16,7 @@ OTHER = 12_345  # a user
 
 @pytest.fixture
 def link(folder: Path, monkeypatch: pytest.MonkeyPatch) -> Path:
-    """Another user's link to a file of this user's."""
+    """Another user's link to a file of this user."""
     (folder / "own").write_text("own text")
     made = folder / "x.jsonl"
     made.symlink_to("own")

@@ -34,7 +34,7 @@ Choice = tuple[int, State]  # a front, and the state after its next line
 
 
 class Clue(NamedTuple):
-    """The constraints that a reply puts on its place in a history, whatever lines come before it."""
+    """The constraints that a reply puts on its place in a history, whatever the earlier lines are."""
 
     leads_to: Optional[int] = None  # the position after it
     stands_at: frozenset[int] = frozenset()  # the positions at which it may have been answered, if there are few

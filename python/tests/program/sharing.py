@@ -199,7 +199,8 @@ CLOCK = count(1)
 
 @dataclass
 class Talker:
-    """A caller that has at most this many unanswered lines at a time, and records when each was sent and answered."""
+    """A caller that has at most this many unanswered lines at a time, and records when each line was sent and
+    answered."""
 
     caller: socket.socket
     lines: list

@@ -15,7 +15,8 @@ RECORDING = re.compile(r"(?:examples|python/tests/caused)/[\w/-]+\.jsonl")
 
 
 def sessions(text):
-    """The blocks of a page that begin with a prompt, each with the last recording named before it."""
+    """The blocks of a page that begin with a prompt, each with the recording that the page names last before the
+    block."""
     for block in re.finditer(r"(?:^    .*\n)+", text, re.MULTILINE):
         lines = [line[4:] for line in block[0].splitlines()]
         if lines[0].startswith(PROMPT):
