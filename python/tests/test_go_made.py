@@ -108,8 +108,8 @@ class Channels(unittest.TestCase):
 
 class Dials(unittest.TestCase):
     def dials(self) -> Points:
-        """Three failed dials: the context of the first was cancelled, the system refused the second, and the third
-        timed out."""
+        """Three failed dials: the context of the first was cancelled, the system refused the second, and the third,
+        which only Go's own code made, timed out."""
         points = Points().add(Kind.MAKES, 7, CHANNEL).add(Kind.MAKES, 7, CHANNEL).at(3)
         points.add(Kind.CHANNEL_CLOSED, 7, CHANNEL, stack=4)
         points.add(Kind.DIAL_FAILED, 7, CHANNEL, CANCELLED, 0, stack=4).at(12)
