@@ -57,11 +57,14 @@ class Topics:
 
     def tests_of(self, mutant: Mutant) -> list[Test]:
         """The tests for a mutant of Python code, the fastest group first. If no test called the function, perhaps because it is new, these
-        are a few tests of its file."""
+        are a few tests of its file. Tests that `topics.txt` names for the file come first."""
+        files = self.files_of(mutant.file)
+        named = [test for test in self.tests if test.name.partition("::")[0] in files]
         called = self._of_functions[f"{mutant.file}|{mutant.code}"] if mutant.is_inside else []
         if called:
-            return quickest(called, self.most)
-        return quickest(self._of_files[mutant.file], self.most / FEW if mutant.is_inside else self.most)
+            return [*named, *quickest(called, self.most)]
+        most = self.most / FEW if mutant.is_inside else self.most
+        return [*named, *quickest(self._of_files[mutant.file], most)]
 
     def files_of(self, file: str) -> list[str]:
         """The test files that `topics.txt` names."""

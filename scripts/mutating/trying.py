@@ -24,7 +24,10 @@ from .topics import Test, Topics
 
 ROOT = Path(__file__).resolve().parent.parent.parent
 PACKAGES = ("python/nrdb", "python/netrev_calls", "python/netrev_go")
-UNTOUCHED = ("messages",)  # modules, or folders of modules, that contain only texts
+UNTOUCHED = (
+    "messages",  # texts
+    "costs", "fetching", "real", "results", "suites",  # measure the recorder; no command uses them
+)  # fmt: skip
 FOUND, SURVIVED, UNTESTED, UNBUILT = "found", "survives", "no test calls it", "can't be compiled"
 FAILS_ANYWAY = "its test fails without it too"
 PATIENCE, GO_PATIENCE = 600, 1_800  # seconds
