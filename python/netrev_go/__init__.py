@@ -1,1 +1,1 @@
-"""netrev-go: records an unchanged Go program, and makes recordings from its log (docs/internals/INSTRUMENTING.md). It is unproved."""
+"""netrev-go records unchanged Go programs, and makes recordings from their logs (docs/internals/INSTRUMENTING.md). It is unproved."""

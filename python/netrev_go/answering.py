@@ -16,7 +16,7 @@ class Unconvertible(Exception):
 
 
 def parts(count: int, most: int) -> list[int]:
-    """A number of bytes, split into parts that a step can move: mostly one part."""
+    """A number of bytes, split into parts that each fit into one step: mostly one part."""
     if 0 < count <= most:
         return [count]
     return [most] * (count // most) + ([count % most] if count % most else [])
@@ -38,7 +38,7 @@ def side_of(point: Point) -> str:
 
 
 def lock_answer(kind: int, was_closed: bool, bits: int) -> str:
-    """The answer of Go's function: the value in the log, or that the word was closed."""
+    """The answer of Go's function: the logged value, or the answer for a closed word."""
     if kind in UNLOCKING:
         return "last" if bits & 2 else "notlast"
     if was_closed:
@@ -47,8 +47,8 @@ def lock_answer(kind: int, was_closed: bool, bits: int) -> str:
 
 
 def can_answer(socket: Socket, point: Point) -> bool:
-    """Whether the machine has an answer for the result of a read or a write. It has none for most errors, for an EPIPE that the other end
-    caused, and for an output that is full of bytes that aren't recorded."""
+    """Whether the machine has an answer for the result of a read or a write. The machine has no answer for most errors, for an EPIPE that
+    the other end caused, and for an output that is full of unrecorded bytes."""
     if point.b > 0:
         return True
     if point.c == AGAIN:

@@ -68,7 +68,7 @@ def suspects(netrev: str, recording: pathlib.Path) -> list[str]:
 
 
 class Asked:
-    """A program that runs in the background, at most until the end of a `with`."""
+    """A program that runs in the background, and is ended when the `with` block ends."""
 
     def __init__(self, words: list[str], **environment: str) -> None:
         self._words, self._environment = words, os.environ | environment
@@ -114,8 +114,8 @@ class Check(Asked):
 
 
 class Causes(Asked):
-    """Why calls failed or hang in a program that failed, according to nrdb, which gets the changes of the steps from netrev, or computes
-    them itself if netrev is slow."""
+    """nrdb's reasons why calls failed or hang in a program that failed. nrdb gets the changes of the steps from netrev, or computes them
+    itself if netrev is slow."""
 
     def __init__(self, netrev: str, recording: pathlib.Path) -> None:
         super().__init__([sys.executable, str(PACKAGES), "nrdb.causes", file_word(recording)], NETREV=netrev)
@@ -137,6 +137,6 @@ def hanging(values: dict[tuple[str, int], str]) -> dict[int, str]:
 
 
 def never_closed(values: dict[tuple[str, int], str]) -> dict[int, int]:
-    """The closed sockets with references left, and the number of those references."""
+    """The closed sockets that still have references, with the number of references."""
     words = {number: int(word) for (cell, number), word in values.items() if cell == "lock" and word.isdigit()}
     return {number: word >> 3 & 2**20 - 1 for number, word in words.items() if word & 1 and word >> 3 & 2**20 - 1}

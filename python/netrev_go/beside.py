@@ -1,4 +1,4 @@
-"""A log's facts about sockets besides steps: which two are the ends of one connection, and system errors without a step."""
+"""A log's facts about sockets that aren't steps: which two sockets are the ends of one connection, and system errors without a step."""
 
 from __future__ import annotations
 
@@ -25,7 +25,7 @@ OF_IPV4, LOOPBACK, UNSPECIFIED = 1, 3, 4  # kinds of addresses there
 
 
 def address_words(packed: int) -> str:
-    """An address and its port as text; empty for none. Of an IPv6 address, only a hash is known."""
+    """An address and its port as text; empty for none. For an IPv6 address, only a hash is known."""
     sort, address, port = packed >> 56, packed >> 16 & 2**40 - 1, packed & 65_535
     if sort == OF_IPV4:
         return f"{'.'.join(str(address >> shift & 255) for shift in (24, 16, 8, 0))}:{port}"
@@ -55,8 +55,8 @@ class Beside:
     _ends: dict[tuple[int, int], list[int]] = field(default_factory=dict)
 
     def named(self, socket: int, point: Point, step: int = 0) -> None:
-        """Records a socket's own name and the other end's; a newer one replaces an older one. For a datagram socket: its addresses, or the
-        step after which a datagram is sent."""
+        """Records a socket's own name and the other end's; a newer name replaces an older name. For a datagram socket, records its
+        addresses, or the step after which a datagram is sent."""
         if point.c == OF_DATAGRAMS:
             self.addresses.append((socket, address_words(point.a), address_words(point.b)))
         elif point.c == GOES_TO:
@@ -81,8 +81,8 @@ class Beside:
         self._unix.setdefault(path, ([], []))[is_dialed].append((socket, point.goroutine))
 
     def pair_unix(self) -> None:
-        """Pairs the ends of connections to a Unix path: the first one dialed is the first one accepted, and so on, if one goroutine dialed
-        all and one accepted all. Otherwise their order isn't known."""
+        """Pairs the ends of connections to a Unix path. If one goroutine dialed them all and one goroutine accepted them all, the first
+        dialed socket belongs to the first accepted socket, and so on. Otherwise their order isn't known."""
         for accepted, dialed in self._unix.values():
             if len({goroutine for _, goroutine in accepted}) == len({goroutine for _, goroutine in dialed}) == 1:
                 self.peers += [(one, other) for (one, _), (other, _) in zip(dialed, accepted)]

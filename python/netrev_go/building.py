@@ -14,7 +14,8 @@ from .trying import ready
 
 
 def environment(is_of_others: bool, **settings: str) -> dict[str, str]:
-    """The environment for building: other projects are found through GOPATH. Go's own tests are built as in a module, because newer
+    """The environment for building, in which Go finds other projects through GOPATH. Go's own tests are built as in a module, because
+    newer
     releases otherwise use old defaults."""
     found = {"GO111MODULE": "off", "GOPATH": str(DEBIAN)} if is_of_others else {"GO111MODULE": "", "GOWORK": "off"}
     return os.environ | found | {"GOFLAGS": "", "GOTOOLCHAIN": "local"} | settings

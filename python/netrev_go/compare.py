@@ -45,7 +45,7 @@ def sentence(step: int, cell: str, value: str, said: str) -> str:
 
 
 def differing(netrev: str, recording: pathlib.Path) -> tuple[int, list[str]]:
-    """The number of lock words compared, and a message for each one that differs."""
+    """The number of compared lock words, and a message for each word that differs."""
     words = read_words(recording.with_suffix(".words"))
     told: list[str] = []
     for first in range(0, len(words), AT_ONCE):

@@ -1,4 +1,5 @@
-"""Makes the steps of a version 2 recording from points. A recorded answer is Go's own, if Go has one. Go doesn't see what the other end
+"""Makes the steps of a version 2 recording from points. A recorded answer is Go's own, if Go has an answer. Go doesn't see what the other
+end
 does. So bytes, which are all zeros, arrive just before the read that gets them; they are drained just before the write that needs the room;
 and a socket's output is just large enough to be full when Go found it full."""
 
@@ -29,7 +30,7 @@ EVENT_ERROR, EVENT_STALE = 1, 2
 GREATEST = 2**63 - 1
 READ, FIRE, NOTED = int(Kind.READ), int(Kind.FIRE), int(Kind.NOTED)
 
-# The bytes that arrive before, the goroutine's own line and its number, and the stack of its call.
+# The bytes that arrive before the step, the goroutine's own line and its number, and the stack of its call.
 Repeated = tuple[Line | None, Line, int, list[int]]
 
 
@@ -114,7 +115,7 @@ class Converter:
         return self.calls.setdefault((identity, socket), [0])
 
     def _others(self) -> dict[int, Callable[[Point, Socket], None]]:
-        """The functions that make the steps of points that aren't one repeated line."""
+        """The functions that make the steps of all points that aren't repeated lines."""
         return {
             Kind.INIT: self.socket_opens, Kind.READ: self.read, Kind.WRITE: self.write, Kind.CLOSE_WRITE: self.close_write,
             Kind.OPEN: self.open, Kind.CLOSE: self.close, Kind.PARK: self.park, Kind.SET_DEADLINE: self.set_deadline,
@@ -192,7 +193,7 @@ class Converter:
         self.of(g, socket, point.stack, f'["sockopen",{BUFFER},{socket.capacity()},["number",{socket.number}]]')
 
     def read(self, point: Point, socket: Socket) -> None:
-        """A read that gets nothing, or many bytes. (A read of a few bytes is a repeated line.)"""
+        """Makes the steps of a read that gets no bytes, or many bytes. (A read of a few bytes is a repeated line.)"""
         g = self.goroutine(point.goroutine)
         if not can_answer(socket, point):
             return self.beside.failed(self.last_steps[g], point)
@@ -208,8 +209,8 @@ class Converter:
         self.of(g, socket, point.stack, read_line(g, socket.number, point.a, answer))
 
     def write(self, point: Point, socket: Socket) -> None:
-        """A write, unless its steps were already made with a closewrite whose point overtook it; then a noted closewrite that overtook the
-        write, if any."""
+        """Makes the steps of a write, unless they were already made with a closewrite whose point overtook it; then the steps of a noted
+        closewrite that overtook the write, if any."""
         if point.number not in self.early:
             self.make_write(point, socket)
             if closing := self.closings.get(point.number):
@@ -234,8 +235,8 @@ class Converter:
             self.of(g, socket, stack, put_line(g, number, count))
 
     def close_write(self, point: Point, socket: Socket) -> None:
-        """Closes the write side. Points are logged after their system calls, so an earlier write may have a later point: at most one,
-        because the next write has to wait for it, and its goroutine was in that call before this point."""
+        """Closes the write side. Points are logged after their system calls, so an earlier write may have a later point. At most one
+        write does, because the next write has to wait for it, and its goroutine was in that call before this point."""
         g, last = self.goroutine(point.goroutine), socket.last_write
         if last and last.number > point.number and last.number not in self.early:
             self.write(last, socket)
@@ -248,8 +249,8 @@ class Converter:
         self.of(g, socket, 0, f'["parkcommit",{g},"{"yes" if point.b else "no"}"]')
 
     def event(self, point: Point, socket: Socket) -> None:
-        """An event that was fetched before the descriptor was closed comes too late: if events have tags, Go reports it, and otherwise
-        ignores it for a free descriptor."""
+        """Makes the step of an event. If the event was fetched before the descriptor was closed, it comes too late: if events have tags,
+        Go reports the event; otherwise Go ignores it for a free descriptor."""
         is_stale = point.b & EVENT_STALE if point.c else not socket.is_open
         answer = "stale" if is_stale else "done"
         tag, error = socket.tag, point.b & EVENT_ERROR
@@ -305,7 +306,7 @@ class Converter:
         self.of(g, socket, stack, f'["setdeadline",{g},{number},"{mode}",{time},"done"]')
 
     def pop_what_fires(self, socket: Socket, side: int) -> None:
-        """A timer that is about to be stopped or reset goes off first if the log has its firing: it had left Go's heap by then."""
+        """A timer that is about to be stopped or reset fires first if the log has its firing, because it had left Go's heap by then."""
         timer = self.deadlines.armed(socket.descriptor, side)
         if timer and (socket, side, timer.sequence + socket.sequences[side]) in self.later_fires:
             self.go_on_to(timer.due)
@@ -341,8 +342,8 @@ class Converter:
         self.beside.named(socket.number, point, self.last_steps[self.goroutine(point.goroutine)] if point.c else 0)
 
     def noted(self, point: Point, socket: Socket) -> None:
-        """Makes the steps that lead to a noted socket. The clock advances to the first note, but not past a deadline that is still to be
-        set. It lags behind Go's clock by the time that the steps for later notes take, so that deadlines set between the notes are
+        """Makes the steps that lead to a noted socket. The clock advances to the first note, but not past a deadline that will be set. It
+        lags behind Go's clock by the time that the steps for later notes take, so that deadlines set between the notes are
         Go's."""
         if not self.clock:
             sockets = {socket for one, socket in self.points if one.kind == Kind.NOTED}
@@ -356,7 +357,7 @@ class Converter:
             self.beside.named(socket.number, point)
 
     def header(self) -> str:
-        # A recording has room for two pending firings for each descriptor. Several processors may have more.
+        # A recording has room for two pending firings for each descriptor; several processors may have more firings.
         descriptors = max(self.descriptors, (self.deadlines.most_firings + 1) // 2, 1)
         limits = f'"gor":{max(1, len(self.names))},"sock":{max(1, self.sockets)},"desc":{descriptors}'
         return f'{{"netrev":2,{limits},"buf":{BUFFER}}}'

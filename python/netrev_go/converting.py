@@ -75,7 +75,8 @@ def convert(
     is_written: bool = False,
 ) -> Outcome:
     """Makes the recording NAME from a log, and NAME.where beside it if Go is installed to look up lines. `known` keeps the data, because
-    freeing it takes long. `hear` receives the report's lines as soon as they are known. A log that a program is still writing is copied
+    freeing the data takes a long time. `hear` receives the report's lines as soon as they are known. A log that a program is still
+    writing is copied
     first."""
     try:
         return converted(ReadLog(log, read_log(log, is_written), of_log(log)), name, go, wish, known=known, hear=hear)

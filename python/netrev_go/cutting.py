@@ -1,5 +1,5 @@
-"""The sockets of a test in a log: its own, its subtests', and other sockets that were used while it ran; and its goroutines, without those
-of other tests."""
+"""The sockets and goroutines of a test in a log. The sockets are the test's own, its subtests', and other sockets that were used while it
+ran; the goroutines exclude other tests' goroutines."""
 
 from __future__ import annotations
 
@@ -14,7 +14,7 @@ MADE = 1  # a point of a goroutine that another started, rather than only woke
 
 
 class Makers:
-    """Which goroutine started which, and thus which test a goroutine belongs to."""
+    """Which goroutine started each goroutine, and thus to which test a goroutine belongs."""
 
     def __init__(self, made_by: Mapping[int, int], tests: Iterable[Ran]) -> None:
         self.made_by = made_by
@@ -49,7 +49,8 @@ def sockets_of(test: Ran, log: Log, found: Owned, tests: list[Ran]) -> list[Sock
 
 
 def goroutines_of(test: Ran, found: Goroutines, tests: list[Ran], numbers: Mapping[int, int]) -> Goroutines:
-    """The actions of goroutines while one test ran, without other tests' goroutines, which may run on after their test has ended. The
+    """The actions of goroutines while one test ran, without the goroutines of other tests, which may keep running after their test has
+    ended. The
     goroutines with numbers in the recording are kept."""
     makers = Makers({goroutine: born.maker for goroutine, born in found.born.items()}, tests)
 

@@ -16,7 +16,7 @@ from .trying import trial
 
 
 def doctor() -> int:
-    """Prints a line for each requirement; the status is 1 if one isn't met."""
+    """Prints a line for each requirement; the status is 1 if a requirement isn't met."""
     try:
         go = find_go()
         words = {"version": go.version, "system": go.system, "folder": go.root, "tried": tried(go.version)}
@@ -32,7 +32,7 @@ def doctor() -> int:
 
 
 def rules_fit(go: Go) -> bool:
-    """Prints how each rule fits, and which of Go's calls no rule knows."""
+    """Prints how each rule fits, and which of Go's calls no rule covers."""
     fits, rules = fit(go)
     for rule in rules:
         print(f"  {rule}")
@@ -49,7 +49,7 @@ def rules_fit(go: Go) -> bool:
 
 
 def has_room() -> bool:
-    """Whether there is room for the logs."""
+    """Whether the logs have room."""
     try:
         folder = logs_folder(MOST_POINTS)
     except Trouble as trouble:

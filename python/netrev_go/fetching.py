@@ -40,7 +40,7 @@ def is_whole(commands: pathlib.Path) -> bool:
 
 
 def here(release: str) -> pathlib.Path | None:
-    """The folder of a release's `go`: the installed one, if it has its sources, else a fetched one."""
+    """The folder of a release's `go`: the installed release, if it has its sources, or else a fetched release."""
     there = (below(pathlib.Path("/"), release), below(FETCHED / release, release))
     return next((commands for commands in there if is_whole(commands)), None)
 
@@ -62,7 +62,7 @@ def commands_of(release: str) -> pathlib.Path:
 
 
 def chosen(release: str) -> Go:
-    """The Go of a release, which is the first on the PATH from then on; without a release, the `go` on the PATH."""
+    """The Go of a release, which is then the first on the PATH; without a release, the `go` on the PATH."""
     if release:
         os.environ["PATH"] = f"{commands_of(release)}:{os.environ['PATH']}"
         os.environ["GOTOOLCHAIN"] = "local"
@@ -82,7 +82,7 @@ def run(words: list[str | pathlib.Path], folder: pathlib.Path, **settings: str) 
 
 
 def own_apt(suite: str) -> pathlib.Path:
-    """The configuration of an apt that knows only one suite, and keeps its lists here."""
+    """A configuration of apt with only one suite, and with its lists in this folder."""
     folder = FETCHED / "apt" / suite
     for name in ("lists/partial", "archives/partial"):
         (folder / name).mkdir(parents=True, exist_ok=True)

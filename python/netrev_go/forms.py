@@ -63,7 +63,7 @@ class Told:
         return f"{self.status} in {self.failed} of {self.runs} runs" if self.runs > 1 else self.status
 
     def place(self) -> tuple[str, int] | None:
-        """The line at which it failed, or else the first line of the program in the report."""
+        """The line at which the test failed, or else the first line of the program in the report."""
         if self.file is not None and self.line is not None:
             return self.file, self.line
         return (self.causes[0].file, self.causes[0].line) if self.causes else None
@@ -149,7 +149,7 @@ def counts(told: list[Told]) -> dict[str, str]:
 
 
 def add_case(suite: ElementTree.Element, one: Told) -> None:
-    """Adds a test: a failed one has a failure, and one that never ended an error."""
+    """Adds a test. A failed test has a failure, and a test that never ended has an error."""
     words = {"classname": plain(one.package), "name": plain(one.test), "time": f"{one.seconds:.6f}"}
     case = ElementTree.SubElement(suite, "testcase", words)
     if one.status == Went.SKIPPED.value:

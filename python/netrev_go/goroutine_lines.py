@@ -43,7 +43,7 @@ FUNCTIONS = (
 
 
 def names_of_go(calls: Calls | None) -> list[str]:
-    """The functions of Go's own code that the program, or a library, is in, from the innermost."""
+    """The functions of Go's own code in which the program or a library is, from the innermost."""
     names = []
     for call in calls.calls if calls else ():
         if call.of != OF_GO:
@@ -84,7 +84,7 @@ class Kept:
 
 
 def newest(waits: list[bool], most: int) -> Iterator[bool]:
-    """The entries of a list to keep: first those that still wait, then the newest of the others, up to a quarter as many."""
+    """The entries of a list to keep: first the entries that still wait, then the newest of the rest, up to a quarter as many."""
     waiting = sum(waits)
     too_many, others = max(waiting - most, 0), len(waits) - waiting
     too_old = others - max(min(most - waiting, most // OTHERS, others), 0)
@@ -150,7 +150,7 @@ def mutex_at(address: int, what: int, calls: Calls | None) -> int:
 
 
 class Objects:
-    """The objects at which goroutines wait or that they use, numbered from 1, with what is known about them."""
+    """The objects at which goroutines wait or that goroutines use, numbered from 1, with the known facts about each."""
 
     def __init__(self, rooms: dict[int, int]) -> None:
         self._rooms = rooms

@@ -1,5 +1,5 @@
 """All goroutines of a log, including those without sockets: where and at what each waits outside the poller, which goroutine started it,
-when it ends, and what it did at channels. They have Go's own numbers here, as in its stack dumps."""
+when it ends, and what it did at channels. Goroutines have Go's own numbers here, as in Go's stack dumps."""
 
 from __future__ import annotations
 
@@ -62,7 +62,7 @@ class Park(NamedTuple):
 
 
 class Born(NamedTuple):
-    """The start of a goroutine: by which goroutine, after which step, and when."""
+    """The start of a goroutine: the goroutine that started it, the step before, and the time."""
 
     maker: int
     step: int
@@ -101,7 +101,7 @@ class Span(NamedTuple):
 
 
 class Making(NamedTuple):
-    """A channel that was made: by which goroutine, from which stack, after which step, and when."""
+    """A new channel: the goroutine that made it, the stack, the step before, and the time."""
 
     goroutine: int
     stack: int
@@ -174,7 +174,7 @@ class Goroutines:
         return waiting | timing | {use.goroutine for use in self.uses} | {dial.goroutine for dial in self.dials}
 
     def without(self, others: Container[int]) -> Goroutines:
-        """The facts about all but these goroutines."""
+        """The facts about all goroutines except these."""
         parks = [park for park in self.parks if park.goroutine not in others]
         uses = {use: span for use, span in self.uses.items() if use.goroutine not in others}
         timers = [timer for timer in self.timers if timer.goroutine not in others]
@@ -197,7 +197,7 @@ def objects_of(what: int, at: int, b: int, c: int) -> tuple[At, ...]:
 
 
 class Begun(NamedTuple):
-    """A wait that has begun: its index among all waits, and what is known about it."""
+    """A wait that has begun: its index among all waits, and the known facts about it."""
 
     place: int
     step: int

@@ -62,7 +62,7 @@ def complain(text: str) -> None:
 
 
 def convert_hint(folder: pathlib.Path, logs: list[pathlib.Path]) -> str:
-    """A hint how to convert logs that were kept."""
+    """A hint on how to convert the kept logs."""
     again = shlex.quote(str(logs[0])) if len(logs) == 1 else f"{shlex.quote(str(folder))}/{LOGS}"
     return messages.NOTHING_IS_LOST.format(netrev_go=command("netrev-go"), logs=again)
 
@@ -73,7 +73,7 @@ def unwritten(name: pathlib.Path, fault: OSError) -> str:
 
 
 def report_no_log(folder: pathlib.Path, failed: bool) -> bool:
-    """Prints why there is no log; returns whether there is none."""
+    """Prints why no log exists; returns whether none exists."""
     if logs_in(folder):
         return False
     if not folder.is_dir():
@@ -84,7 +84,7 @@ def report_no_log(folder: pathlib.Path, failed: bool) -> bool:
 
 
 def report_unrecorded(folder: pathlib.Path) -> bool:
-    """Prints which processes couldn't be recorded; returns whether there are any."""
+    """Prints which processes couldn't be recorded; returns whether any such process exists."""
     lines = unrecorded(folder)
     for line in lines:
         complain(line)

@@ -88,7 +88,7 @@ def put(converter: Converter, socket: Socket, step: Lead, g: int, line: Line) ->
 
 
 def set_deadline(converter: Converter, socket: Socket, step: Lead, g: int) -> int:
-    """Sets a noted deadline, or one that passes soon, and returns the time at which it passes."""
+    """Sets a noted deadline, or a deadline that passes soon, and returns the time at which it passes."""
     mode, deadline = step.arguments
     if step.kind == "soon":
         time = deadline

@@ -1,5 +1,5 @@
-"""The program that reads source lines, Go's own `addr2line`. Up to Go 1.24 it comes with Go. Later releases build
-it on first use, so netrev-go builds it once for each release, before the first recording, and keeps it."""
+"""The program that reads source lines, Go's own `addr2line`. Up to Go 1.24 it comes with Go. Later releases build the program on first
+use, so netrev-go builds it once for each release, before the first recording, and stores it."""
 
 from __future__ import annotations
 
@@ -28,7 +28,7 @@ def kept(go: Go) -> pathlib.Path:
 
 
 def line_reader(go: Go) -> list[str]:
-    """The command that reads lines: Go's own program, or the one that was built; if there is neither, `go tool` builds it now."""
+    """The command that reads lines: Go's own program, or the program that netrev-go built; if neither exists, `go tool` builds it now."""
     for path in (shipped(go), kept(go)):
         if path.exists():
             return [str(path)]
@@ -56,6 +56,6 @@ def build_line_reader(go: Go) -> pathlib.Path:
 
 
 def prepare_line_reader(go: Go) -> None:
-    """Builds the program if it is missing. Otherwise Go builds one each time that lines are read."""
+    """Builds the program if it is missing. Otherwise Go builds the program each time that lines are read."""
     with contextlib.suppress(Trouble):
         build_line_reader(go)

@@ -118,7 +118,8 @@ def read_holders(file: BinaryIO, count: int, stacks: dict[int, Stack]) -> list[H
 
 
 def whole_points(file: BinaryIO, header: Header) -> tuple[list[Point], int]:
-    """The whole points, ordered by number, and the number of places in the ring. The ring is read piece by piece, because a file with holes
+    """The complete points, ordered by number, and the number of places in the ring. The ring is read piece by piece, because a file with
+    holes
     is mostly empty."""
     ring = header.ring
     held = (file.seek(0, 2) - ring) // POINT_BYTES
@@ -143,7 +144,7 @@ def whole_points(file: BinaryIO, header: Header) -> tuple[list[Point], int]:
 
 
 def with_first_times(points: list[Point]) -> list[Point]:
-    """The points; if the first ones have no time, they get the time of the next point that has one, because the point before them is
+    """The points. If the first points have no time, they get the time of the next point with a time, because the point before them is
     lost."""
     untimed = len(list(takewhile(lambda point: point.time == UNKNOWN, points)))
     if untimed in (0, len(points)):
@@ -151,12 +152,13 @@ def with_first_times(points: list[Point]) -> list[Point]:
     return [point._replace(time=points[untimed].time) for point in points[:untimed]] + points[untimed:]
 
 
-# The same as Point._make, but without checking the number of values.
+# Makes a point as Point._make does, but without checking the number of values.
 made = cast(Callable[[tuple[int, ...]], Point], partial(tuple.__new__, Point))
 
 
 def points_of(text: bytes, first: int, latest: int = NEVER) -> list[Point]:
-    """The whole points of a part of the ring, whose first point has this number. Points without a time get the previous point's, if the
+    """The complete points of a part of the ring, whose first point has this number. Points without a time get the previous point's, if
+    the
     `latest` time before them is known. (Column by column, because there may be millions.)"""
     signed = array("q", text)
     heads, *columns, lasts = (signed[column::POINT_WORDS] for column in range(POINT_WORDS))
@@ -185,7 +187,7 @@ def points_of(text: bytes, first: int, latest: int = NEVER) -> list[Point]:
 
 
 def timed(times: array[int], latest: int) -> Iterable[int]:
-    """The times, with each 0 replaced by the greatest earlier time, if there is one."""
+    """The times, with each 0 replaced by the greatest earlier time, if any."""
     if latest == NEVER:
         return times
     greatest = accumulate(times, max, initial=latest)
@@ -193,7 +195,7 @@ def timed(times: array[int], latest: int) -> Iterable[int]:
 
 
 def are_whole(first: int, heads: array[int], columns: list[array[int]], lasts: array[int]) -> bool:
-    """Whether all these points are whole. Each column is tested as one large number, which is much faster than point by point."""
+    """Whether all these points are complete. Each column is tested as one large number, which is much faster than point by point."""
     kinds, low, ones, counted = masks(len(heads))
     total = counted + first * ones
     if as_one(heads) & ~kinds != total + ones << 8:

@@ -75,11 +75,11 @@ class Recording:
 
     @cached_property
     def olds(self) -> list[int]:
-        """For each of these lock words, its value before."""
+        """The earlier value of each of these lock words."""
         return [point.a for point, _, _ in self._locks()]
 
     def _locks(self) -> Iterator[tuple[Point, Socket, int]]:
-        """The points that changed a lock word, and each one's step."""
+        """The points that changed a lock word, each with its step."""
         return ((*pair, step) for pair, step in zip(self.points, self.ended) if pair[0].kind in LOCKING)
 
 

@@ -62,7 +62,7 @@ DISCARD = " (`rm -r {folder}` deletes the logs)"
 NONE_INTERRUPTED = "netrev-go: no run was interrupted"
 RECOVERED = "netrev-go: {recordings} of {runs} runs"
 
-# What is wrong with a log, printed after the log's name.
+# Problems with a log, printed after the log's name.
 TOO_SHORT = "too short for a log"
 NOT_A_LOG = "not a log of netrev-go"
 BAD_HEADER = "its header is damaged"
@@ -80,7 +80,7 @@ BAD_MODE = "point {point}: {mode} is neither reading nor writing"
 TWO_SIDES = "point {point}: one side was expected, and both were given"
 NO_TIMER = "point {point}: a deadline passed whose timer wasn't due"
 
-# What a recording lacks, printed in parentheses.
+# Missing parts of a recording, printed in parentheses.
 LOG_IS_FULL = "the log ran out of space and ends before the program did"
 NEWEST_POINTS = "the log keeps the newest {kept} points of {all}"
 LOG_IS_DAMAGED = "the log is cut short or damaged: {usable} of its {kept} points can be used"
@@ -94,7 +94,7 @@ NO_LINES = (
     "no lines of the source: Go or the program's file is missing, or Go can't read lines from it (-buildmode=pie)"
 )
 
-# What is printed about a recording.
+# Messages about a recording.
 IDLE_IN_GO = (
     "  {count} more only in Go's own code, such as idle connections of net/http: `info goroutines` in nrdb lists them"
 )

@@ -1,5 +1,5 @@
 """The recorder's notes of sockets that were open before the oldest point in the log (go/log/notes.go writes them): the state of the
-lock word and of the descriptor, the goroutines that waited there, each with its stage of the wait, and those that were using the
+lock word and of the descriptor, the goroutines that waited there, each with its stage of the wait, and the goroutines that were using the
 socket."""
 
 from __future__ import annotations
@@ -113,8 +113,8 @@ def side_of(mode: int) -> int:
 
 
 class Debts:
-    """Finds which goroutines had a socket's locks and references when it was noted: those that release them without having acquired them
-    since."""
+    """Finds which goroutines had a socket's locks and references when it was noted. Such a goroutine releases a lock or reference that it
+    hasn't acquired since."""
 
     def __init__(self, note: Note) -> None:
         self.note = note
@@ -164,7 +164,7 @@ class Span(NamedTuple):
 
 
 def spans(points: Iterable[Point]) -> list[Span]:
-    """The complete notes of a log: those with both ends."""
+    """The complete notes of a log, whose first and last points are both in it."""
     begun: dict[int, int] = {}
     found = []
     for point in points:

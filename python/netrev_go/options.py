@@ -91,12 +91,12 @@ def add_recording(group: argparse._ArgumentGroup) -> None:
 
 
 def add_convert(group: argparse._ArgumentGroup) -> None:
-    """Adds the options of `convert` alone."""
+    """Adds the options that only `convert` has."""
     group.add_argument("--pid", metavar="PID", type=int, help="convert the log of this process")
 
 
 def add_watch(group: argparse._ActionsContainer) -> None:
-    """Adds the options of `watch` alone."""
+    """Adds the options that only `watch` has."""
     group.add_argument(
         "--stuck", metavar="TIME", type=seconds, default=5.0,
         help="make a recording when a call has waited so long, as 5s, 500ms or 2m (5s by default)",
@@ -105,7 +105,7 @@ def add_watch(group: argparse._ActionsContainer) -> None:
 
 
 def add_tests(group: argparse._ArgumentGroup) -> None:
-    """Adds the options of `test` alone."""
+    """Adds the options that only `test` has."""
     group.add_argument("--all", action="store_true", help="keep a recording of each test, not only of failing tests")
     group.add_argument("--runs", metavar="N", type=int, help="run the tests N times")
     group.add_argument("--until-failure", action="store_true", help="run the tests again until one fails")
@@ -182,7 +182,7 @@ def help_of(command: str) -> str:
 
 
 def asks_for_help(options: argparse.Namespace) -> bool:
-    """Whether a command's own help is asked for: `netrev-go run --help`."""
+    """Whether the user asks for a command's own help: `netrev-go run --help`."""
     return options.words_of_go[:1] != [] and options.words_of_go[0] in HELP_WORDS
 
 

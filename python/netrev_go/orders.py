@@ -1,6 +1,5 @@
 """The orders between steps that the program itself enforces: by `go` statements, channels, and wake-ups, such as those of a
-mutex, a condition or a WaitGroup. They may also pass through goroutines without steps. A lock that was free leaves no trace
-here."""
+mutex, a condition or a WaitGroup. They may also pass through goroutines without steps. If a lock was free, no order is known."""
 
 from __future__ import annotations
 
@@ -29,7 +28,7 @@ class Queue:
         return self._unknown + len(self._known)
 
     def fit(self, length: int) -> None:
-        """Sets the length, which may differ: another channel may have been at its address, or the log begins later."""
+        """Sets the length, which may differ because another channel may have been at this address, or because the log begins later."""
         while len(self._known) > length:
             self._known.popleft()
         self._unknown = length - len(self._known)

@@ -73,20 +73,20 @@ class Kind(IntEnum):
 KINDS = frozenset(map(int, Kind))
 # Points at which the program itself puts goroutines in order; they aren't at a socket.
 ORDERING = frozenset(range(Kind.READY, Kind.FOUND_CLOSED + 1)) | {int(Kind.HANDED)}
-# Points at which a goroutine begins to wait outside the poller, goes on, gets a value that it waits for, makes or stops
+# Points at which a goroutine begins to wait outside the poller, continues, gets a value that it waits for, makes or stops
 # a timer, adds to a WaitGroup, makes a channel, fails to connect a socket, or ends.
 WAITING = frozenset(range(Kind.PARKS, Kind.DIAL_FAILED + 1))
 # Points that note the state of a socket that may have been opened before the oldest point.
 NOTING = frozenset(range(Kind.NOTED, Kind.NOTED_NAMED + 1))
 AT_A_SOCKET = KINDS - ORDERING - WAITING - NOTING
 LOCKING = frozenset(map(int, (Kind.INCREF, Kind.INCREF_CLOSE, Kind.DECREF, Kind.RW_LOCK, Kind.RW_UNLOCK)))
-# Points at a lock word's address. All others except INIT are at a descriptor's address.
+# Points at a lock word's address. All other points except INIT are at a descriptor's address.
 AT_A_WORD = LOCKING | set(map(int, (Kind.READ, Kind.WRITE, Kind.ACQUIRE, Kind.RELEASE, Kind.CLOSE_WRITE, Kind.NAMED)))
 
 
 class Point(NamedTuple):
-    """A point logged by a goroutine (0 if by none): its kind, its address, the values there, a time of Go's clock if one was read, and the
-    number of its stack (0 if there is none)."""
+    """A point, with the goroutine that logged it (0 if none did), its kind, its address, the values there, the time if Go's clock was
+    read, and the number of its stack (0 if it has no stack)."""
 
     number: int
     kind: int

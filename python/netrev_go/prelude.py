@@ -2,13 +2,13 @@
 
 These states can be reached:
 
-- Any lock word whose holders are known: a goroutine that has a lock or a reference then gives it up later in the log, or is inside the wait
-  of that side. Goroutines that are queued for a lock are queued in their order.
-- Each place of a wait, with a word that is nil, ready, wait or the goroutine. A goroutine that was woken parks first, and an event, a past
-  deadline or the close wakes it.
-- Future deadlines, those that passed while their timers run, and those set in the past; also one timer for both sides.
-- Go's sequences and tags may be millions. The machine's begin anew, and Go's are counted from there: an event or a firing names the use of
-  a descriptor or the timer that it belongs to, instead of a number.
+- Any lock word whose holders are known: a goroutine that has a lock or a reference releases it later in the log, or is inside the wait of
+that side. Goroutines that are queued for a lock are queued in their order.
+- Each place of a wait, with a word that is nil, ready, wait or the goroutine. A woken goroutine parks first, and an event, a past
+deadline or the close wakes it.
+- Future deadlines, deadlines that passed while their timers run, and deadlines set in the past; also one timer for both sides.
+- Go's sequences and tags may be millions. The machine's numbers begin anew, and Go's are counted from there: instead of a number, an
+event or a firing names the descriptor's use, or the timer, to which it belongs.
 - Bytes aren't known. The input is empty, because bytes arrive just before the read that gets them; the output is full if a goroutine waits
   to write there, or if a write finds it full later.
 
@@ -159,7 +159,7 @@ class Leading:
             self.add("acquire", goroutine, answer=WAITS, stack=stack)
 
     def enter(self, side: int) -> None:
-        """Puts a goroutine inside the wait of a side; one that was woken has to park first."""
+        """Puts a goroutine inside the wait of a side; a woken goroutine has to park first."""
         if side not in self.note.inside:
             return
         goroutine, place, stack = self.note.inside[side]
@@ -171,7 +171,7 @@ class Leading:
                 self.add(kind, goroutine, answer=answer, stack=stack)
 
     def wake(self, side: int) -> None:
-        """Wakes a goroutine that isn't ready: by a deadline in the past, unless the close does it."""
+        """Wakes a goroutine that isn't ready, by a deadline in the past unless the close wakes it."""
         inside, word = self.note.inside.get(side), self.note.word_of(side)
         is_woken = inside and (inside.place == CHECKING or inside.place != ENTERING and word == NIL)
         if is_woken and not (self.note.flags or 0) & CLOSING:
@@ -223,7 +223,7 @@ def spelled(lead: Lead, g: int, s: int, d: int, tag: int) -> tuple[Any, ...]:
 
 
 def passing(leads: list[Lead]) -> int:
-    """The nanoseconds that these steps let pass to make deadlines pass."""
+    """The nanoseconds by which these steps advance the clock to make deadlines pass."""
     return max((lead.arguments[1] for lead in leads if lead.kind == "soon"), default=0)
 
 
@@ -265,7 +265,7 @@ def _steps(leads: list[Lead], numbers: dict[int, int], begin: int) -> Iterator[t
 
 
 def relative(deadline: int, begin: int, clock: int) -> int:
-    """A deadline of Go's clock in the form of a step; raises Unreachable if it isn't in the future any more."""
+    """A deadline of Go's clock in the form of a step; raises Unreachable if the deadline is no longer in the future."""
     if deadline <= 0 or deadline == GREATEST_TIME:
         return deadline
     time = deadline - begin - clock

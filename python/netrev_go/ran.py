@@ -47,7 +47,7 @@ class Ran:
         return Went.SKIPPED if self.skipped else Went.PASSED
 
     def seconds(self) -> float:
-        """How long it ran; 0 if it never ended."""
+        """How long the test ran; 0 if it never ended."""
         return (self.ended_at - self.began_at) / SECOND if self.ended_at is not None else 0.0
 
     def is_red(self) -> bool:
@@ -90,7 +90,7 @@ class Tests:
             test.skipped = True
 
     def to_keep(self) -> list[Ran]:
-        """The failed tests, without those that failed because of a subtest."""
+        """The failed tests, without tests that failed because of a subtest."""
         red = [test for test in self.ran if test.is_red()]
         return [test for test in red if not any(other.is_below(test) for other in red)]
 

@@ -68,7 +68,7 @@ def told_of(g: int, status: str, since: str, calls: Calls | None) -> str:
 
 
 def since_words(recording: Recording, step: int) -> str:
-    """The text for how long a goroutine has waited, given its last step."""
+    """The text that says how long a goroutine has waited, given its last step."""
     return f"step {step}" if step > recording.prelude else "before the recording begins"
 
 
@@ -92,8 +92,8 @@ def hang_lines(recording: Recording, calls: dict[int, Calls], waiting: dict[int,
 
 
 def next_line(name: pathlib.Path, told: list[str], nobody_waits: bool = False, failed: bool = False) -> str:
-    """The command to type next: nrdb with the commands of the first suspect, or with a list of waiting goroutines. If no goroutine waits:
-    the failed calls of a program that failed, and otherwise other schedules."""
+    """The command to type next: nrdb with the commands of the first suspect, or with a list of waiting goroutines. If no goroutine waits,
+    the command lists the failed calls of a program that failed, or searches other schedules of a good run."""
     looks = [line.strip().removeprefix("next:").split(";") for line in told if line.strip().startswith("next:")]
     topic = "errors" if failed and nobody_waits else "goroutines"
     commands = [command.strip() for command in looks[0]] if looks else ["continue", f"info {topic}"]

@@ -45,7 +45,7 @@ class Result:
         return replace(self, suspects=[])
 
     def count(self, lines: Iterable[str]) -> None:
-        """Counts the answers that are values of Go's."""
+        """Counts the answers that are Go's own values."""
         has_tags = not self.release.removeprefix("go").startswith(UNTAGGED)
         for line in lines:
             kind = line[2 : line.index('"', 2)]

@@ -126,7 +126,7 @@ def is_own(path: pathlib.Path, is_of_kind: Callable[[int], bool]) -> bool:
 
 
 def take_over(run: LeftRun) -> bool:
-    """Makes this netrev-go the owner of a run that is left, unless another one was faster."""
+    """Makes this netrev-go the owner of a run that is left, unless another netrev-go was faster."""
     try:
         file = (run.folder / OWNER).open("r+", encoding="utf-8")
         fcntl.flock(file, fcntl.LOCK_EX | fcntl.LOCK_NB)

@@ -49,7 +49,7 @@ def limits_of(options: argparse.Namespace) -> Limits:
 
 
 def as_a_shell_has_it(status: int) -> int:
-    """The exit status as a shell reports it: the command's own, or one for the signal that ended it."""
+    """The exit status as a shell reports it: the command's own status, or a status for the signal that ended the command."""
     return status if status >= 0 else 128 - status
 
 
@@ -61,7 +61,7 @@ def behind_the_folder(words: list[str], more: list[str]) -> list[str]:
 
 
 def places() -> list[str]:
-    """The folders to try for logs: the one that NETREV_LOGS names; otherwise one in memory, and one below TMPDIR."""
+    """The folders to try for logs: the folder that NETREV_LOGS names, or otherwise a folder in memory and a folder below TMPDIR."""
     given = os.environ.get("NETREV_LOGS")
     return [given] if given else [IN_MEMORY, tempfile.gettempdir()]
 
@@ -101,7 +101,7 @@ def unblock_signals() -> None:
 
 
 def stop_at_once() -> None:
-    """From here on nothing would be lost: every signal stops netrev-go, as Ctrl-C does."""
+    """From here on a signal would lose nothing, so every signal stops netrev-go, as Ctrl-C does."""
     for number in CANCELLING:
         if number in heeded():
             signal.signal(number, signal.default_int_handler)
@@ -143,8 +143,8 @@ def send(log: pathlib.Path, number: signal.Signals) -> None:
 
 
 class Runner:
-    """Go's command, and the programs that it starts. Signals for netrev-go are queued until it checks them; those
-    for the command are not."""
+    """Go's command, and the programs that it starts. Signals for netrev-go are queued until it checks them; signals for the command are
+    not queued."""
 
     def __init__(self, command: list[str], folder: pathlib.Path, limits: Limits, delays: int = 0) -> None:
         self.folder, self.limits = folder, limits
@@ -189,7 +189,7 @@ class Runner:
             self.pass_on(number)
 
     def pass_on(self, number: signal.Signals) -> None:
-        """Sends a signal to the programs, and to Go. SIGHUP would end Go, and a program may run on after that, so Go gets it only if no
+        """Sends a signal to the programs, and to Go. SIGHUP would end Go while a program might keep running, so Go gets it only if no
         program runs."""
         programs = still_written(self.folder)
         for log in programs:
@@ -246,7 +246,7 @@ def mapped_log(process: int) -> pathlib.Path | None:
 
 
 def has_begun(log: pathlib.Path) -> bool:
-    """Whether a log has its header. One that can't be read counts as begun: its reader reports the reason."""
+    """Whether a log has its header. A log that can't be read counts as begun, and its reader reports the reason."""
     try:
         with log.open("rb") as file:
             return any(file.read(8))

@@ -167,11 +167,11 @@ class Owners:
         return socket
 
     def tagged(self, point: Point) -> Socket | None:
-        """The use of the descriptor that an event belongs to, by its tag."""
+        """The descriptor's use to which an event belongs, by the event's tag."""
         return next((use for use in reversed(self.uses.get(point.at, ())) if use.go_tag == point.c), None)
 
     def fired(self, point: Point) -> Socket | None:
-        """The use of the descriptor that set the timer: an earlier use if the firing has an old sequence."""
+        """The descriptor's use that set the timer: an earlier use if the firing has an old sequence."""
         side = 0 if point.b & 1 else 1
         for socket in reversed(self.uses.get(point.at, ())):
             if socket.sequences[side] <= point.a:
@@ -307,8 +307,8 @@ def owned(points: list[Point], all_bytes: bool = True) -> Owned:
 
 
 def lead_to(sockets: list[Socket], begin: int) -> dict[str, int]:
-    """Finds the steps that lead to noted sockets. Sockets that no steps lead to are left out; returns the reasons, each with the number of
-    such sockets."""
+    """Finds the steps that lead to noted sockets. If no steps lead to a socket, it is left out; returns the reasons, each with the number
+    of such sockets."""
     left_out: Counter[str] = Counter()
     for socket in [socket for socket in sockets if socket.note]:
         assert socket.note

@@ -17,7 +17,7 @@ FITS = "fits "  # the beginning of a line for a rule that fits
 
 @dataclass(frozen=True)
 class Standing:
-    """The state of a release, in words."""
+    """The state of a release as text."""
 
     version: str
     rules: int = 0

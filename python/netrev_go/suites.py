@@ -71,9 +71,9 @@ OF_OTHERS = (
     ),
     Suite("github.com/valyala/fasthttp", "Client|Server|Conn|Timeout|Pipeline|Dial|Listen|Shutdown"),
 )
-# Of a test that moves gigabytes, only the parts that don't, because each byte takes two characters in a recording.
+# For a test that moves gigabytes, only the parts that move less, because each byte takes two characters in a recording.
 PARTS = {"TestSplice": "^TestSplice$/./^(simple|multipleWrite|honors|updates|limited|readerAtEOF|issue)"}
-# What the gate records: each sample once, and ten tests.
+# The runs that the gate records: each sample once, and ten tests.
 SMALL_SAMPLES = (
     Sample("small", "main.go", runs_of("past lost leak late writers busy half"), (4,)),
     Sample("healthy", "healthy/main.go", HEALTHY, (4,), is_healthy=True),

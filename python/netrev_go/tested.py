@@ -1,4 +1,4 @@
-"""`netrev-go test`: the name and result of each test, and recordings of those that fail."""
+"""`netrev-go test`: the name and result of each test, and recordings of failing tests."""
 
 from __future__ import annotations
 
@@ -188,8 +188,8 @@ def nrdb_environment() -> dict[str, str]:
 
 
 def findings(recording: str, seconds: float) -> list[str]:
-    """nrdb's findings in other schedules within this many seconds, line by line. If the search fails or doesn't end,
-    that is reported."""
+    """nrdb's findings in other schedules within this many seconds, line by line. If the search fails or doesn't end, the result says
+    so."""
     words = [sys.executable, str(PACKAGES), "nrdb", "--explore", file_word(recording)]
     with subprocess.Popen(
         words, env=nrdb_environment(), text=True, stdin=subprocess.DEVNULL, stdout=subprocess.PIPE,

@@ -80,7 +80,7 @@ def rounds(options: argparse.Namespace) -> Iterator[Round]:
 
 
 def record_tests(options: argparse.Namespace, go: Go, command: list[str], wish: Wish) -> Came:
-    """Runs the tests as often as requested, and makes recordings of the failing ones."""
+    """Runs the tests as often as requested, and makes recordings of failing tests."""
     base = base_name(options.o, FOLDER)
     look_folder(base)
     recordings = Recordings(base, go, wish, options.all or options.explore is not None, options.html)
@@ -126,7 +126,7 @@ class Run:
         self.has_recorded = True
 
     def once(self, one: Round) -> int:
-        """Runs it and returns Go's status. The logs stay if they can't be converted."""
+        """Makes the run, and returns Go's status. The logs stay if they can't be converted."""
         folder = claim(logs_folder(self._options.points))
         limits = replace(limits_of(self._options), processors=one.processors)
         is_whole, running = False, list[pathlib.Path]()

@@ -27,7 +27,7 @@ TRIED = {"1.19": 8, "1.21": 13, "1.22": 12, "1.23": 5, "1.24": 4, "1.26": 10, "1
 
 
 class Trouble(Exception):
-    """An error for the user, with its remedy."""
+    """An error for the user that names its remedy."""
 
 
 @dataclass(frozen=True)
@@ -131,7 +131,7 @@ def fit(go: Go) -> tuple[bool, list[str]]:
 
 
 def overlay(go: Go) -> pathlib.Path:
-    """The overlay for this Go, made if it doesn't exist. It exists only after Go has compiled it."""
+    """The overlay for this Go, which is made if it doesn't exist. It exists only after Go has compiled it."""
     made = cache() / key_of(go)
     if not (made / OVERLAY).exists():
         try:

@@ -104,7 +104,7 @@ def recorded(command: list[str], folder: pathlib.Path, processors: int, is_whole
 
 
 def incomplete(made: Recording, counted: str) -> str:
-    """What the recording lacks: a change of a lock word, or bytes that the program counted."""
+    """The missing part of a recording: a change of a lock word, or bytes that the program counted."""
     if broken := unchained(made):
         return messages.LOCK_WORD_CHANGED.format(change=broken)
     total = {"read": 0, "write": 0}

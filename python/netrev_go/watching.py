@@ -1,5 +1,5 @@
-"""Makes recordings of a running server: at once, or when one of its calls has waited long. The log has two small tables of the goroutines
-that wait at sockets and since when, so frequent checks are cheap."""
+"""Makes recordings of a running server: at once, or when one of its calls has waited for a long time. Two small tables of the log say
+which goroutines wait at sockets, and since when, so frequent checks are cheap."""
 
 from __future__ import annotations
 
@@ -30,8 +30,8 @@ from .where import own_line
 
 LOOKS = 10  # checks within the time that a call may wait
 OFTENEST, SELDOMEST = 0.05, 1.0  # seconds between two checks
-# The words of a row in the table of descriptors: the lock word's address, and for each side the place, goroutine, stack
-# and begin of a wait.
+# The words of a row in the table of descriptors: the lock word's address, and for each side the place, goroutine, stack and start of a
+# wait.
 AT_A_WORD, SIDES, SIDE_WORDS = 1, 2, 4
 ACCEPTS = "internal/poll.(*FD).Accept"
 
@@ -76,7 +76,7 @@ def waiting_in(file: BinaryIO, header: Header) -> Iterator[Waiting]:
 
 
 class Watch:
-    """Checks the log of a process for calls that have waited long."""
+    """Checks the log of a process for calls that have waited for a long time."""
 
     def __init__(self, log: pathlib.Path, file: BinaryIO, header: Header, go: Go | None) -> None:
         self._log, self._file, self._header, self._go = log, file, header, go
@@ -115,7 +115,7 @@ class Watch:
         return None
 
     def words(self, one: Waiting) -> str:
-        """The message about a call that has waited long."""
+        """The message about a call that has waited for a long time."""
         line, function = line_of(self.calls(one.stack))
         now = time.clock_gettime_ns(time.CLOCK_MONOTONIC)
         return f"{line}: {function + ' ' if function else ''}{one.what} since {(now - one.since) / 1e9:.1f} s (goid {one.goroutine})"

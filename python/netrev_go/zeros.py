@@ -29,23 +29,23 @@ def line_with(before: str, size: int, behind: str) -> Line:
 
 
 def arrival(socket: int, count: int) -> Line:
-    """Bytes arrive at a socket."""
+    """A line for bytes that arrive at a socket."""
     return line_with(f'["arrive",{socket},"', count, '","done"]')
 
 
 @lru_cache(LINES_KEPT)
 def drained(socket: int, count: int) -> str:
-    """The other end takes bytes."""
+    """A line for bytes that the other end takes."""
     return f'["drain",{socket},{count},"done"]'
 
 
 @lru_cache(LINES_KEPT)
 def put_line(g: int, socket: int, count: int) -> Line:
-    """A write that put this many bytes."""
+    """A line for a write that wrote this many bytes."""
     return written(g, socket, count, f'["put",{count}]')
 
 
 @lru_cache(LINES_KEPT)
 def written(g: int, socket: int, count: int, answer: str) -> Line:
-    """A write of this many bytes, with its answer as JSON."""
+    """A line for a write of this many bytes, with its answer as JSON."""
     return line_with(f'["syswrite",{g},{socket},"', count, f'",{answer}]')

@@ -1,4 +1,4 @@
-// netrev's points at dials that fail. In an overlaid Go, these functions are appended to net/sock_posix.go.
+// This file has netrev's points at failed dials. In an overlaid Go, these functions are appended to net/sock_posix.go.
 
 package net
 
@@ -25,7 +25,7 @@ func poll_netrevAddress(name syscall.Sockaddr) int64
 //go:linkname runtime_netrevUnconnected
 func runtime_netrevUnconnected(done unsafe.Pointer, why, address int64)
 
-// netrevDialed returns a function that logs a failed connect to an address, and returns what it was given.
+// netrevDialed returns a function that logs a failed connect to an address, and returns its argument.
 func netrevDialed(ctx context.Context, to syscall.Sockaddr) func(name syscall.Sockaddr, err error) (syscall.Sockaddr, error) {
 	return func(name syscall.Sockaddr, err error) (syscall.Sockaddr, error) {
 		if err != nil && netrevDialsOn != 0 {
@@ -43,7 +43,7 @@ func netrevNotDialed(ctx context.Context, err error) error {
 	return err
 }
 
-// netrevDone returns the channel that is closed when a context ends; nil if it has none.
+// netrevDone returns the channel that is closed when a context ends, or nil if the context has no such channel.
 func netrevDone(ctx context.Context) unsafe.Pointer {
 	done := ctx.Done()
 	return *(*unsafe.Pointer)(unsafe.Pointer(&done))

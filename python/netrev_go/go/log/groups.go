@@ -1,4 +1,4 @@
-// netrev's point at a WaitGroup's counter. In an overlaid Go, these functions are appended to sync/waitgroup.go.
+// This file has netrev's point at a WaitGroup's counter. In an overlaid Go, these functions are appended to sync/waitgroup.go.
 
 package sync
 

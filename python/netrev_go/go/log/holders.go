@@ -1,9 +1,9 @@
 // netrev's table of locked mutexes: which goroutine holds each, and the calls that locked it. In an overlaid Go, these
 // functions are appended to runtime/sema.go.
 //
-// A mutex is locked and unlocked too often to log a point in the ring each time. Instead, a row is written after a
-// mutex is locked and freed before it is unlocked, so the table always has what is locked, also after the process has
-// ended. Most mutexes are unlocked soon, on the same processor, so each processor has a few rows of its own, which stay
+// A mutex is locked and unlocked too often to log a point in the ring each time. Instead, a row is written after a mutex is locked, and
+// freed before the mutex is unlocked, so the table always has the locked mutexes, even after the process has ended. Most mutexes are
+// unlocked soon, on the same processor, so each processor has a few rows of its own, which stay
 // in its cache; the other rows are used only if these are taken.
 
 package runtime
@@ -36,7 +36,7 @@ const (
 
 const netrevHolderBegun = 1
 
-// What a goroutine holds a mutex for.
+// The purpose for which a goroutine holds a mutex.
 const (
 	netrevForAll     = 0
 	netrevForReading = 1
@@ -69,7 +69,7 @@ func netrevHolderRowAt(row uint64) *netrevHolderRow {
 	return (*netrevHolderRow)(unsafe.Pointer(netrevBase + netrevHeaderBytes + netrevStacksBytes + uintptr(row)*netrevHolderWords*8))
 }
 
-// netrevNear returns a row of a processor in which a mutex may be, and netrevFar a row that all processors share.
+// netrevNear returns a processor's row that may have a mutex; netrevFar returns a row that all processors share.
 func netrevNear(processor, place uint64) *netrevHolderRow {
 	return netrevHolderRowAt(processor*netrevNearRows + place%netrevNearRows)
 }
@@ -106,7 +106,7 @@ func netrevHolds(at unsafe.Pointer, how uint64, frame uintptr) {
 	atomic.Xadd64(netrevWord(netrevHeadHoldersLost), 1)
 }
 
-// netrevTakesRow takes a free row; it returns nil if there is none.
+// netrevTakesRow takes a free row, or returns nil if no row is free.
 func netrevTakesRow(processor, place uint64) *netrevHolderRow {
 	if processor < netrevNearEnd {
 		for used := atomic.Load(&netrevNearUsed); uint64(used) <= processor; used = atomic.Load(&netrevNearUsed) {
@@ -161,8 +161,7 @@ func netrevLetsGo(at unsafe.Pointer, how uint64) {
 	}
 }
 
-// netrevFrees frees one row of a mutex that is held in this way, by this goroutine or by any, and returns whether it
-// found one.
+// netrevFrees frees one row of a mutex that this goroutine, or any goroutine, holds in this way, and returns whether it found such a row.
 func netrevFrees(at, mine uint64, isMine bool, processor uint64) bool {
 	place := netrevMixed(at)
 	if processor < netrevNearEnd && netrevFreesNear(at, mine, isMine, processor, place) {

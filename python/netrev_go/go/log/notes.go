@@ -4,7 +4,7 @@
 //
 // Four times in each round of the ring, a goroutine that holds no lock of the runtime notes every descriptor: points
 // with the state of its lock word and of the descriptor, and each goroutine that waits there, with its stage of the
-// wait. They are written under all locks of the descriptor, so that nothing of it changes between them.
+// wait. The points are written under all locks of the descriptor, so that the descriptor doesn't change between them.
 
 package runtime
 
@@ -125,7 +125,7 @@ func netrevRowAt(row uint64) *netrevRow {
 	return (*netrevRow)(unsafe.Pointer(netrevRows + uintptr(row)*unsafe.Sizeof(netrevRow{})))
 }
 
-// netrevRowOf returns the row of a descriptor; nil if it has none. A new descriptor takes one.
+// netrevRowOf returns the row of a descriptor, or nil if it has no row. A new descriptor takes a row.
 func netrevRowOf(pd uintptr, isNew bool) *netrevRow {
 	first := netrevMixed(uint64(pd))
 	for try := uint64(0); try < netrevRowTries; try++ {
@@ -145,7 +145,7 @@ func netrevRowOf(pd uintptr, isNew bool) *netrevRow {
 	return nil
 }
 
-// netrevInside records that a goroutine has come to a place of a wait, which begins there if `since` is a time.
+// netrevInside records that a goroutine has come to a place of a wait. The wait begins there if `since` is a time.
 func netrevInside(pd *pollDesc, mode int32, place, goid, stack uint64, since int64) {
 	if netrevRows == 0 {
 		return
@@ -161,8 +161,7 @@ func netrevInside(pd *pollDesc, mode int32, place, goid, stack uint64, since int
 	}
 }
 
-// netrevBehind returns the place of a goroutine after a point of a wait, depending on whether that point let it go on
-// waiting.
+// netrevBehind returns the place of a goroutine after a point of a wait, depending on whether it still waits after that point.
 func netrevBehind(kind uint64, goesOn bool) uint64 {
 	switch {
 	case goesOn && (kind == netrevWaitBegin || kind == netrevWaitCheck):
@@ -201,8 +200,8 @@ func netrevQueues(addr *uint32, goid, stack uint64) {
 	atomic.Store(&netrevUnqueued, 1)
 }
 
-// netrevFirst returns the goroutine that has been queued longest at a semaphore, among those with a greater number than
-// `behind`; nil if there is none.
+// netrevFirst returns the goroutine that has been queued longest at a semaphore, among goroutines with a greater number than `behind`, or
+// nil if no goroutine is queued.
 func netrevFirst(at uintptr, behind uint64) *netrevWaiter {
 	var first *netrevWaiter
 	for try := uint64(0); try < netrevRowTries; try++ {
@@ -285,7 +284,7 @@ func netrevRowKnown(descriptor uintptr) *netrevRow {
 	return netrevRowOf(descriptor, false)
 }
 
-// netrevNotes notes all descriptors, if that is due. The caller holds no lock of the runtime.
+// netrevNotes notes all descriptors, if notes are due. The caller holds no lock of the runtime.
 func netrevNotes() {
 	if netrevRows == 0 || atomic.Load(&netrevIsDue) == 0 || !atomic.Cas(&netrevNoting, 0, 1) {
 		return
@@ -316,7 +315,7 @@ func netrevNotesPoint(kind uint64, b, c int64) (number uint64) {
 	return number
 }
 
-// netrevNote notes a descriptor under its locks, if it is a socket's, and returns whether it is.
+// netrevNote notes a descriptor under its locks if the descriptor is a socket's, and returns whether it is.
 func netrevNote(row *netrevRow) bool {
 	lock(&netrevRowLock)
 	word := (*uint64)(unsafe.Pointer(row.word))

@@ -6,7 +6,7 @@ package runtime
 
 import "unsafe"
 
-// Kinds of points. At a channel, a is the number of values that it held just before, and b its capacity.
+// Kinds of points. At a channel, a is the number of values that the channel held just before the point, and b is its capacity.
 const (
 	netrevReadyKind      = 117 // a is the goroutine that was made ready, or that was started if b is 1
 	netrevSentKind       = 118
@@ -32,7 +32,7 @@ const (
 	netrevTakes = 2
 )
 
-// netrevOrder logs a point of a goroutine, and nothing if the scheduler itself acts.
+// netrevOrder logs a point of a goroutine; it logs nothing if the scheduler itself acts.
 func netrevOrder(kind uint64, goid uint64, at unsafe.Pointer, a, b, c int64) {
 	if netrevOrders && netrevOn != 0 && goid != 0 {
 		if *netrevWord(netrevHeadOrders) == 0 {
@@ -42,8 +42,8 @@ func netrevOrder(kind uint64, goid uint64, at unsafe.Pointer, a, b, c int64) {
 	}
 }
 
-// netrevReadied logs that a goroutine is made ready, unless traceskip has a mark: then a step of a recording makes it
-// ready. It returns traceskip without the mark.
+// netrevReadied logs that a goroutine becomes ready, unless traceskip has a mark, which means that a step of a recording makes it ready.
+// It returns traceskip without the mark.
 func netrevReadied(gp *g, traceskip int) int {
 	if traceskip < netrevSema {
 		netrevOrder(netrevReadyKind, netrevGoroutine(), nil, int64(gp.goid), 0, 0)
@@ -110,11 +110,11 @@ func netrevWaits(reason string) int64 {
 	return netrevForOther
 }
 
-// netrevChannelOf returns the channel at which a goroutine is queued. It is set if the rules for objects fit; otherwise
-// no point says at what a goroutine waits.
+// netrevChannelOf returns the channel at which a goroutine is queued. This function is set if the rules for objects fit; otherwise points
+// don't name the object at which a goroutine waits.
 var netrevChannelOf func(waiting *sudog) *hchan
 
-// netrevSleepsUntil returns the time until which a goroutine is about to sleep. It is set if the rules for timers fit.
+// netrevSleepsUntil returns the time until which a goroutine is about to sleep. This function is set if the rules for timers fit.
 var netrevSleepsUntil func(gp *g) int64
 
 // netrevParks logs that a goroutine of the program is about to wait outside the poller, with the lock that gopark was
@@ -184,7 +184,7 @@ func netrevSelects(gp *g, what int64) (at unsafe.Pointer, bits, b, c int64) {
 	return unsafe.Pointer(channels[0]), bits, int64(channels[1]), int64(channels[2])
 }
 
-// netrevGoesOn logs that a goroutine that waited goes on.
+// netrevGoesOn logs that a waiting goroutine continues.
 func netrevGoesOn() {
 	netrevOrder(netrevGoesOnKind, uint64(getg().goid), nil, 0, 0, 0)
 	netrevNotes()
@@ -202,7 +202,7 @@ func netrevTimer(c *hchan, when int64) {
 	netrevOrder(netrevTimerKind, netrevGoroutine(), unsafe.Pointer(c), when, 0, 0)
 }
 
-// netrevTimerReset logs that a goroutine resets a timer with a channel, and netrevTimerStopped that it stops one.
+// netrevTimerReset logs that a goroutine resets a timer with a channel, and netrevTimerStopped that a goroutine stops such a timer.
 func netrevTimerReset(c *hchan, when int64) {
 	if c != nil {
 		netrevTimer(c, when)
@@ -257,8 +257,8 @@ func netrevFromSender(c *hchan, sender *g, isUnbuffered bool) bool {
 	return isUnbuffered
 }
 
-// netrevToReceiver logs a value that goes to a waiting receiver. A goroutine that sends into a buffer would have gone
-// on without the receiver.
+// netrevToReceiver logs a value that goes to a waiting receiver. A goroutine that sends into a buffer would have continued without the
+// receiver.
 func netrevToReceiver(c *hchan, receiver *g) bool {
 	if c.dataqsiz == 0 {
 		netrevOrder(netrevMetKind, netrevGoroutine(), unsafe.Pointer(c), int64(receiver.goid), netrevGives, 0)

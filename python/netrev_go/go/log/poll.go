@@ -31,7 +31,7 @@ const (
 	netrevOfUnix      = 3 // a is the path of a connection's own end, and b the other end's, as numbers; 0 if an end has none
 )
 
-// A system call's error, as the log has it.
+// A system call's error in the form of the log.
 const (
 	netrevNoError = iota
 	netrevAgain
@@ -85,7 +85,7 @@ func netrevBit(b bool) int64 {
 	return 0
 }
 
-// netrevSwap swaps a lock word if there is a log; answer is what Go's function will return then.
+// netrevSwap swaps a lock word if a log exists; answer is what Go's function will return in that case.
 func netrevSwap(kind uint64, mu *fdMutex, old, new uint64, answer, read bool) bool {
 	runtime_netrevDelay(kind)
 	netrevSeenByRace(mu)
@@ -94,7 +94,7 @@ func netrevSwap(kind uint64, mu *fdMutex, old, new uint64, answer, read bool) bo
 	return done
 }
 
-// netrevSeenByRace shows the race detector a swap that it doesn't see, because the runtime makes it.
+// netrevSeenByRace reports a swap to the race detector, which doesn't see the swap because the runtime makes it.
 func netrevSeenByRace(mu *fdMutex) {
 	if race.Enabled {
 		atomic.AddUint64(&mu.state, 0)
@@ -123,8 +123,8 @@ func netrevRelease(sema *uint32, read bool) {
 	runtime_netrevRelease(sema, read)
 }
 
-// netrevSetsDeadline sets a deadline, which takes a reference to the socket and drops it again, as a single point; it
-// returns whether it did.
+// netrevSetsDeadline sets a deadline as a single point, although this takes a reference to the socket and drops it again; it returns
+// whether it set the deadline.
 func netrevSetsDeadline(fd *FD, d int64, mode int) bool {
 	if fd.pd.runtimeCtx == 0 {
 		return false
@@ -144,7 +144,7 @@ func netrevInit(fd *FD) *FD {
 	return fd
 }
 
-// netrevOpened records that a descriptor was opened there, unless that failed with err.
+// netrevOpened records that a descriptor was opened in the poller, unless the opening failed with err.
 func netrevOpened(fd *FD, err error) error {
 	if netrevOn != 0 && err == nil {
 		runtime_netrevKnows(fd.pd.runtimeCtx, &fd.fdmu.state)
@@ -158,13 +158,13 @@ func netrevOpened(fd *FD, err error) error {
 	return err
 }
 
-// netrevIsCalled logs a socket's names, which are known from here on.
+// netrevIsCalled logs a socket's names, which are known at this point.
 func netrevIsCalled(fd *FD, a, b, c int64) {
 	runtime_netrevPoint(netrevNamedKind, &fd.fdmu.state, a, b, c)
 	runtime_netrevIsCalled(fd.pd.runtimeCtx, a, b, c)
 }
 
-// netrevDatagrams logs the addresses of a datagram socket, which has its own by now.
+// netrevDatagrams logs the addresses of a datagram socket, whose own address is set by now.
 func netrevDatagrams(fd *FD) {
 	own, err := syscall.Getsockname(fd.Sysfd)
 	if err != nil || netrevAddress(own) == 0 {
@@ -226,7 +226,7 @@ func netrevPacked(sort uint64, address []byte, port int) int64 {
 // netrevNamed has a bit for each system descriptor: whether its ends were looked up since it was opened.
 var netrevNamed [2048]uint32
 
-// netrevIsNamed sets a descriptor's bit to this value, and returns whether it had that value before; true for a
+// netrevIsNamed sets a descriptor's bit to this value, and returns whether the bit had that value before; it returns true for a
 // descriptor without a bit.
 func netrevIsNamed(sysfd int, named bool) bool {
 	if uint(sysfd) >= uint(len(netrevNamed)*32) {
@@ -244,7 +244,7 @@ func netrevIsNamed(sysfd int, named bool) bool {
 	}
 }
 
-// netrevEnds logs the names of a connection's two ends, once: they show which two sockets of a process are ends of one
+// netrevEnds logs the names of a connection's two ends, once. The names show which two sockets of a process are the ends of one
 // connection. It returns false if the socket isn't connected yet.
 func netrevEnds(fd *FD) bool {
 	if !fd.IsStream || netrevIsNamed(fd.Sysfd, true) {
@@ -263,7 +263,7 @@ func netrevEnds(fd *FD) bool {
 	return true
 }
 
-// netrevPath returns a number for the path of a Unix socket; 0 if it has none, and for other sockets.
+// netrevPath returns a number for the path of a Unix socket, or 0 for a socket without a path.
 func netrevPath(name syscall.Sockaddr) int64 {
 	end, isUnix := name.(*syscall.SockaddrUnix)
 	if !isUnix || end == nil || end.Name == "" || end.Name == "@" {
@@ -272,8 +272,7 @@ func netrevPath(name syscall.Sockaddr) int64 {
 	return netrevHash(0, []byte(end.Name))
 }
 
-// netrevEnd returns a number for an address and its port, the same for both forms of an IPv4 address; 0 for other
-// addresses.
+// netrevEnd returns a number for an address and its port, or 0 for other addresses. Both forms of an IPv4 address have the same number.
 func netrevEnd(name syscall.Sockaddr) int64 {
 	var address []byte
 	var port int

@@ -1,7 +1,7 @@
 // netrev's log of a process. In an overlaid Go, these functions are appended to runtime/netpoll.go.
 //
-// With NETREV_LOG=PATH in its environment, a program writes the file PATH.PID, which is mapped: however the process
-// ends, the kernel keeps what was written, and the file may be read while the process runs. Words have 64 bits. A
+// With NETREV_LOG=PATH in its environment, a program writes the file PATH.PID, which is mapped. However the process ends, the kernel
+// keeps what was written, and the file can be read while the process runs. Words have 64 bits. A
 // header comes first, then the stacks, the table of locked mutexes (holders.go), the tables of descriptors and of
 // goroutines that are queued for their locks (notes.go), and a ring of points. Without NETREV_LOG, the functions only
 // read netrevOn.
@@ -146,8 +146,8 @@ func netrevNumber(text string) uint64 {
 	return number
 }
 
-// System calls by their numbers, because the runtime's own functions for them have moved from release to release. Those
-// of arm64 were compiled, but have never run.
+// System calls by their numbers, because the runtime's own functions for them have moved from release to release. The calls for arm64
+// were compiled, but have never run.
 const (
 	netrevOpening   = 257*goarch.IsAmd64 + 56*goarch.IsArm64
 	netrevClosing   = 3*goarch.IsAmd64 + 57*goarch.IsArm64
@@ -207,10 +207,10 @@ func netrevReserve(file, size uintptr) uintptr {
 	return 0
 }
 
-// netrevHasRoom reserves room for a part of a mapping, and returns whether there was any. The kernel writes there
+// netrevHasRoom reserves room for a part of a mapping, and returns whether it succeeded. The kernel writes there
 // first: if there is no room, it returns an error, and the program isn't killed by SIGBUS, as it would be by its own
-// write. This needs no descriptor. Before Linux 5.14 no single call does so for all pages: there the kernel adds 0 to a
-// word of each.
+// write. This needs no descriptor. Before Linux 5.14 no single call reserves all pages, so there the kernel adds 0 to a word of each
+// page.
 func netrevHasRoom(begin, size uintptr) bool {
 	const populateWrite, wakeOp, private, add, fault = 23, 5, 128, 1 << 28, 14
 	page := begin &^ (netrevPageBytes - 1)
@@ -266,8 +266,8 @@ func init() {
 }
 
 // netrevUnrecorded leaves the empty file PATH.unrecorded/process.PROCESS.ERROR, which tells netrev-go about a process
-// that can't write a log. Without that folder it leaves nothing. It prints nothing, because standard error belongs to
-// the program, and another one may read it.
+// that can't write a log. Without that folder it leaves nothing. It prints nothing, because standard error belongs to the program, and
+// another program may read it.
 func netrevUnrecorded(path string, process, why uint64) {
 	if file, errno := netrevOpenFile(netrevName(path+".unrecorded/process", process, why), netrevCreateAnew, 0600); errno == 0 {
 		netrevSystem(netrevClosing, file)
@@ -358,8 +358,8 @@ func netrevCopy(from, to uintptr) (copied uintptr) {
 }
 
 // netrevLog writes a point: its kind, its goroutine, its address, the values seen there, and the time; `now` is the
-// time that Go read for the same action, or 0 if it read none. The point's number is taken here, under the lock of what
-// the point is about. The stack's number is returned.
+// time that Go read for the same action, or 0 if it read none. The point takes its number here, under the lock of its object. netrevLog
+// returns the stack's number.
 func netrevLog(kind uint64, goid uint64, at uintptr, a, b, c, now int64) (stack uint64) {
 	number := netrevNext()
 	hasTime, hasStack := netrevTimedSteps>>kind&1 != 0, netrevStackedSteps>>kind&1 != 0
@@ -386,7 +386,7 @@ func netrevNext() uint64 {
 	return number
 }
 
-// netrevWrite writes the point of a number, with this stack. A half-written point is known by its checksum, so that no
+// netrevWrite writes the point with this number and this stack. A half-written point is known by its checksum, so that no
 // store has to wait for the previous one, whose cache line is seldom loaded.
 func netrevWrite(number, kind, goid uint64, at uintptr, a, b, c, now int64, stack uint64) {
 	if number%netrevChunk == 0 {
@@ -406,8 +406,8 @@ func netrevWrite(number, kind, goid uint64, at uintptr, a, b, c, now int64, stac
 	p[4], p[5], p[6], p[7] = uint64(b), uint64(c), uint64(now), stack|(sum^sum>>32)<<32
 }
 
-// netrevRoom reserves room for the next points, during the first round of the ring. A point that comes before that is
-// done reserves its own; if there is no room left, the log ends.
+// netrevRoom reserves room for the next points, during the first round of the ring. A point that comes before this is done reserves its
+// own room; if no room is left, the log ends.
 func netrevRoom(number uint64) {
 	first, end := atomic.Load64(&netrevRoomed), number+2*netrevChunk
 	if end > netrevPoints {
@@ -462,7 +462,7 @@ func netrevStack(gp *g, frame uintptr) uint64 {
 	return 0
 }
 
-// netrevGoroutine returns the goroutine that runs, also while the scheduler's stack is used for it; 0 if none does.
+// netrevGoroutine returns the running goroutine, even while it uses the scheduler's stack, or 0 if no goroutine runs.
 func netrevGoroutine() uint64 {
 	if gp := getg(); gp.m != nil && gp.m.curg != nil {
 		return uint64(gp.m.curg.goid)
@@ -559,7 +559,7 @@ func netrevTaken(pd *pollDesc, word *atomic.Uintptr, mode int32) uintptr {
 	return old
 }
 
-// netrevCommit returns what gopark calls instead of netpollblockcommit, with the descriptor instead of the word.
+// netrevCommit returns the function that gopark calls instead of netpollblockcommit, with the descriptor instead of the word.
 func netrevCommit(mode int32) func(*g, unsafe.Pointer) bool {
 	if mode == 'w' {
 		return netrevCommitWrite
@@ -597,7 +597,7 @@ var netrevSetting [netrevNearEnd / netrevNearRows]struct {
 	_          [48]byte
 }
 
-// netrevDeadline logs that a deadline is set, and returns the time of the clock that it is computed from.
+// netrevDeadline logs that a deadline is set, and returns the clock's time from which the deadline is computed.
 func netrevDeadline(pd *pollDesc, mode int, d int64) int64 {
 	now := nanotime()
 	kind, state := uint64(netrevSetDeadline), uint64(0)
@@ -639,7 +639,7 @@ func netrevClock(now int64) int64 {
 	return now
 }
 
-// netrevFired logs a timer that goes off, and returns whether its sequence is an old one, as Go compares it.
+// netrevFired logs a timer that fires, and returns whether its sequence is old, as Go compares it.
 func netrevFired(pd *pollDesc, seq, current uintptr, read, write bool) bool {
 	if netrevOn != 0 {
 		bits := netrevBit(read) + 2*netrevBit(write) + 4*netrevBit(seq != current)
@@ -785,7 +785,7 @@ func poll_runtime_netrevClosed(kind uint64, word *uint64, bits int64) {
 	netrevUnspin(l, mp)
 }
 
-// netrevTests is where the file LOG.tests of a program with tests is mapped; 0 if it isn't.
+// netrevTests is the address at which the file LOG.tests of a program with tests is mapped, or 0 if it isn't mapped.
 var (
 	netrevTests     uintptr
 	netrevTestsRoom uintptr
@@ -841,9 +841,9 @@ func netrevMixed(x uint64) uint64 {
 	return x ^ x>>32
 }
 
-// netrevDelay lets other goroutines run first, at a quarter of all places, which the seed chooses: it sleeps from half
-// a millisecond to 8, also by the seed, each of the first 64 times, and seldom later. A place is a kind of point in
-// goroutines that were started alike. The caller holds no lock of the runtime.
+// netrevDelay lets other goroutines run first, at a quarter of all places, which the seed chooses. It sleeps for 0.5 to 8 milliseconds,
+// also by the seed, each of the first 64 times, and seldom later. A place is a kind of point in all goroutines that the same code
+// started. The caller holds no lock of the runtime.
 //
 //go:linkname poll_runtime_netrevDelay internal/poll.runtime_netrevDelay
 func poll_runtime_netrevDelay(kind uint64) {

@@ -41,8 +41,8 @@ func netrevHeedsSignal() {
 	netrevSignal = userDefined2
 }
 
-// netrevSignalled copies the log if the signal is the chosen one. It returns whether the signal is handled: by the
-// copy, or by the program, which got it if isSent.
+// netrevSignalled copies the log if this is the chosen signal. It returns whether the copy or the program handles the signal; the program
+// got the signal if isSent is true.
 func netrevSignalled(sig uint32, isSent bool) bool {
 	if sig != netrevSignal {
 		return isSent
@@ -54,7 +54,7 @@ func netrevSignalled(sig uint32, isSent bool) bool {
 	return true
 }
 
-// netrevCopyLog copies the log. It runs on a signal's stack: the names are prepared, and nothing is allocated.
+// netrevCopyLog copies the log. It runs on a signal's stack, so the names are prepared earlier, and nothing is allocated.
 func netrevCopyLog() {
 	name, part, failed := uintptr(unsafe.Pointer(&netrevSnapshot[0])), uintptr(unsafe.Pointer(&netrevUnready[0])), uintptr(unsafe.Pointer(&netrevUncopied[0]))
 	netrevSystem(netrevUnlink, netrevHere, part, 0)

@@ -1,4 +1,4 @@
-// netrev's points at tests: which test runs, ends, fails or is skipped. In an overlaid Go, these functions are appended
+// This file has netrev's points at tests: which test runs, ends, fails or is skipped. In an overlaid Go, these functions are appended
 // to testing/testing.go. Each is a line of LOG.tests; the log itself has no points for them.
 
 package testing
@@ -27,15 +27,15 @@ func netrevPackage(path string) {
 	runtime_netrevTest("package", path)
 }
 
-// netrevTested writes a line about a test. The one that runs all others has no name.
+// netrevTested writes a line about a test. The test that runs all other tests has no name.
 func netrevTested(what, name string) {
 	if name != "" {
 		runtime_netrevTest(what, name)
 	}
 }
 
-// netrevFailed writes that a test failed, and at which line: the innermost line of a test file, else the first that
-// isn't in package testing.
+// netrevFailed writes that a test failed, and at which line: the innermost line of a test file, or else the first line outside package
+// testing.
 func netrevFailed(name string) {
 	if name == "" || netrevOn == 0 {
 		return

@@ -56,7 +56,7 @@ func readPackage(root, name string) (*folder, error) {
 	return read, nil
 }
 
-// callsOf lists what other packages call on an FD: its exported methods, and the exported functions that take one.
+// callsOf lists what other packages call on an FD: its exported methods, and the exported functions with an FD as a parameter.
 func callsOf(poll *folder) []string {
 	var calls []string
 	for _, f := range poll.functions {

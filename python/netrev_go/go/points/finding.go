@@ -95,7 +95,7 @@ func matches(e ast.Expr, find string) bool {
 	return printed(e) == find
 }
 
-// findAll returns each occurrence of an expression in a function, from its top.
+// findAll returns each occurrence of an expression in a function, from the function's first line on.
 func findAll(f *ast.FuncDecl, find string) []found {
 	var all []found
 	var parents []ast.Node

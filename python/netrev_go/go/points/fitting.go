@@ -6,7 +6,7 @@ import (
 	"strings"
 )
 
-// A fitting says by which of its variants a rule fits, or why none does.
+// A fitting says which variant of a rule fits, or why no variant fits.
 type fitting struct {
 	rule    rule
 	without string // what isn't recorded if the rule doesn't fit; "" if nothing can be recorded then
@@ -37,7 +37,7 @@ func (f *fitting) fit(s *source) {
 	}
 }
 
-// wanted returns all rules, with what isn't recorded without them.
+// wanted returns all rules, each with what isn't recorded if it doesn't fit.
 func wanted() []fitting {
 	var all []fitting
 	for _, r := range steps {
@@ -149,11 +149,11 @@ func contains(files []string, file string) bool {
 	return false
 }
 
-// together has what is recorded completely or not at all.
+// together names what is recorded completely or not at all.
 var together = map[string]bool{ofOrders: true, ofObjects: true, ofDials: true, ofHolders: true, ofTests: true, ofNotes: true}
 
-// withOrders has what is recorded only together with the program's orders, because a log with such points is taken to
-// have the orders too.
+// withOrders names what is recorded only together with the program's orders, because a log with such points counts as having the orders
+// too.
 var withOrders = map[string]bool{
 	ofObjects: true, ofEnds: true, ofSleeps: true, ofTimers: true, ofStops: true, ofGroups: true, ofMaking: true, ofDials: true, ofHolders: true,
 }

@@ -35,7 +35,7 @@ var guardsOfPoll = []guard{
 	{"runtime_pollUnblock(", "", "evict"},
 }
 
-// The places at which internal/poll moves bytes. Bytes that are moved elsewhere aren't recorded; everything else is.
+// The places at which internal/poll moves bytes. Bytes that are moved elsewhere aren't recorded; everything else is recorded.
 var guardsOfMoves = []guard{
 	{"ignoringEINTRIO(syscall.Read,", "", "Read"},
 	{"ignoringEINTRIO(syscall.Write,", "", "Write WriteOnce"}, // WriteOnce is only for Go's own tests
@@ -76,7 +76,7 @@ func guarded(poll, runtime *folder) int {
 	return len(places)
 }
 
-// strange returns the calls of a package that a guard names, but in another function, each once.
+// strange returns, each once, the calls of a package that a guard names but that are in another function.
 func (p *folder) strange(guards []guard) []string {
 	var told []string
 	said := map[string]bool{}

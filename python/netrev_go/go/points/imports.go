@@ -7,8 +7,7 @@ import (
 	"strings"
 )
 
-// before124 says, for each of the runtime's packages that our functions use, where older releases have it, or what
-// replaces its call.
+// before124 has, for each of the runtime's packages that our functions use, its place in older releases, or what replaces its call.
 var before124 = map[string]struct {
 	packages                []string
 	declares, what, instead string
@@ -18,7 +17,7 @@ var before124 = map[string]struct {
 	"internal/runtime/sys":           {declares: "GetCallerSP", what: "sys.GetCallerSP()", instead: "getcallersp()"},
 }
 
-// oursFor returns the part of our file that is appended to a file of Go, and the imports that the latter lacks.
+// oursFor returns the part of our file that is appended to a file of Go, and the imports that Go's file lacks.
 func oursFor(folder, path string, host *source) (functions, imports string, err error) {
 	ours, err := readSource(path)
 	if err != nil {
@@ -47,7 +46,7 @@ func oursFor(folder, path string, host *source) (functions, imports string, err 
 	return text, imports, nil
 }
 
-// endOfImports returns where a file's imports end, or its package clause if it has none.
+// endOfImports returns the end of a file's imports, or of its package clause if the file has no imports.
 func (s *source) endOfImports() int {
 	end := s.offset(s.syntax.Name.End())
 	for _, declaration := range s.syntax.Decls {

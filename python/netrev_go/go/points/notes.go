@@ -2,8 +2,8 @@ package main
 
 const ofNotes = "what was open before the oldest point"
 
-// What the notes of open descriptors need besides the points of steps: whether a descriptor's two timers run, its tag,
-// and where a socket ends.
+// The rules for what the notes of open descriptors need besides the points of steps: whether a descriptor's two timers run, its tag, and
+// where a socket ends.
 var notes = []rule{
 	{polling, "poll_runtime_pollServerInit", []variant{
 		{"1.18 to 1.22", "!rrun", []edit{one(beside, "netpollGenericInit()", timersRun("pd.rt.f != nil", "pd.wt.f != nil"))}},

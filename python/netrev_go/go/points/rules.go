@@ -46,7 +46,7 @@ const (
 	grouping  = "sync/waitgroup.go"
 )
 
-// Which of our files is appended to which of Go's.
+// For each of our files, the file of Go to which it is appended.
 var appended = map[string]string{
 	lockWords: "poll.go", polling: "runtime.go", epolling: "notes.go", channels: "orders.go", queueing: "holders.go", grouping: "groups.go", testing: "tests.go",
 	mutexes: "mutexes.go", mutexesSince124: "mutexes.go", readWriting: "readers.go", connecting: "dials.go", signalling: "signals.go",
@@ -63,7 +63,7 @@ func since121(before, since []edit) []variant {
 	return []variant{{"1.18 to 1.20", "!fdseq", before}, {"1.21 to 1.27", "fdseq", since}}
 }
 
-// orLogged returns code that is the found expression if there is no log, and another one if there is.
+// orLogged returns code that is the found expression if no log exists, and another expression if a log exists.
 func orLogged(put string) string { return "(netrevOn == 0 && $0 || netrevOn != 0 && " + put + ")" }
 
 func one(how how, find string, put string) edit { return edit{how, find, 1, []string{put}} }

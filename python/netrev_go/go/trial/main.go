@@ -1,6 +1,6 @@
 // The program that netrev-go records to see whether an installed Go can be recorded: it has each kind of step, each way
-// out of a wait, and the ways in which bytes move. It prints how many bytes were read and written; an accepted
-// connection counts as one byte that was read.
+// out of a wait, and the ways in which bytes move. It prints how many bytes were read and written; an accepted connection counts as one
+// read byte.
 //
 //	trial MILLISECONDS
 package main
@@ -38,8 +38,7 @@ func wrote(n int64, err error) {
 	atomic.AddInt64(&writes, n)
 }
 
-// backlog reads what net.Listen reads from a file of the system that the poller accepts, and returns the number of
-// bytes.
+// backlog reads the system's file that net.Listen reads, which the poller accepts, and returns the number of bytes.
 func backlog() int64 {
 	file, err := syscall.Open("/proc/sys/net/core/somaxconn", syscall.O_RDONLY, 0)
 	if err != nil {
@@ -120,7 +119,7 @@ func messages(_, _ *net.TCPConn) {
 	}
 }
 
-// late waits until a deadline wakes it, meets one that has passed, and one that is cancelled.
+// late waits until a deadline wakes it, then meets a passed deadline and a cancelled deadline.
 func late(end, _ *net.TCPConn) {
 	buffer := make([]byte, 8)
 	end.SetReadDeadline(time.Now().Add(moment))
@@ -152,8 +151,8 @@ func queue(end, other *net.TCPConn) {
 	all.Wait()
 }
 
-// full fills the buffers, so that a writer waits until the other end reads. They are small, because netrev checks each
-// byte; if they were smaller still, the kernel would wait for a second.
+// full fills the buffers, so that a writer waits until the other end reads. The buffers are small, because netrev checks each byte; if
+// they were even smaller, the kernel would wait for a second.
 func full(end, other *net.TCPConn) {
 	const buffer, piece = 1 << 15, 1 << 14
 	end.SetWriteBuffer(buffer)
