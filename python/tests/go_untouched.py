@@ -1,7 +1,7 @@
 """Runs the small programs of go_untouched.go with and without recording, and compares the results:
 output, status and files.
 
-    python3 python tests.go_untouched [RELEASE ..] prints a line for each program, with these releases of Go or with all
+    python3 python tests.go_untouched [RELEASE ..]    prints a line for each program, with these releases of Go or with all
     installed releases"""
 
 import contextlib

@@ -2,7 +2,7 @@
 no source of Go). For changes planted into Go, the stored lines say what isn't recorded. It needs the Go that
 netrev_go.fetching fetches.
 
-    /usr/bin/python3 python tests.test_go_overlays stores new checksums and lines"""
+    /usr/bin/python3 python tests.test_go_overlays    stores new checksums and lines"""
 
 import hashlib
 import json

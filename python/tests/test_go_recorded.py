@@ -3,7 +3,7 @@ point of the program's goroutines, the mutexes that are locked at the end, and t
 recordings of the whole log and of its second half are checked too. It needs the Go 1.27 that netrev_go.fetching
 fetches.
 
-    /usr/bin/python3 python tests.test_go_recorded stores the new text"""
+    /usr/bin/python3 python tests.test_go_recorded    stores the new text"""
 
 import os
 import re

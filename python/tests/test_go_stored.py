@@ -2,8 +2,8 @@
 and in randomly chosen parts, of which only checksums are stored. Logs of random programs are tested in the same way.
 Neither Go nor netrev is needed.
 
-    /usr/bin/python3 python tests.test_go_stored stores all new results /usr/bin/python3 python tests.test_go_stored
-    PART .. prints what is made from parts, such as log-7 or program-7"""
+    /usr/bin/python3 python tests.test_go_stored             stores all new results
+    /usr/bin/python3 python tests.test_go_stored PART ..     prints what is made from parts, such as log-7 or program-7"""
 
 import hashlib
 import json

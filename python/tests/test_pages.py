@@ -110,7 +110,7 @@ PLANTED: list[tuple[str, str, str, str, str]] = [
     ("imports", "CONTRIBUTING.md", "Python", "C", "no table under"),
     ("docstrings", "python/nrdb/counting.py", "Counts.", "The same of two.", "leans on the comment before it"),
     ("modules", "crates/counting/specs/Lib.antt", "need\n", "need\npub mod Spare\n", "imports Spare"),
-    ("modules", "crates/adding/specs/Lib.antt", "use\n", "use\npub mod Sum\n", "callers need Sum"),
+    ("modules", "crates/adding/specs/Lib.antt", "definitions use\n", "use\npub mod Sum\n", "callers need Sum"),
     ("modules", "crates/counting/src/lib.rt", "pub fn count", "fn count", "no public contract cites it"),
     ("comments", "crates/counting/src/lib.rt", "How many there are in all.", "So are those.", "leans on the comment"),
     ("comments", "crates/adding/specs/Inside.antt", "one more", "the same", "leans on the comment"),

@@ -1,8 +1,8 @@
 """nrdb's answers to random lines about some recordings, and the files that it writes; the lines use all commands.
 Because the texts are long, a checksum is stored for every few answers.
 
-    /usr/bin/python3 python tests.test_stored_lines stores new checksums /usr/bin/python3 python tests.test_stored_lines
-    NAME prints a recording's answers, to compare them with earlier answers"""
+    /usr/bin/python3 python tests.test_stored_lines         stores new checksums
+    /usr/bin/python3 python tests.test_stored_lines NAME    prints a recording's answers, to compare them with earlier answers"""
 
 import hashlib
 import json

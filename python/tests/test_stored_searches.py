@@ -1,8 +1,8 @@
 """What `explore`, `reduce` and `report` find in some recordings, and all that they write: checksums
 are stored, because the texts are long. The model answers instead of netrev.
 
-    /usr/bin/python3 python tests.test_stored_searches stores new checksums /usr/bin/python3 python
-    tests.test_stored_searches NAME .. prints all for a recording, to compare it with an earlier text"""
+    /usr/bin/python3 python tests.test_stored_searches              stores new checksums
+    /usr/bin/python3 python tests.test_stored_searches NAME ..      prints all for a recording, to compare it with an earlier text"""
 
 import hashlib
 import json

@@ -1,8 +1,8 @@
 """What nrdb says about the recordings in `caused` at many positions, and without parts of
 NAME.where: checksums are stored, because the texts are long.
 
-    /usr/bin/python3 python tests.test_stored_sums stores new checksums /usr/bin/python3 python tests.test_stored_sums
-    NAME VIEW .. prints the text of a view, to compare it with an earlier text"""
+    /usr/bin/python3 python tests.test_stored_sums                     stores new checksums
+    /usr/bin/python3 python tests.test_stored_sums NAME VIEW ..        prints the text of a view, to compare it with an earlier text"""
 
 import hashlib
 import json

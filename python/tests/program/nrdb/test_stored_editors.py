@@ -1,9 +1,8 @@
 """The adapter's answers to random requests about some recordings. Because the texts are long, only checksums of each
 conversation's messages are stored.
 
-    /usr/bin/python3 python tests.program.nrdb.test_stored_editors stores new checksums, with the netrev that NETREV
-    names /usr/bin/python3 python tests.program.nrdb.test_stored_editors NAME-3 prints a conversation, to compare it
-    with an earlier one"""
+    /usr/bin/python3 python tests.program.nrdb.test_stored_editors            stores new checksums, with the netrev that NETREV names
+    /usr/bin/python3 python tests.program.nrdb.test_stored_editors NAME-3     prints a conversation, to compare it with an earlier one"""
 
 import hashlib
 import io
