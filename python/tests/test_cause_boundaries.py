@@ -5,9 +5,11 @@ from typing import Any, cast
 
 import pytest
 
+from nrdb.all_goroutines import FOR_ROOM, FOR_VALUE
+
 from nrdb.causes import (
-    conditions, cut_datagrams, dropped_notices, group_counts, groups, http_requests, leftovers, locks, needs_elsewhere,
-    package_source, source_functions, unfinished_replies, unused_sockets, wait_graph,
+    conditions, cut_datagrams, dropped_notices, group_counts, groups, http_requests, leftovers, locks, missing_cases,
+    needs_elsewhere, new_readers, package_source, source_functions, unfinished_replies, unused_sockets, wait_graph,
 )  # fmt: skip
 from nrdb.causes.index import Index
 from nrdb.causes.need import Certainty
@@ -337,3 +339,173 @@ def test_a_goroutine_that_asked_and_waits_for_the_answer(moved: list[tuple[str, 
 def test_the_lines_of_the_function_around_a_line(line: int, within: range | None) -> None:
     lines = ("func f() {", "}", "", "func g() {", "\tx()", "}", "func h() { y() }", "")
     assert source_functions.range_of(lines, line_of(line)) == within
+
+
+@pytest.mark.parametrize(
+    "size, asked, moved, cut",
+    [(9, 8, 8, True), (8, 8, 8, False), (7, 8, 7, False), (9, 8, 7, False), (9, None, 8, False)],
+)
+def test_a_datagram_that_is_longer_than_the_buffer(
+    size: int, asked: int | None, moved: int, cut: bool, monkeypatch: Patch
+) -> None:
+    read, wrote = Made(name="Read", moved=moved, last=6, first=5), Made(name="Write", moved=size, first=3, last=4)
+    monkeypatch.setattr(cut_datagrams, "asked_of", lambda recording: Made(of=lambda call: asked))
+    monkeypatch.setattr(cut_datagrams, "size_of", lambda index, call: call.moved)
+    monkeypatch.setattr(cut_datagrams, "is_datagram", lambda index, socket: socket == 3)
+    monkeypatch.setattr(cut_datagrams, "sent_to", lambda index, socket: [wrote])
+    index = cast(Any, Made(recording=None, by_socket={3: [wrote, read], 4: [read]}))
+    assert [(one.wrote, one.read) for one in cut_datagrams.cut_at(index, 3)] == ([(wrote, read)] if cut else [])
+    assert not list(cut_datagrams.cut_at(index, 4))
+
+
+def test_one_cause_for_each_line_that_read_cut_datagrams(monkeypatch: Patch) -> None:
+    pairs = [Made(read=Made(first=step)) for step in (4, 5, 6, 7)]
+    monkeypatch.setattr(cut_datagrams, "cut_datagrams", lambda index: pairs)
+    monkeypatch.setattr(cut_datagrams, "cause_of", lambda index, pair, others: (pair.read.first, others))
+    index = Made(recording=Made(lines=Made(of=lambda step: Made(own=lambda: "a.go:9" if step == 5 else "a.go:3"))))
+    assert cut_datagrams.causes_of_cuts(cast(Any, index)) == [(4, 2), (5, 0)]
+
+
+@pytest.mark.parametrize(
+    "first, last, function, says",
+    [(5, 9, "main.run", True), (6, 9, "main.run", False), (0, 0, "main.run", True), (-1, 9, "main.run", False), (5, 20, "main.run", True),
+     (5, 21, "main.run", False), (5, -1, "main.run", False), (5, 9, "main.other", False)],
+)  # fmt: skip
+def test_all_goroutines_that_a_waiter_started_have_ended(first: int, last: int, function: str, says: bool) -> None:
+    made, none = line_of(4, function), Made(made=None, first=1, last=2)
+    known = {7: none, 8: Made(made=made, first=first, last=last)}
+    own = Made(
+        _recording=Made(lines=Made(goroutines=known)), _position=20, _ended_words=lambda made, goids: [(made, goids)]
+    )
+    waiter = Made(stack=Made(calls=[line_of(9, "sync.Wait", of=OF_GO), line_of(9, "main.run")]), since=5)
+    assert groups.Groups._of_ended(cast(Any, own), cast(Any, waiter)) == ([(made, [8])] if says else [])
+    waiter.stack.calls[1] = line_of(9, "main.run", of=OF_GO)
+    assert groups.Groups._of_ended(cast(Any, own), cast(Any, waiter)) == []
+
+
+@pytest.mark.parametrize("count, step", [(0, 2), (1, 2), (2, 5), (4, 5), (5, None)])
+def test_the_write_after_which_more_was_written_than_read(count: int, step: int | None, monkeypatch: Patch) -> None:
+    monkeypatch.setattr(leftovers, "size_of", lambda index, call: call.moved)
+    calls = [Made(name="Read", first=1, moved=9), Made(name="Write", first=2, moved=2), Made(name="Read", first=3, moved=9), Made(name="Write", first=5, moved=3)]  # fmt: skip
+    found = leftovers.first_beyond(cast(Any, Made(by_socket={3: calls})), 3, count)
+    assert (found.first if found else None) == step
+
+
+@pytest.mark.parametrize(
+    "objects, serves, own, says",
+    [(1, True, True, "waits since step 4, and for nothing else: the end of the request's context doesn't end that."), (2, True, True, "waits since step 4."),
+     (1, False, True, ""), (1, True, False, ""), (None, True, True, "")],
+)  # fmt: skip
+def test_a_handler_whose_client_has_gone(
+    objects: int | None, serves: bool, own: bool, says: str, monkeypatch: Patch
+) -> None:
+    wait = Made(stack=Made(own=lambda: own), first=4, objects=[None] * (objects or 0)) if objects else None
+    monkeypatch.setattr(leftovers, "waits_of", lambda recording: Made(at=lambda name, position: wait))
+    monkeypatch.setattr(leftovers, "has", lambda stack, function: serves)
+    monkeypatch.setattr(leftovers, "waits_words", lambda wait: "waits")
+    found = leftovers.serves_on(cast(Any, Made(length=9)), cast(Any, Made(goroutine=2)))
+    assert found == ([f"Goroutine 2, which serves it, {says}"] if says else [])
+
+
+@pytest.mark.parametrize(
+    "mine, name, use, function, lacks",
+    [(8, 4, FOR_VALUE, "main.(*hub).other", True), (9, 4, FOR_VALUE, "main.(*hub).other", False), (8, 1, FOR_VALUE, "main.(*hub).other", False),
+     (8, 2, FOR_VALUE, "main.(*hub).other", False), (8, 4, FOR_ROOM, "main.(*hub).other", False), (8, 4, FOR_VALUE, "main.(*hub).run", False),
+     (8, 4, FOR_VALUE, "main.(*pool).other", False)],
+)  # fmt: skip
+def test_a_case_that_a_select_lacks(
+    mine: int, name: int, use: str, function: str, lacks: bool, monkeypatch: Patch
+) -> None:
+    def waiting(number: int, made: str, *at: Any) -> Any:
+        return Made(name=number, objects=at, stack=Made(own=lambda: (line_of(3, made), "")))
+
+    wait = waiting(1, "main.(*hub).run", Made(object=mine, use=FOR_VALUE))
+    other = waiting(name, function, Made(object=7, use=FOR_VALUE), Made(object=9, use=use))
+    closed = Made()
+    monkeypatch.setattr(missing_cases, "closed_by", lambda recording, by: {9: closed} if by == 2 else {})
+    monkeypatch.setattr(missing_cases, "waits_of", lambda recording: Made(of={0: [other]}))
+    found = missing_cases.lacking_of(cast(Any, None), wait, cast(Any, Made(name=2)))
+    assert found == ((closed, other) if lacks else None)
+    assert missing_cases.lacking_of(cast(Any, None), wait, cast(Any, Made(name=3))) is None
+
+
+@pytest.mark.parametrize(
+    "change, says",
+    [
+        ({}, True), ({"buffered": "first last"}, False), ({"buffered": ""}, False), ({"now": None}, False), ({"now": 20}, False),
+        ({"now": 19}, False), ({"now": 21}, True), ({"function": "main.other"}, False), ({"of": OF_GO}, False), ({"made": 0}, False),
+    ],
+)  # fmt: skip
+def test_a_read_that_passes_by_a_reader_with_a_buffer(change: dict[str, Any], says: bool, monkeypatch: Patch) -> None:
+    usual = {"buffered": "last", "now": 0, "function": "main.run", "of": OF_THE_PROGRAM, "made": 7}
+    case = Made(**(usual | change))
+    monkeypatch.setattr(new_readers, "is_buffered", lambda stack: stack.name in case.buffered.split())
+    monkeypatch.setattr(new_readers, "maker_line", lambda index, frame: case.made)
+    monkeypatch.setattr(new_readers, "told", lambda recording, call: "it")
+    monkeypatch.setattr(new_readers, "lost_with", lambda index, file, made, read, last, why: f"{file}:{made}, {why}")
+    stacks = {
+        9: Made(name="first", calls=[line_of(9, "main.run.func1"), line_of(9, "os.f", of=OF_GO)]),
+        5: Made(name="last", calls=[line_of(9, "bufio.f", of=OF_GO), line_of(9, case.function, of=case.of)]),
+    }
+    now = None if case.now is None else Made(last=case.now)
+    index = Made(recording=Made(lines=Made(of=stacks.get)), last_use=lambda other, position, names: now)
+    call, read = cast(Any, Made(first=9)), cast(Any, Made(first=5))
+    found = new_readers.past_a_reader(cast(Any, index), call, 4, read, 20)
+    assert found == (["a.go:7, it doesn't read from that"] if says else [])
+
+
+@pytest.mark.parametrize(
+    "of, at_once, more, goroutine, says",
+    [(OF_THE_PROGRAM, True, True, 1, True), (OF_GO, True, True, 1, False), (OF_THE_PROGRAM, False, True, 1, False),
+     (OF_THE_PROGRAM, True, False, 1, False), (OF_THE_PROGRAM, True, True, 2, False)],
+)  # fmt: skip
+def test_a_reader_that_no_variable_keeps(
+    of: str, at_once: bool, more: bool, goroutine: int, says: bool, monkeypatch: Patch
+) -> None:
+    for name, value in (
+        ("past_a_reader", []), ("is_buffered", True), ("own_reader", 0), ("may_have_more", more), ("is_of_one_statement", at_once),
+    ):  # fmt: skip
+        monkeypatch.setattr(new_readers, name, lambda *rest, value=value: value)
+    monkeypatch.setattr(new_readers, "lost_with", lambda index, file, line, read, last, why: f"{file}:{line}, {why}")
+    read = Made(name="Read", moved=4, first=3, last=5, goroutine=goroutine)
+    stacks = {3: Made(calls=[line_of(9, "main.ask", of=of)]), 8: Made(calls=[line_of(7, "main.ask")])}
+    index = Made(
+        recording=Made(lines=Made(of=stacks.get)),
+        by_socket={2: [read]},
+        last_use=lambda other, position, names: Made(first=2),
+    )
+    found = new_readers.left_reader(cast(Any, index), cast(Any, Made(first=8, socket=2, goroutine=1)), 4, 20)
+    assert found == (["a.go:9, no variable keeps it"] if says else [])
+
+
+@pytest.mark.parametrize(
+    "change, says",
+    [
+        ({}, True), ({"wrote": None}, False), ({"moved": 0}, False), ({"asked": None}, False), ({"by": 5}, False), ({"has_part": False}, False),
+        ({"read": None}, False), ({"reader": 5}, False), ({"read_last": 7}, False), ({"read_last": 6}, True), ({"now": None}, False),
+        ({"now_name": "Write"}, False), ({"now_socket": 2}, False), ({"now_first": 8}, False), ({"part": False}, False),
+    ],
+)  # fmt: skip
+def test_a_reply_that_is_not_whole(change: dict[str, Any], says: bool, monkeypatch: Patch) -> None:
+    usual = {
+        "wrote": 7, "moved": 4, "asked": 3, "by": 1, "has_part": True, "read": 5, "reader": 9, "read_last": 5, "now": 12, "now_name": "Read",
+        "now_socket": 4, "now_first": 12, "part": True,
+    }  # fmt: skip
+    case = Made(**(usual | change))
+    wrote = case.wrote and Made(first=7, last=10, moved=case.moved, goroutine=9)
+    asked = case.asked and Made(first=3, goroutine=case.by)
+    now = case.now and Made(name=case.now_name, socket=case.now_socket, first=case.now_first)
+    read = case.read and Made(goroutine=case.reader, last=case.read_last)
+    part = Made(file="a.go", loop=4, ways=[], writes=8, is_inside=True)
+    monkeypatch.setattr(unfinished_replies, "has_part", lambda index, call, wrote: case.has_part)
+    monkeypatch.setattr(unfinished_replies, "reader_of", lambda index, socket, wrote, position: read)
+    monkeypatch.setattr(unfinished_replies, "parts_of", lambda index, wrote, now: iter([part] if case.part else []))
+    monkeypatch.setattr(unfinished_replies, "place_of", lambda recording, step: " at a.go:8 in menu, called at a.go:2")
+    monkeypatch.setattr(unfinished_replies, "ways_words", lambda file, ways: "a.go:6 goes on")
+    last = {4: wrote, 2: asked}
+    index = Made(
+        recording=None, last_use=lambda socket, position, names: last[socket], inside=lambda goroutine, at: now
+    )
+    found = unfinished_replies.unfinished_reply(cast(Any, index), cast(Any, Made(socket=2, goroutine=1)), 4, 20)
+    where = "at a.go:8 in menu, in the loop at a.go:4, where a.go:6 goes on without a.go:8, which writes."
+    assert found == ([f"Perhaps the reply isn't whole: its last Write was {where}"] if says else [])

@@ -46,6 +46,7 @@ SKIP = [
     (
         "a loop after it", "\tfor x := range xs {\n\t\tif x == 0 {\n\t\t\treturn nil\n\t\t}\n\t}\n\tgive(c)\n\treturn nil", [(5, "returns")],
     ),
+    ("a loop round it", "\tfor x := range xs {\n\t\tgive(c)\n\t}\n\treturn nil", [(3, "passes by")]),
     ("two", "\tif a {\n\t\treturn nil\n\t}\n\tif b {\n\t\treturn nil\n\t}\n\tgive(c)\n\treturn nil", [(4, "returns"), (7, "returns")]),
 ]  # fmt: skip
 GIVEN = {

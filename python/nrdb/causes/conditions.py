@@ -22,63 +22,73 @@ MOST = 2
 
 
 class Waking(NamedTuple):
-    """A function that changes what a Wait's loop tests: the line of the change, the field, the line that wakes a waiter
-    (if any), and whether the function itself waits."""
+    """A function that changes what a Wait's loop tests: its file, the line of the change, the field, whether the change
+    sets a flag, the line that wakes a waiter (0: none), and whether the function itself waits."""
 
     function: str
+    file: str
     changes: int
     field: str
-    signal: int = 0
-    is_for_all: bool = False
-    is_waiting: bool = False
+    is_flag: bool
+    signal: int
+    is_for_all: bool
+    is_waiting: bool
 
 
 def unsignalled(recording: Recording, wait: Waiting) -> list[str]:
     """Sentences about functions that change what a Wait's loop tests and wake no goroutine."""
-    own = wait.stack.own()
     return [
-        f"Perhaps {own[0].file}:{one.changes} in {one.function} should have woken it: it changes {one.field}, which the loop around the Wait "
+        f"Perhaps {one.file}:{one.changes} in {one.function} should have woken it: it changes {one.field}, which the loop around the Wait "
         "tests, and that function calls neither Signal nor Broadcast."
         for one in wakings_of(recording, wait)
-        if own and not one.signal and not one.is_waiting
+        if not one.signal and not one.is_waiting
     ][:MOST]
 
 
 def one_alone(recording: Recording, wait: Waiting, waiting: int) -> list[str]:
     """Sentences about a function that sets what all waiting goroutines test, and wakes only one goroutine."""
-    own = wait.stack.own()
-    lines = source_of(recording, own[0].file) if own else None
     return [
-        f"Perhaps {own[0].file}:{one.signal} in {one.function} should wake all: Signal wakes only one goroutine, and {waiting} still wait."
+        f"Perhaps {one.file}:{one.signal} in {one.function} should wake all: Signal wakes only one goroutine, and {waiting} still wait."
         for one in wakings_of(recording, wait)
-        if own and lines and one.signal and not one.is_for_all and waiting > 1 and FLAG.search(lines[one.changes - 1])
+        if one.signal and not one.is_for_all and waiting > 1 and one.is_flag
     ][:MOST] or mistaken_signal(recording, wait)
 
 
 def mistaken_signal(recording: Recording, wait: Waiting) -> list[str]:
     """Sentences about a Signal that perhaps woke a different goroutine, because goroutines wait there for different
     things: at several lines, or for different entries of a table."""
-    own = wait.stack.own()
-    lines = source_of(recording, own[0].file) if own else None
-    head = head_of(lines, own[0]) if own and lines else 0
-    looks = [lines[head - 1], *conditions_of(lines, head)] if lines and head else []
+    source = source_at(recording, wait)
+    if source is None:
+        return []
+    call, lines, within = source
+    head = loop_round(lines, within, call.line)
+    looks = [lines[head - 1], *conditions_of(lines, head)] if head else []
     entry = next((found for text in looks if (found := ENTRY.search(text))), None)
-    others = sorted({place for place in places_of_waits(recording, wait) if own and place != own[0].place()})
-    if own and others:
-        return [
-            f"Perhaps {own[0].file}:{one.signal} in {one.function} woke another one: goroutines wait there at {others[0]} too, for something else, "
-            "and Signal wakes only one goroutine."
-            for one in wakings_of(recording, wait)
-            if one.signal and not one.is_for_all
-        ][:MOST]
-    if not own or not entry or not have_waited(recording, wait):
+    others = sorted({place for place in places_of_waits(recording, wait) if place != call.place()})
+    if others:
+        why = f"goroutines wait there at {others[0]} too, for something else, "
+    elif entry and have_waited(recording, wait):
+        why = f"the loop at {call.file}:{head} looks at {entry[0]}, of which each that waits has its own, "
+    else:
         return []
     return [
-        f"Perhaps {own[0].file}:{one.signal} in {one.function} woke another one: the loop at {own[0].file}:{head} looks at {entry[0]}, of which each "
-        "that waits has its own, and Signal wakes only one goroutine."
+        f"Perhaps {one.file}:{one.signal} in {one.function} woke another one: {why}and Signal wakes only one goroutine."
         for one in wakings_of(recording, wait)
         if one.signal and not one.is_for_all
     ][:MOST]
+
+
+def source_at(recording: Recording, wait: Waiting) -> Optional[tuple[Call, Lines, range]]:
+    """The line of the program at which a goroutine waits, the lines of its file, and those of its function; None if
+    unknown."""
+    own = wait.stack.own()
+    if own is None:
+        return None
+    lines = source_of(recording, own[0].file)
+    if lines is None:
+        return None
+    within = range_of(lines, own[0])
+    return (own[0], lines, within) if within else None
 
 
 def places_of_waits(recording: Recording, wait: Waiting) -> Iterator[str]:
@@ -95,41 +105,38 @@ def have_waited(recording: Recording, wait: Waiting) -> bool:
     return len({one.name for one in every}) > 1
 
 
-def head_of(lines: Lines, call: Call) -> int:
-    """The line of the loop around a call; 0 if the call isn't in a loop."""
-    within = range_of(lines, call)
-    return loop_round(lines, within, call.line) if within else 0
-
-
 def wakings_of(recording: Recording, wait: Waiting) -> list[Waking]:
     """The functions of the waiter's type, or of its package, that change what the loop around the Wait tests."""
-    own = wait.stack.own()
-    lines = source_of(recording, own[0].file) if own else None
-    name = WAIT.search(lines[own[0].line - 1]) if own and lines and own[0].line <= len(lines) else None
-    fields = fields_of(lines, own[0]) if own and lines and name else set()
-    if not own or not lines or not name or not fields:
+    source = source_at(recording, wait)
+    if source is None:
         return []
+    call, lines, own = source
+    name = WAIT.search(lines[call.line - 1])
+    if name is None:
+        return []
+    fields = fields_of(lines, call, own)
     wakes = re.compile(rf"{re.escape(name[1].partition('.')[2] or name[1])}\.(Signal|Broadcast)\(\)")
-    of_type = owner(own[0].function).rpartition("/")[2].partition(".")[2]
+    of_type = owner(call.function).rpartition("/")[2].partition(".")[2]
     found = []
     for function, within in functions_of(lines):
-        text = {number: lines[number - 1].partition("//")[0] for number in within}
-        changes = next((number for number, line in text.items() if changed_in(line, fields)), 0)
-        if not changes or not function.startswith(of_type or function):
+        texts = {number: lines[number - 1].partition("//")[0] for number in within}
+        changed = ((number, field) for number, text in texts.items() if (field := changed_in(text, fields)))
+        changes, field = next(changed, (0, ""))
+        if not changes or not function.startswith(of_type):
             continue
-        signals = [(number, signal[1]) for number, line in text.items() if (signal := wakes.search(line))]
-        field = changed_in(lines[changes - 1], fields) or ""
+        signals = [(number, signal[1]) for number, text in texts.items() if (signal := wakes.search(text))]
+        is_flag = FLAG.search(texts[changes]) is not None
         is_for_all = any(what == "Broadcast" for _, what in signals)
-        is_waiting = any(map(WAIT.search, text.values()))
-        found.append(Waking(function, changes, field, signals[0][0] if signals else 0, is_for_all, is_waiting))
+        is_waiting = any(map(WAIT.search, texts.values()))
+        signal_line = signals[0][0] if signals else 0
+        found.append(Waking(function, call.file, changes, field, is_flag, signal_line, is_for_all, is_waiting))
     return found
 
 
-def fields_of(lines: Lines, call: Call) -> set[str]:
-    """The fields in the condition of the loop around a call."""
+def fields_of(lines: Lines, call: Call, within: range) -> set[str]:
+    """The fields in the condition of the loop around a call in the function of these lines."""
     margin = indent_of(lines[call.line - 1])
-    within = range_of(lines, call)
-    for number in range(call.line - 1, within.start if within else call.line, -1):
+    for number in range(call.line, within.start, -1):
         text = lines[number - 1].partition("//")[0]
         if indent_of(text) < margin:
             margin = indent_of(text)
@@ -165,9 +172,9 @@ def functions_of(lines: Lines) -> list[tuple[str, range]]:
     return found
 
 
-def changed_in(text: str, fields: set[str]) -> Optional[str]:
-    """The field that a line of the source changes."""
+def changed_in(text: str, fields: set[str]) -> str:
+    """The field that a line of the source changes; empty if it changes none."""
     for field in sorted(fields):
         if re.search(rf"\.{field}(\[[^\]]*\])?\s*(=(?!=)|\+=|-=|\+\+|--|:=)|delete\([\w.]*\.{field}\b", text):
             return field
-    return None
+    return ""

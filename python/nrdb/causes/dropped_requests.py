@@ -81,7 +81,7 @@ def taker_of(recording: Recording, wait: Waiting, request: Use, waiters: Mapping
         return None
     for use in sorted(takers, key=lambda one: -one.end):
         waiter = waiters.get(name_of_goid(lines, use.goid))
-        line = answer_line(recording, wait, waiter) if waiter else 0
+        line = answer_line(recording, wait, own[0].file, waiter) if waiter else 0
         if waiter and line:
             return Taken(waiter, use, own[0].file, line)
     return None
@@ -95,16 +95,13 @@ def is_free(recording: Recording, use: Use, number: int, waiters: Mapping[Name, 
     return waits or known is not None and known.last >= 0
 
 
-def answer_line(recording: Recording, wait: Waiting, taker: Waiter) -> int:
+def answer_line(recording: Recording, wait: Waiting, file: str, taker: Waiter) -> int:
     """The line that puts a value into a channel with the name of the channel that the other goroutine waits on. The
     line comes after the taker's wait, in a function that the taker is in or in one of its function literals. The result
-    is 0 if no such line exists."""
-    own = wait.stack.own()
+    is 0 if no such line exists in the file."""
     numbers = [giving.number for giving in givings_at(recording, wait)]
     for call in taker.stack.calls:
-        source = (
-            source_of(recording, call.file) if own and call.of == OF_THE_PROGRAM and call.file == own[0].file else None
-        )
+        source = source_of(recording, file) if call.of == OF_THE_PROGRAM and call.file == file else None
         within = range_of(source, call) if source else None
         if found := [number for number in numbers if within and number in within and call.line < number]:
             return found[0]

@@ -34,8 +34,8 @@ def ended_giver(index: Index, wait: Waiting) -> Optional[Need]:
     if not givings:
         return None
     found = dict[int, list[int]]()  # the goroutines, by the line that they should have reached
-    for goid in ended_before(recording, wait, own[0].file, givings):
-        number = upcoming(recording, goid, own[0].file, givings)
+    for goid, made in ended_before(recording, wait, own[0].file, givings):
+        number = upcoming(recording, goid, made, own[0].file, givings)
         if number:
             found.setdefault(number, []).append(goid)
     first = next(iter(found), 0)
@@ -63,24 +63,25 @@ def need_of(index: Index, wait: Waiting, found: list[int], own: Call, number: in
     return Need([says], gone=names[0] if len(names) == 1 else None, is_odd=True, ended=tuple(names))
 
 
-def ended_before(recording: Recording, wait: Waiting, file: str, givings: list[Giving]) -> Iterator[int]:
-    """The goroutines that ended without passing one of these lines, latest first. If the waiter started some of these
-    goroutines, the result has only those."""
+def ended_before(recording: Recording, wait: Waiting, file: str, givings: list[Giving]) -> Iterator[tuple[int, Call]]:
+    """The goroutines that ended without passing one of these lines, latest first, each with the `go` statement that
+    started it. If the waiter started some of these goroutines, the result has only those."""
     waiter, passed, numbers = goid_of(recording, wait.name), lines_of(recording), {one.number for one in givings}
-    ended = [goid for goid, known in recording.lines.goroutines.items() if known.last >= 0 and known.made]
-    mine = [goid for goid in ended if recording.lines.goroutines[goid].maker == waiter] or ended
-    for goid in sorted(mine[-MOST:], key=lambda one: -recording.lines.goroutines[one].begin):
+    known = recording.lines.goroutines
+    ended = [(goid, one.made) for goid, one in known.items() if one.last >= 0 and one.made]
+    mine = [(goid, made) for goid, made in ended if known[goid].maker == waiter] or ended
+    for goid, made in sorted(mine[-MOST:], key=lambda one: -known[one[0]].begin):
         if not any(call.file == file and call.line in numbers for call in passed.of(goid)):
-            yield goid
+            yield goid, made
 
 
-def upcoming(recording: Recording, goid: int, file: str, givings: list[Giving]) -> int:
+def upcoming(recording: Recording, goid: int, made: Call, file: str, givings: list[Giving]) -> int:
     """The line that gives a value or takes one, after the last line that a goroutine passed in a function of its stack
     or in its first function; 0 if no such line exists."""
-    made, passed = recording.lines.goroutines[goid].made, lines_of(recording).of(goid)
+    passed = lines_of(recording).of(goid)
     for giving in givings:
         last = max((call.line for call in passed if call.file == file and call.line in giving.within), default=0)
-        if 0 < last < giving.number or not last and made and starts(recording, made, file, giving):
+        if 0 < last < giving.number or not last and starts(recording, made, file, giving):
             return giving.number
     return 0
 
@@ -91,7 +92,7 @@ def starts(recording: Recording, made: Call, file: str, giving: Giving) -> bool:
         return False
     text = text_at(recording, made)
     if "func(" in text:
-        return giving.within.start <= made.line <= giving.number or made.line == giving.within.start
+        return made.line == giving.within.start
     named = STARTS.search(text)
     head = text_at(recording, made._replace(line=giving.within.start)) if giving.within else ""
     function = FUNCTION.match(head)

@@ -10,7 +10,7 @@ from ..recording import Recording
 from ..waits import Name
 from ..where import OF_THE_PROGRAM, Call, Stack
 from .index import Index
-from .source_functions import Lines, indent_of, range_of, source_of
+from .source_functions import Lines, function_of, indent_of
 from .words import place_in, short
 
 DEFERRED, WRAPPED = ".deferwrap", ".gowrap"
@@ -112,10 +112,8 @@ def left_by(index: Index, call: OneCall) -> str:
 
 def ranged_over(recording: Recording, call: Call) -> str:
     """What the innermost loop around a line ranges over; empty if the loop has no end of its own."""
-    lines = source_of(recording, call.file)
-    within = range_of(lines, call) if lines else None
-    head = loop_round(lines, within, call.line) if lines and within else 0
-    found = re.search(r"\brange ([\w.]+) \{", lines[head - 1]) if lines and head else None
+    lines, head = loop_at(recording, call)
+    found = re.search(r"\brange ([\w.]+) \{", lines[head - 1]) if head else None
     return found[1] if found else ""
 
 
@@ -128,13 +126,18 @@ def leaves_of(recording: Recording, call: Call) -> list[int]:
 def every_leave(recording: Recording, call: Call) -> list[int]:
     """The lines that leave the innermost loop around a line of a function, if the loop is over a channel or has no
     condition."""
-    lines = source_of(recording, call.file)
-    within = range_of(lines, call) if lines else None
-    head = loop_round(lines, within, call.line) if lines and within else 0
-    if not lines or not head or not is_endless(lines[head - 1]):
+    lines, head = loop_at(recording, call)
+    if not head or not is_endless(lines[head - 1]):
         return []
     found = [number for number in body_of(lines, head) if LEAVES.match(lines[number - 1].partition("//")[0])]
     return [number for number in found if not is_inner_break(lines, head, number)]
+
+
+def loop_at(recording: Recording, call: Call) -> tuple[Lines, int]:
+    """The lines of a call's file, and the line at which the innermost loop around the call begins; 0 if no loop
+    surrounds it."""
+    lines, within = function_of(recording, call)
+    return lines, loop_round(lines, within, call.line) if within else 0
 
 
 def loop_round(lines: Lines, within: range, line: int) -> int:
@@ -174,8 +177,8 @@ def body_of(lines: Lines, head: int) -> Iterator[int]:
 
 def is_inner_break(lines: Lines, head: int, number: int) -> bool:
     """Whether a `break` belongs to an inner loop, switch or select rather than to the loop itself."""
-    text, margin = lines[number - 1].strip(), indent_of(lines[number - 1])
-    if not text.startswith("break") or text.partition("//")[0].strip() != "break":
+    margin = indent_of(lines[number - 1])
+    if lines[number - 1].partition("//")[0].strip() != "break":
         return False
     for at in range(number - 1, head, -1):
         if lines[at - 1].strip() and indent_of(lines[at - 1]) < margin:

@@ -10,9 +10,9 @@ from ..recording import Recording
 from ..waits import Waiting
 from ..where import OF_THE_PROGRAM, Call, Stack
 from .balances import Balance
-from .ended_goroutines import body_of, loop_round
+from .ended_goroutines import body_of, loop_at
 from .skipped_ways import Test, Way, has, is_text, nothing, skipped_ways, ways_are, ways_words
-from .source_functions import found_in, indent_of, range_of, source_of, text_at
+from .source_functions import found_in, function_of, indent_of, source_of, text_at
 
 SEND, RECEIVE, CALLED = re.compile(r"([\w.\[\]]+) <- "), re.compile(r"<-([\w.\[\]]+)"), re.compile(r"(\w+)\(")
 LITERAL = re.compile(r"(?:defer |go )?func\(.*?\{")
@@ -94,9 +94,8 @@ def gives_on_most_ways(recording: Recording, balances: Iterable[Balance]) -> boo
     taken, given = ({line for one in balances for line in some(one)} for some in (TAKEN_AT, GIVEN_AT))
     ends = gives_back(recording, given)
     for line in taken if ends else ():
-        lines, text = source_of(recording, line.file), text_at(recording, line).strip()
-        within = range_of(lines, line) if lines else None
-        gives = sum(ends(lines[number - 1].strip()) for number in within or () if lines and ends)
+        (lines, within), text = function_of(recording, line), text_at(recording, line).strip()
+        gives = sum(ends(lines[number - 1].strip()) for number in within if ends)
         if ends and gives > max(1, len(ways_of(recording, line, text, ends, value_of(text, HANDS_ON)))):
             return True
     return False
@@ -130,11 +129,10 @@ def value_of(text: str, form: str) -> Test:
 
 def ways_of(recording: Recording, line: Call, text: str, ends: Test, keeps: Test) -> list[Way]:
     """The paths of a line's function that skip the statements which `ends` finds."""
-    lines = source_of(recording, line.file) if line.of == OF_THE_PROGRAM else None
-    within = range_of(lines, line) if lines else None
+    lines, within = function_of(recording, line) if line.of == OF_THE_PROGRAM else ((), range(0))
     is_whole = text[-1:] not in ("(", "{", ",")
     begins = is_text(text) if is_whole else has(re.escape(text))
-    return skipped_ways(lines, within, begins, ends, keeps) if lines and within and text else []
+    return skipped_ways(lines, within, begins, ends, keeps) if within and text else []
 
 
 def ways_past_close(recording: Recording, stacks: Iterable[Stack]) -> list[str]:
@@ -161,11 +159,9 @@ def ways_past_close(recording: Recording, stacks: Iterable[Stack]) -> list[str]:
 def closed_in_a_loop(recording: Recording, call: Call, name: str) -> str:
     """A sentence about something that a loop makes in each round and that is closed only when the function returns,
     because its Close is deferred; else empty."""
-    lines = source_of(recording, call.file)
-    within = range_of(lines, call) if lines else None
-    head = loop_round(lines, within, call.line) if lines and within else 0
+    lines, head = loop_at(recording, call)
     defers = re.compile(rf"\bdefer {re.escape(name)}\.Close\(\)")
-    found = [number for number in body_of(lines, head) if defers.search(lines[number - 1])] if lines and head else []
+    found = [number for number in body_of(lines, head) if defers.search(lines[number - 1])] if head else []
     function = call.function.rpartition("/")[2].partition(".")[2]
     return (
         f"It is closed only as {function} returns: the defer at {call.file}:{found[0]} is in a loop." if found else ""

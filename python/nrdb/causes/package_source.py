@@ -82,13 +82,13 @@ def fields_in(lines: Lines) -> dict[str, dict[str, str]]:
 
 def variables_of(recording: Recording, lines: Lines, call: Call) -> dict[str, str]:
     """The types of the receiver, the parameters, and simple variables in the function of a call."""
-    begin = next((number for number in range(min(call.line, len(lines)), 0, -1) if HEAD.match(lines[number - 1])), 0)
-    head = HEAD.match(lines[begin - 1]) if begin else None
-    if head is None:
+    heads = [(number, head) for number, text in enumerate(lines[: call.line]) if (head := HEAD.match(text))]
+    if not heads:
         return {}
+    begin, head = heads[-1]
     found = {name: kind for names, kind in PARAMETER.findall(head[4]) for name in names.split(", ")}
     found |= {head[1]: head[2]} if head[1] else {}
-    for text in (lines[number - 1].partition("//")[0].rstrip() for number in range(begin + 1, call.line)):
+    for text in (line.partition("//")[0].rstrip() for line in lines[begin : call.line - 1]):
         if made := MADE.match(text):
             found[made[1]] = made[2]
         elif (alias := ALIAS.match(text)) and (kind := type_of(recording, call.file, found, alias[2].split("."))):

@@ -32,7 +32,7 @@ def slot_holders(recording: Recording, wait: Waiting, stacks: Iterable[tuple[Nam
     at, own = wait.objects[0], wait.stack.own()
     room = recording.lines.objects[at.object].room if at.object in recording.lines.objects else 0
     enters = ENTERS.get(at.use, "")
-    if len(wait.objects) != 1 or room < 1 or not enters or not own or own[0].of != OF_THE_PROGRAM:
+    if len(wait.objects) != 1 or room < 1 or not own or own[0].of != OF_THE_PROGRAM:
         return []
     leavings = givings_at(recording, wait)
     uses = sorted(

@@ -28,6 +28,12 @@ def source(file: str, written: float) -> Optional[Lines]:
     return None if lines is None or os.stat(file).st_mtime > written else tuple(lines)
 
 
+def function_of(recording: Recording, call: Call) -> tuple[Lines, range]:
+    """The lines of a call's file, and the line numbers of its function; both are empty if unknown."""
+    lines = source_of(recording, call.file) or ()
+    return lines, range_of(lines, call) or range(0)
+
+
 def range_of(lines: Lines, call: Call) -> Optional[range]:
     """The line numbers of the function of a call. For a function literal, only the literal's own lines."""
     if not 0 < call.line <= len(lines):
@@ -54,9 +60,8 @@ def is_inside(lines: Lines, call: Call, within: range) -> bool:
 
 def is_last_line(recording: Recording, call: Call, number: int) -> bool:
     """Whether a line is the last line in the function of a call, or the function's only line."""
-    lines = source_of(recording, call.file)
-    within = range_of(lines, call) if lines else None
-    return within is not None and (number == within[-1] - 1 or len(within) == 1)
+    _, within = function_of(recording, call)
+    return len(within) == 1 or number == within.stop - 2
 
 
 def is_of_one_line(text: str) -> bool:

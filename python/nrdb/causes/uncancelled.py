@@ -59,7 +59,7 @@ def uncancelled(recording: Recording, wait: Waiting, stacks: Iterable[tuple[Name
 def cancels_of(source: Lines, call: Call, context: str) -> list[Cancelling]:
     """The lines that cancel a context that the file makes. If the context is a variable of a call's function, the
     result has only the lines of that function."""
-    whole = range_of(source, call._replace(function=LITERAL.sub("", call.function).partition(".func")[0])) or range(0)
+    whole = range_of(source, call._replace(function=LITERAL.sub("", call.function))) or range(0)
     head = source[whole.start - 1] if whole else ""
     is_local = "." not in context and re.search(rf"\b{re.escape(context)}\b", head) is None
     makes = [
@@ -68,7 +68,7 @@ def cancels_of(source: Lines, call: Call, context: str) -> list[Cancelling]:
         if (made := MAKES.search(text.partition("//")[0]))
         and (not is_local or (number in whole and made[1] == context))
     ]
-    names = {made[2] for made in makes} - {"_"}
+    names = {made[2] for made in makes}
     found = []
     for number, text in enumerate(source, 1):
         if is_local and number not in whole:

@@ -78,7 +78,7 @@ def request_of(index: Index, closed: Call) -> Optional[Use]:
     for uses in lines.uses.values():
         if any(use.goid == goid and use.what == TOOK and has(lines.stacks[use.stack], WRITE_LOOP) for use in uses):
             found += [use for use in uses if use.what == PUT and has(lines.stacks[use.stack], ROUND_TRIP)]
-    return max((use for use in found if use.last <= closed.first), key=END, default=None)
+    return max((use for use in found if use.last < closed.first), key=END, default=None)
 
 
 def has_written(index: Index, closed: Call, use: Use) -> bool:
