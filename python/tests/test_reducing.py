@@ -1,11 +1,14 @@
 """Reducing without netrev: replayed units give the recording's own steps; when a unit is removed, the units that need
 it are removed too; and new numbers are assigned."""
 
+import random
 import tempfile
 import unittest
 from pathlib import Path
 from typing import Any
 from unittest.mock import patch
+
+import pytest
 
 from netrev_words.recording import Limits
 from netrev_words.writing import line_of
@@ -14,10 +17,11 @@ from nrdb.recording import Recording
 from nrdb.reducing.events import Events
 from nrdb.reducing.playing import Player
 from nrdb.reducing.shrinking import Shrinking
-from nrdb.reducing.targets import CellTarget
+from nrdb.reducing.targets import CellTarget, HangTarget, StepsTarget
 from nrdb.reducing.units import Unit, units_of
 from nrdb.reducing.writing import where_text, write_recording
 from nrdb.where import Lines
+from tests.test_exploring import with_answers
 from tests.test_suspects import BACK, COMES, LOOKS, OPEN, PARK, PASSES, PAST, READ, USED_AGAIN, Steps, recording_of
 
 EXAMPLES = Path(__file__).resolve().parents[2] / "examples"
@@ -148,3 +152,70 @@ class Where(unittest.TestCase):
             beside.write_text("mine")
             write_recording(path, "", b"steps", Lines(), [1])
             self.assertEqual(beside.read_text(), "mine")
+
+
+def reopened(socket: int) -> Steps:
+    """The use of descriptor 0 for a socket ends, and the next socket uses it."""
+    closes: Steps = [["increfclose", 0, socket], ["evict", 0, 0], ["decref", 0, socket], ["pollclose", 0, 0]]
+    return [*closes, ["sockopen", 16, 16], ["pollopen", 0, socket + 1]]
+
+
+@pytest.mark.parametrize(("tag", "left"), [(3, 1), (4, 2), (7, 5), (2, 0), (1, 2), (0, 0)])
+def test_an_events_tag_stays_as_far_from_its_descriptors(tag: int, left: int) -> None:
+    """A tag that would be less than 0 stays as it is, unless the descriptor then has that tag."""
+    recording = recording_of(OPEN + reopened(0) + reopened(1) + [["pollevent", 0, tag, "rw", 1]])
+    player, units, events = player_of(recording)
+    last = {at for at, unit in enumerate(units) if events.all[unit.events[0]].number in (14, 15, 16)}
+    assert player.settle(last) == last
+    assert told(player) == ['["sockopen",16,16]', '["pollopen",0,0]', f'["pollevent",0,{left},"rw",1]']
+
+
+def settled(recording: Recording, kept: set[int]) -> tuple[set[int], list[str]]:
+    """The units that are left, and their steps: after each step that doesn't apply, the rest begins anew."""
+    while True:
+        player, units, _ = player_of(recording)
+        for place in sorted(place for unit in kept for place in units[unit].events):
+            if not player._step(place):
+                kept = kept - player.needs.with_needing([player.owner[place]])
+                break
+        else:
+            return kept, told(player)
+
+
+@pytest.mark.parametrize("name", ["real/hijacked", "real/half", "real/lost", "stale-deadline"])
+def test_units_are_dropped_until_all_apply(name: str) -> None:
+    recording = with_answers(Recording.read(str(EXAMPLES / f"{name}.jsonl")))
+    player, units, _ = player_of(recording)
+    dice, dropped = random.Random(name), 0
+    with patch("nrdb.reducing.playing.COPIES", 30):
+        for _ in range(8):
+            kept = set(range(len(units))) - set(dice.sample(range(len(units)), dice.choice((1, 2, 5))))
+            wanted = settled(recording, kept)
+            assert (player.settle(kept), told(player)) == wanted
+            dropped += len(kept) - len(wanted[0])
+    assert dropped > 3
+
+
+@pytest.mark.parametrize(("numbers", "times"), [([1, 2, 3], [10, 12, 15]), ([2, 5, 6], [12, 27, 38]), ([6], [38])])
+def test_steps_keep_their_times(numbers: list[int], times: list[int]) -> None:
+    lines = Recording.read(str(EXAMPLES / "real/past.jsonl")).lines
+    with patch.object(lines, "times", [10, 12, 15, 20, 27, 38]):
+        assert list(Lines(where_text(lines, numbers), len(numbers)).times) == times
+
+
+def test_ctrl_c_is_looked_for_while_steps_are_replayed() -> None:
+    events = Events(recording_of(OPEN + [["tick", at] for at in range(1, 2_500)]))
+    looks: list[int] = []
+    player = Player(events, units_of(events), Limits(4, 3, 3, 16), lambda: looks.append(player.played))
+    player.settle(range(len(player.units)))
+    assert looks == [1_000, 2_000]
+    player.settle(range(3, len(player.units)))  # (steps that are replayed again count too)
+    assert looks == [1_000, 2_000, 3_000, 4_000, 5_000] and player.played == 2_502 + 2_499
+
+
+def test_targets_know_their_socket() -> None:
+    events = Events(recording_of(OPEN + [["sockopen", 16, 16], ["pollopen", 0, 1]] + CALL))
+    assert HangTarget(events, 1, [6], 9).socket == 0
+    assert HangTarget(events, 1, [1, 5], 9).socket == 1
+    assert HangTarget(events, 1, [1], 9).socket is None
+    assert StepsTarget(events, [6, 7]).socket == 0

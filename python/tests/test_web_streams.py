@@ -7,6 +7,7 @@ import time
 import unittest
 from concurrent.futures import ThreadPoolExecutor
 from contextlib import ExitStack
+from pathlib import Path
 from unittest import mock
 
 from nrdb.web.document import document
@@ -65,6 +66,10 @@ class ManyAtOnce(Served):
         self.session.lines.clear()
         wait_until(lambda: self.streams.listening() == 0)
         self.expect_that_it_goes_on()
+
+    def test_the_guide_says_how_many(self) -> None:
+        guide = Path(__file__).parents[2] / "docs/guide/sharing.md"
+        self.assertIn(f"in up to {MOST_STREAMS} browsers.", guide.read_text(encoding="utf-8"))
 
 
 class Streaming(Served):

@@ -244,7 +244,7 @@ class Finder(ast.NodeVisitor):
     def is_kept_order(self, node: ast.Call) -> bool:
         """Whether to leave out swapped arguments, because their order doesn't matter or is checked by types."""
         return isinstance(node.func, ast.Name) and node.func.id in (
-            "isinstance", "issubclass", "min", "max", "map", "filter", "field", "getattr", "hasattr", "TypeVar",
+            "isinstance", "issubclass", "min", "max", "map", "filter", "field", "getattr", "hasattr", "suppress", "TypeVar",
         )  # fmt: skip
 
     def visit_Constant(self, node: ast.Constant) -> None:

@@ -190,8 +190,8 @@ def behind(
     if kind == "syswrite":
         assert stream
         return _written(place, operation, answer, stream)
-    if kind == "pollclose" and operation.sort is not Sort.DESTROY:
-        return _following(place._replace(destroys=-1), status)
+    if kind == "pollclose":
+        return Place(place.operation + 1)
     return _following(place, status)
 
 

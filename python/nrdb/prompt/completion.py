@@ -105,4 +105,4 @@ def of_cell(rest: list[str], numbers: Callable[[Of], list[str]]) -> list[str]:
         return list(CELLS)
     if "and" in rest[length:-1]:
         return of_cell(rest[rest.index("and", length) + 1 :], numbers)
-    return VALUES.get(cell.name, []) if len(rest) == 2 else ["and"] if len(rest) == length else []
+    return VALUES.get(cell.name, []) if len(rest) == length - 1 else ["and"] if len(rest) == length else []

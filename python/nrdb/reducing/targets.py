@@ -104,7 +104,8 @@ class HangTarget(CellTarget):
         super().__init__(events, f"gor {g}", "parked *", position)
         self.steps = [*steps, position]
         self.stays = {number - 1 for number in steps}
-        self.socket = next((socket for number in steps if (socket := events.socket_of(events.all[number - 1]))), None)
+        sockets = (events.socket_of(events.all[number - 1]) for number in steps)
+        self.socket = next((socket for socket in sockets if socket is not None), None)
 
     def shows(self, player: Player) -> bool:
         if not self.stays.issubset(player.chosen) or not super().shows(player):
