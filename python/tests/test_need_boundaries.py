@@ -47,6 +47,17 @@ def test_its_own_reader_is_named_if_nothing_surer_is(
     assert needs_elsewhere.NeedsElsewhere.of(cast(Any, whole), NOTHING, NOTHING).by == by
 
 
+def test_sentences_beside_those_of_a_need(monkeypatch: Patch) -> None:
+    for name in ("timers_of_select", "without_receiver", "dropped_by_rpc"):
+        monkeypatch.setattr(needs_elsewhere, name, lambda *rest, name=name: [name])
+    need = Need(["Why."], more=["more"], beside=("beside",))
+    channels = Made(besides=lambda wait: ["besides"])
+    whole = Made(_of=lambda waiter, wait: need, _index=None, _position=9, _recording=None, _channels=channels)
+    found = needs_elsewhere.NeedsElsewhere.of(cast(Any, whole), NOTHING, NOTHING)
+    assert found.says == ["Why."] and found.beside == ("beside", "dropped_by_rpc")
+    assert found.more == ["more", "timers_of_select", "besides", "without_receiver"]
+
+
 @pytest.mark.parametrize(
     "change, count",
     [
@@ -312,6 +323,9 @@ def test_the_last_connect_that_failed(
     lines = Made(failed_dials={7: [Made(step=step) for step in failed]}, goroutines={7: Made(number=2)})
     found = failed_dials.refused(cast(Any, Made(lines=lines)), 7)
     assert (found.step if found else None) == refused
+    lines.goroutines, opens[-1] = {}, []
+    found = failed_dials.refused(cast(Any, Made(lines=lines)), 7)
+    assert (found.step if found else None) == (failed[-1] if failed else None)
 
 
 def test_a_piece_of_source_is_shown_once(monkeypatch: Patch) -> None:
@@ -362,7 +376,7 @@ def test_a_request_in_a_datagram_that_got_no_answer(change: dict[str, Any], says
 @pytest.mark.parametrize(
     "moved, wrote",
     [
-        ("r1 w2", 2), ("w2", 2), ("r1 w2 w3", 3), ("r1 w2 r3", None), ("w2 r3", None), ("r1", None), ("r1 w2:7", 2), ("r1 w2 w3:7", None), ("r1 w2:4", None), ("r1:7 w2", None),
+        ("r1 w2", 2), ("w2", 2), ("r1 w2 w3", 3), ("r1 w2 r3 w4", 4), ("r1 w2 r3", None), ("w2 r3", None), ("r1", None), ("r1 w2:7", 2), ("r1 w2 w3:7", None), ("r1 w2:4", None), ("r1:7 w2", None),
         ("r1 w2 o3", 2), ("r1 w2 e3", 2),
     ],
 )  # fmt: skip
@@ -377,7 +391,11 @@ def test_the_last_write_of_a_relay(moved: str, wrote: int | None, monkeypatch: P
             Made(name=names[at[0]], first=int(at[1:]), moved=0 if at[0] == "e" else 3, socket=int(socket or default))
         )
     met = Made(name="Read", first=9, moved=0, socket=4, goroutine=1)
-    for rest, found in (([met], wrote), ([met, Made(name="Write", first=10, moved=3, socket=5)], None)):
+    for rest, found in (
+        ([met], wrote),
+        ([met, Made(name=CLOSE, first=10, moved=0, socket=5)], wrote),
+        ([met, Made(name="Write", first=10, moved=3, socket=5)], None),
+    ):
         index = cast(Any, Made(by_goroutine={1: [*calls, *rest]}))
         last = unpassed_ends.last_write_of_relay(index, cast(Any, met))
         assert (last.first if last else None) == found
@@ -405,6 +423,16 @@ def test_ways_without_closing_a_channel_that_a_function_makes(changed: dict[int,
     assert [one.number for one in found] == ways
 
 
+@pytest.mark.parametrize("number, ways", [(2, []), (7, [5])])
+def test_a_close_before_the_channel_is_made_closes_another(number: int, ways: list[int]) -> None:
+    lines = (
+        "func run() {", "\tclose(s.jobs)", "\ts.jobs = make(chan int)", "\tif bad {", "\t\treturn", "\t}", "\tclose(s.jobs)", "}",
+    )  # fmt: skip
+    found = unclosed.ways_without(lines, unclosed.Closing(number, False, range(1, 9)), "s.jobs")
+    assert [one.number for one in found] == ways
+    assert unclosed.ways_without(lines, unclosed.Closing(number, False, range(0)), "s.jobs") == []
+
+
 @pytest.mark.parametrize(
     "steps, last", [([5], 5), ([5, 7], 7), ([7, 5], 7), ([5, 8], 8), ([5, 9], 5), ([9], None), ([], None)]
 )
@@ -414,8 +442,12 @@ def test_the_last_request_before_a_connection_was_closed(
     monkeypatch.setattr(unsent_requests, "has", lambda stack, function: stack == function)
     takes = Use(1, 7, TOOK, 1, 1, 1, 1, 1, 1)
     puts = [Use(1, 8, PUT, 2, 1, step, step, step, step) for step in steps]
-    others = [Use(2, 6, TOOK, 1, 1, 1, 1, 1, 1), Use(2, 8, PUT, 2, 1, 6, 6, 6, 6)]
-    stacks = {1: unsent_requests.WRITE_LOOP, 2: unsent_requests.ROUND_TRIP}
+    puts += [Use(1, 8, what, stack, 1, 8, 8, 8, 8) for what, stack in ((PUT, 3), (TOOK, 2))]
+    others = [
+        Use(2, goid, what, stack, 1, 1, 1, 1, 1) for goid, what, stack in ((6, TOOK, 1), (7, PUT, 1), (7, TOOK, 3))
+    ]
+    others += [Use(2, 8, PUT, 2, 1, 6, 6, 6, 6)]
+    stacks = {1: unsent_requests.WRITE_LOOP, 2: unsent_requests.ROUND_TRIP, 3: "other"}
     lines = Made(goid_of=lambda goroutine, step: 7, uses={1: [takes, *puts], 2: others}, stacks=stacks)
     found = unsent_requests.request_of(
         cast(Any, Made(recording=Made(lines=lines))), cast(Any, Made(goroutine=3, first=9))

@@ -208,6 +208,9 @@ def test_values_that_are_lost_if_nobody_waits(recording: Recording, tmp_path: Pa
     recording.lines.uses[1] = [Use(1, 9, PUT, 99, 1, 1, 1, 1, 1)]
     says = dropped_notices(recording, waiting(at))
     assert [f"{at.file}:{line} puts a value there only if somebody waits" in one for one in says] == [True] * bool(line)
+    for_both, for_room = (At(1, FOR_VALUE), At(2, FOR_ROOM)), (At(1, FOR_ROOM),)
+    assert dropped_notices(recording, waiting(at)._replace(objects=for_both)) == says
+    assert not dropped_notices(recording, waiting(at)._replace(objects=for_room))
 
 
 def test_the_cases_of_a_select() -> None:

@@ -63,7 +63,7 @@ class NeedsElsewhere:
         more = [*timers_of_select(self._recording, wait), *self._channels.besides(wait)]
         more += without_receiver(self._index, wait, self._position)
         beside = dropped_by_rpc(self._recording, wait)
-        return need._replace(more=[*need.more, *more], beside=(*need.beside, *beside)) if more or beside else need
+        return need._replace(more=[*need.more, *more], beside=(*need.beside, *beside))
 
     def _of(self, waiter: Waiter, wait: Waiting) -> Need:
         kind = wait.kind
