@@ -1,4 +1,4 @@
-"""What `python3 -m unittest` finds here: the tests are pytest's, so it says how to run them instead of passing after none."""
+"""The only test that `python3 -m unittest` finds here: it fails and says how to run the tests with pytest."""
 
 import unittest
 

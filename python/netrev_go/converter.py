@@ -131,7 +131,7 @@ class Converter:
         return counts
 
     def steps_before(self, number: int) -> int:
-        """How many steps were made from the points up to this one."""
+        """The number of steps that the points up to this one became."""
         place = bisect_right(self.points, number, key=lambda pair: pair[0].number)
         return self.ended[place - 1] if place else 0
 

@@ -41,7 +41,7 @@ def is_in_the_way(word: str) -> bool:
 
 @contextlib.contextmanager
 def kept(go: Go, words: list[str], is_again: bool) -> Iterator[list[str]]:
-    """The flags with which Go's linker runs only once; none if the tests run only once."""
+    """Flags that make Go run its linker only once; none if the tests run only once."""
     if not is_again or any(map(is_in_the_way, [*words, *go.flags.split()])):
         yield []
         return

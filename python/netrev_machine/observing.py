@@ -17,7 +17,7 @@ class Observer:
         """Called if a step of this kind applied and had this answer."""
 
     def refused(self, kind: str, reason: int) -> None:
-        """Called if a step of this kind didn't apply, for this reason."""
+        """Called if a step of this kind was refused, with the reason."""
 
     def differed(self, kind: str, recorded: Answer, answer: Answer) -> None:
         """Called if the recorded answer of a step of this kind isn't the machine's."""

@@ -30,7 +30,7 @@ class Subject(NamedTuple):
 
     @property
     def is_numbered(self) -> bool:
-        """Whether the subject has a number: a goroutine, a socket or a descriptor."""
+        """Whether the subject is a goroutine, a socket or a descriptor, which have numbers."""
         return self.name in SUBJECTS
 
     @classmethod

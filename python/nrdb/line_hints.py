@@ -83,8 +83,7 @@ def of_numbered(cell: Cell, rest: list[str], command: str) -> str:
 
 
 def of_condition(cell: str, words: list[str]) -> str:
-    """The hint for a watched cell with words after it: a value of the cell itself, or a condition about another
-    cell."""
+    """The hint for `watch CELL` with more words: they are a value of that cell, or a condition on another cell."""
     rest = [word for word in words if word not in ("if", "=", "==")]
     length = next((length for length in (2, 1) if cell_of(rest[:length]) and rest[length:]), 0)
     if not length:

@@ -122,7 +122,7 @@ class Waits:
         return "which is taken" if queue.is_taken else f"which nobody has{self._owed(socket, queue)}"
 
     def _wait_words(self, descriptor: int, side: str) -> list[str]:
-        """Words about a wait: its descriptor's socket, what is unread or has room, and its deadline."""
+        """Describes a wait: the socket, its unread bytes or free room, and the deadline."""
         world, said = self._world, []
         if descriptor in self._sockets:
             socket = self._sockets[descriptor]

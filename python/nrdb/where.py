@@ -119,7 +119,7 @@ class Lines(AllGoroutines):
         """Starts without any line."""
         self.steps = array("l")
         self.stacks: dict[int, Stack] = {0: Stack((), None)}
-        # the pairs of steps that the program orders; None if the recorder saw no order
+        # the recorded orders between pairs of steps; None if the recorder saw no order
         self.orders: Optional[list[tuple[int, int]]] = None
         self.bytes: Optional[
             int

@@ -170,8 +170,7 @@ def context_says(index: Index, call: Call, by: Optional[Call]) -> list[str]:
 
 
 def served_says(index: Index, call: Call, step: int) -> list[str]:
-    """Sentences about what the goroutine that served the request on a call's connection did at a step; none if
-    unknown."""
+    """Describes what the goroutine that served the request was doing at a step; empty if that is unknown."""
     server, served = server_of(index, call.socket, step), under_way(index, call, step)
     chain = chain_says(index, call, Need([served], server), step) if server else []
     return list(map(in_the_past, [*([served] if served else []), *chain]))
@@ -221,7 +220,7 @@ def part_says(index: Index, call: Call, last: Call) -> list[str]:
 
 
 def late_write(index: Index, call: Call, by: Call) -> Optional[Call]:
-    """The last Write of a call's goroutine to its socket, if the Write came after the other end was closed."""
+    """The last Write to a call's socket by the same goroutine, if the other end was closed before it."""
     wrote = index.last_use(call.socket, call.first, ("Write",))
     return (
         wrote

@@ -88,7 +88,7 @@ class Index:
         return self._under_way[socket, step]
 
     def last_use(self, socket: int, until: int, names: Iterable[str] = MOVING) -> Optional[Call]:
-        """The last call on a socket with one of these names that began up to a step."""
+        """The last call on a socket that has one of these names and began no later than a step."""
         return next((one for one in back(self.by_socket.get(socket, ()), until) if one.name in names), None)
 
     def before(self, call: Call) -> Optional[Call]:

@@ -151,7 +151,7 @@ class NeedsElsewhere:
         return self._channels.excess_of(names)
 
     def _of_close(self, waiter: Waiter) -> Need:
-        """The need of a Close that waits until no call uses the descriptor: the call that still uses it."""
+        """What a Close waits for: the call that still uses the descriptor."""
         closes = None if waiter.name.is_goid else self._index.inside(waiter.name.number, self._position)
         if closes is None:
             return Need([])

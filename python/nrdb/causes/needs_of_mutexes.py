@@ -104,8 +104,7 @@ class NeedsOfMutexes:
         return {holder.name for number in numbers if (holder := self._ledger.last_holder(number))}
 
     def _of_itself(self, waiter: Waiter, lock: Call) -> str:
-        """A sentence which says that a goroutine has perhaps locked the mutex itself, in a call that it is still in;
-        else empty."""
+        """Says that a goroutine may have locked the mutex itself, in a call that hasn't returned; empty otherwise."""
         name = LOCK.search(text_at(self._recording, lock))
         for call in waiter.stack.calls if name else ():
             for held in self._held(call):

@@ -76,7 +76,7 @@ def is_of_a_length(lines: Optional[Lines], within: Optional[range], number: int)
 
 
 def partial_lines(lines: Lines, within: range) -> list[int]:
-    """The lines of a function that read once into a slice of a length that isn't a constant."""
+    """The lines of a function that call Read once, with a slice whose length isn't a constant."""
     texts = {number: lines[number - 1].partition("//")[0] for number in within}
     made = {match[1] for text in texts.values() if (match := MADE.search(text))}
     return [

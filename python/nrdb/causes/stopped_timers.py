@@ -80,7 +80,7 @@ def of_timers(recording: Recording, wait: Waiting) -> Optional[Need]:
 
 
 def timers_of_select(recording: Recording, wait: Waiting) -> list[str]:
-    """Sentences about a select's timers that will send nothing more."""
+    """Sentences about stopped timers in a select, which will never send."""
     some = (silent_at(recording, at.object, wait.begin) for at in wait.objects) if len(wait.objects) > 1 else ()
     silent = next((one for one in some if one), None)
     if silent is None:

@@ -182,7 +182,7 @@ class WaitGraph:
         return (kind_of(self.recording, waiter), need.how) if waiter.stack.calls else waiter.name
 
     def _ring(self, ring: list[Name]) -> Hang:
-        """The hang of goroutines that wait for one another. Further goroutines belong to it if each may hold a mutex
+        """The hang in which goroutines wait for one another. Further goroutines belong to it if each may hold a mutex
         instead of a goroutine of the ring and waits for a goroutine of the ring."""
         every = list(ring) if all(is_at_mutex(self.waiters[name]) for name in ring) else []
         for name in every:

@@ -73,7 +73,7 @@ class NotMade(Exception):
 
 
 class Numbers:
-    """The numbers in a schedule of sockets and of uses of descriptors, and the `fdseq` of each use."""
+    """How a schedule numbers its sockets and the uses of its descriptors, with the `fdseq` of each use."""
 
     def __init__(self) -> None:
         self.sockets: dict[int, int] = {}

@@ -40,7 +40,7 @@ class Schedule(NamedTuple):
     seed: int
 
     def is_simpler_than(self, other: "Schedule") -> bool:
-        """Whether a schedule has fewer delays than the other, or equally many but shorter delays."""
+        """Whether a schedule has fewer delays than the other, or as many with a smaller total length."""
         return self.measure() < other.measure()
 
     def measure(self) -> tuple[int, int]:

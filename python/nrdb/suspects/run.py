@@ -53,7 +53,7 @@ class Run:
         return uses
 
     def use_at(self, d: int, step: int) -> Use:
-        """The use of a descriptor to which a step belongs."""
+        """The descriptor's use that includes a step."""
         uses = self._uses[d]
         return uses[bisect_right(uses, step, key=lambda use: use.opened) - 1]
 

@@ -130,7 +130,7 @@ class Running:
             self.turn()
 
     def turn(self) -> None:
-        """Answers the next line. If no line comes for a while and a browser listens, checks for other users' moves."""
+        """Answers the next line. Checks for other users' moves if a browser listens and no line has come for a while."""
         try:
             work = self._work.get(timeout=EVERY)
         except queue.Empty:

@@ -94,7 +94,7 @@ class Streams:
 
     @contextmanager
     def joined(self) -> Iterator[Stream]:
-        """Context with the stream of a browser that listens; raises Rejected if too many browsers listen."""
+        """A context with a browser's event stream; raises Rejected if too many browsers listen."""
         if len(self._streams) >= MOST_STREAMS:
             raise Rejected(HTTPStatus.SERVICE_UNAVAILABLE, texts.TOO_MANY_BROWSERS.format(most=MOST_STREAMS))
         stream = Stream(next(self._numbers))

@@ -181,8 +181,8 @@ def play(folder, script, words):
 
 
 def first_served(play_number):
-    """The number of the first allocation whose refusal lets callers be served; netrev makes the earlier allocations
-    while it loads."""
+    """The number of the first allocation that can fail while callers are still served; netrev makes the earlier
+    allocations while it loads."""
     most = 1
     while not play_number(most).served:
         most *= 2
