@@ -40,7 +40,7 @@ def holders_of(recording: Recording, changes: RecordedChanges, socket: int, posi
     end = -1 if recording.has_answers else None
     for number, (kind, *arguments) in recording.arrays_like(LOCKING, position, socket):
         count = counts.get(number, len(held))
-        if count == len(held) or kind not in LOCKING or arguments[1] != socket:
+        if count == len(held) or kind not in LOCKING:
             continue
         goroutine, _, *side = arguments[:end]
         if count > len(held):
