@@ -132,7 +132,7 @@ class Sequences(unittest.TestCase):
         self.assertEqual(sequence(recording, None), "")
 
 
-@pytest.mark.parametrize("length", [1, 9, 17, 33, 44, 90, 170, 215, 440, 870, 1_800, 4_300, 9_000])
+@pytest.mark.parametrize("length", [1, 9, 17, 33, 44, 90, 170, 215, 440, 870, 1_800, 2_000, 3_900, 4_300, 9_000])
 def test_the_ruler_has_the_closest_round_distances_that_leave_room(length: int) -> None:
     steps: Steps = [["tick", at] for at in range(1, length + 1)]
     ticks = [int(found) for found in re.findall(r'class="tick">(\d+)<', drawing(recording_of(steps), None))]

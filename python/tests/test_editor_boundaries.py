@@ -6,10 +6,12 @@ from typing import Any, Optional, cast
 
 import pytest
 
-from nrdb.dap import filters, looks, memory, moving
+from nrdb.dap import filters, looks, marks as dap_marks, memory, moving
 from nrdb.dap.filters import Failure, Filter, Filters
+from nrdb.dap.marks import Marks, Sort
 from nrdb.dap.messages import Request, Unanswerable
 from nrdb.dap.moving import AT_THE_END, Moves, Stop, text_of
+from nrdb.dap.wishes import wish_of
 from nrdb.one_call import Outcome
 from nrdb.shapes import Move
 
@@ -138,3 +140,59 @@ def test_completions_before_the_first_column_are_those_of_an_empty_line() -> Non
     target = cast(Any, Made(debuggee=Made(numbers=lambda of: [])))
     found = cast(Any, looks.completions(target, cast(Any, Made(first=1)), request(text="info go", column=0)))
     assert {"info", "stepi"} <= {one["label"] for one in found["targets"]}
+
+
+@pytest.mark.parametrize(
+    "asked, is_true, position, stops",
+    [
+        ({}, False, 5, True), ({"condition": "lock 0 8"}, True, 5, True), ({"condition": "lock 0 8"}, False, 5, False), ({"hitCondition": "2"}, False, 5, True),
+        ({"hitCondition": "2"}, False, 3, False), ({"hitCondition": "2"}, False, 6, False), ({"hitCondition": "> 1"}, False, 9, True),
+        ({"hitCondition": "2", "condition": "lock 0 8"}, True, 5, True), ({"hitCondition": "2", "condition": "lock 0 8"}, False, 5, False),
+    ],
+)  # fmt: skip
+def test_a_breakpoint_stops_by_its_condition_and_hit_count(
+    asked: dict[str, str], is_true: bool, position: int, stops: bool, monkeypatch: pytest.MonkeyPatch
+) -> None:
+    """The kind of step is reached at positions 3, 5 and 9."""
+    monkeypatch.setattr(dap_marks, "positions_of", lambda session, what: [3, 5, 9])
+    session = Made(
+        netrev=Made(marks=lambda: []), ask=lambda line: {"break rwlock": "mark 4", "break acquire": "mark 7"}[line], holding=lambda numbers: numbers,
+        holds=lambda condition, at=0: is_true, stands=lambda: Made(position=position),
+    )  # fmt: skip
+    marks = Marks(cast(Any, session))
+    set_ones = marks.replace(
+        Sort.FUNCTION, [wish_of("rwlock", asked), wish_of("acquire", {}), wish_of("rwlock", {"condition": "x"})]
+    )
+    assert [one.get("id") for one in set_ones] == [4, 7, None] and not set_ones[2]["verified"]
+    assert marks.holding(["4", "7", "9"]) == [*(["4"] if stops else []), "7", "9"]  # (9 was set in the console)
+    assert [marks.reason(number) for number in ("4", "9")] == ["function breakpoint", "breakpoint"]
+
+
+def test_breakpoints_of_a_kind_are_replaced() -> None:
+    """Only those of this kind that are no longer wanted are deleted, unless that was done in the console."""
+    lines: list[str] = []
+    numbers = iter(range(1, 9))
+
+    def ask(line: str) -> str:
+        lines.append(line)
+        return (
+            "done"
+            if line.startswith("delete")
+            else f"mark {next(numbers)}"
+            if line != "watch x"
+            else "fault 202 bad argument"
+        )
+
+    standing = [Made(number=str(number)) for number in (1, 2, 4)]
+    marks = Marks(cast(Any, Made(ask=ask, netrev=Made(marks=lambda: standing))))
+    marks.replace(Sort.FUNCTION, [wish_of("rwlock", {}), wish_of("acquire", {}), wish_of("spawn", {})])
+    assert [one["verified"] for one in marks.replace(Sort.DATA, [wish_of("lock 0", {}), wish_of("x", {})])] == [
+        True,
+        False,
+    ]
+    lines.clear()
+    assert [one["id"] for one in marks.replace(Sort.FUNCTION, [wish_of("acquire", {}), wish_of("spawn", {})])] == [2, 5]
+    assert lines == ["delete 1", "break spawn"]  # (3 had been deleted)
+    lines.clear()
+    marks.replace(Sort.FUNCTION, [])
+    assert lines == ["delete 2"]  # (and 5, but for the list of marks above)

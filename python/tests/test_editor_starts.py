@@ -16,6 +16,7 @@ import pytest
 from nrdb.collecting import Collecting
 from nrdb.dap import adapter, debuggee, serving
 from nrdb.dap.adapter import Adapter
+from nrdb.dap.admission import NAMED_BY
 from nrdb.dap.debuggee import Debuggee
 from nrdb.dap.handshakes import Connection
 from nrdb.dap.hearing import Reading
@@ -153,6 +154,43 @@ def test_an_editor_is_served_over_the_standard_streams() -> None:
         assert not stdin.closed
     (answer, *_) = messages_in(written.getvalue())
     assert (answer["command"], answer["success"]) == ("initialize", True)
+
+
+def test_a_port_can_be_served_again_at_once(capsys: pytest.CaptureFixture[str]) -> None:
+    """The system still remembers the connection of the editor before."""
+
+    def served(port: int) -> tuple[int, int]:
+        """The exit status, and the port; an editor connects meanwhile, and nrdb ends the connection."""
+
+        def connected(listening: socket.socket, _: str) -> Any:
+            ports.append(listening.getsockname()[1])
+            with socket.create_connection(listening.getsockname()) as editor:
+                accepted, _ = listening.accept()
+                accepted.close()
+                assert editor.recv(1) == b""
+            return mock.Mock(next=mock.Mock(side_effect=KeyboardInterrupt))
+
+        ports: list[int] = []
+        with mock.patch.object(serving, "Handshakes", connected):
+            return serving.serve_port("netrev", port), ports[-1] if ports else 0
+
+    status, port = served(0)
+    assert status == 0
+    assert served(port) == (0, port)
+    assert capsys.readouterr().out.count(f"nrdb --dap: editors are served at 127.0.0.1:{port}\n") == 2
+
+
+@pytest.mark.parametrize("port", [65_536, -1])
+def test_a_port_that_cannot_be_served(port: int, capsys: pytest.CaptureFixture[str]) -> None:
+    assert serving.serve_port("netrev", port) == 3
+    assert capsys.readouterr().err.startswith(f"nrdb --dap-port {port}: ")
+
+
+@pytest.mark.parametrize("token", ["short", "\u00e4" * 40, "line\n" * 10])
+def test_a_token_that_is_none(token: str, capsys: pytest.CaptureFixture[str]) -> None:
+    with mock.patch.dict(os.environ, {NAMED_BY: token}):
+        assert serving.serve_port("netrev", 0) == 2
+    assert capsys.readouterr().err.startswith("nrdb --dap-port: ")
 
 
 # ---- what it shows

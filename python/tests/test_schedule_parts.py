@@ -402,3 +402,19 @@ def test_an_actor_that_has_done_everything_has_no_next_action() -> None:
         others.done(NETWORK, 0, action)
     assert others.next(NETWORK, 0) is None
     assert others.told == {5} and others.next(CLOCK, 0) is not None
+
+
+def test_goroutines_that_are_not_known_make_sockets() -> None:
+    """Socket 1 never gets a descriptor, so no goroutine is known to have made it."""
+    opens: Steps = [["sockopen", 8, 8], ["sockopen", 4, 4], ["pollopen", 1, 2], ["incref", 1, 2], ["decref", 1, 2]]
+    script = script_of(
+        recording_of(OPEN + opens + [["arrive", 1, "61"], ["pollevent", 1, 1, "r", 0], ["drain", 2, 0]][:2])
+    )
+    assert [(item.due, item.event.kind) for item in script.made] == [(1, "spawn"), (4, "sockopen")]
+    assert [(one.sort, one.socket) for one in script.goroutines[0]] == [(Sort.MAKE, 0), (Sort.OPEN, 0)]
+    assert [(one.sort, one.socket) for one in script.goroutines[1][:2]] == [(Sort.MAKE, 2), (Sort.OPEN, 2)]
+    assert {s: [item.event.kind for item in row] for s, row in script.network.items()} == {
+        1: ["arrive"],
+        2: ["pollevent"],
+    }
+    assert (script.sockets, script.ordinals, script.length) == ([0, 2], [0, 0], 10)

@@ -1,6 +1,7 @@
 """The trace for Perfetto: its events have the right form, slices of a thread are nested or consecutive, and each flow leads from one slice
 to another; statuses equal the model's."""
 
+import gzip
 import json
 import random
 import unittest
@@ -8,6 +9,8 @@ from functools import lru_cache
 from itertools import chain
 from pathlib import Path
 from typing import Any, Sequence
+
+import pytest
 
 from netrev_fuzz.injections import Traffic
 from netrev_fuzz.randomsteps import Author
@@ -21,7 +24,7 @@ from nrdb.scout import Scout
 from nrdb.suspects.ranking import all_suspects_of
 from nrdb.timeline.beside import beside
 from nrdb.timeline.searched import DEADLINES_AND_CLOCK, STATUSES, searched
-from nrdb.timeline.trace import Tracing
+from nrdb.timeline.trace import AT_ONCE, Tracing, packed, together, write_events
 
 from .modelled import changes_in
 
@@ -215,3 +218,19 @@ class Searched(unittest.TestCase):
         changes = RecordedChanges.read(pieces)
         self.assertEqual(list(searched(changes, STATUSES)), [("1", "gor 0", "idle"), ("2", "gor 0", "parked 0 r")])
         self.assertEqual(list(searched(changes, DEADLINES_AND_CLOCK)), [("3", "rd 0", "-1"), ("4", "clock", "7")])
+
+
+@pytest.mark.parametrize(("name", "is_packed"), [("x.json", False), ("x.json.gz", True), ("x.gz", True), ("gz", False)])
+def test_a_trace_is_compressed_if_its_name_says_so(name: str, is_packed: bool, tmp_path: Path) -> None:
+    with packed(str(tmp_path / name), "other.jsonl") as file:
+        write_events(file, iter([["1", "2"], ["3"]]))
+    data = (tmp_path / name).read_bytes()
+    assert data.startswith(b"\x1f\x8b") == is_packed
+    assert json.loads(gzip.decompress(data) if is_packed else data)["traceEvents"] == [1, 2, 3]
+
+
+@pytest.mark.parametrize(("length", "groups"), [(0, []), (1, [1]), (AT_ONCE, [AT_ONCE]), (AT_ONCE + 1, [AT_ONCE, 1])])
+def test_events_are_written_in_groups(length: int, groups: list[int]) -> None:
+    events = [str(number) for number in range(length)]
+    found = list(together(iter(events)))
+    assert [len(group) for group in found] == groups and [one for group in found for one in group] == events

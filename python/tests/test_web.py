@@ -10,6 +10,8 @@ import unittest
 from concurrent.futures import Future
 from unittest import mock
 
+import pytest
+
 from nrdb.web.document import document
 from nrdb.web.requests import Gate
 from nrdb.web.serving import Server, Unavailable, listening
@@ -316,3 +318,13 @@ class Hostile(Served):
                     time.sleep(0.05)
                 self.assertLess(time.monotonic() - begun, 5)
         self.expect_that_it_goes_on()
+
+
+@pytest.mark.parametrize("error", [OSError(98, "Address already in use"), OverflowError("port must be 0-65535")])
+@pytest.mark.parametrize("call", ["bind", "listen"])
+def test_a_socket_that_cannot_listen_is_closed(call: str, error: Exception) -> None:
+    with mock.patch("nrdb.web.serving.socket.socket") as made:
+        getattr(made.return_value, call).side_effect = error
+        with pytest.raises(OSError, match=str(error.args[-1])):
+            listening(7)
+        made.return_value.close.assert_called_once_with()

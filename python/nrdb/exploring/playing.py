@@ -151,7 +151,7 @@ class Player(Standing):
     def _note(self, g: int, place: Place, answer: Answer, status: Status) -> None:
         """Stores a goroutine's turn in the recorded run if other schedules may take the same turn."""
         number, step, behind_it = self.steps[-1].number, self.steps[-1].step, self.places[g]
-        if step[0] in UNLIKE or answer == ("last",) or place.destroys >= 0 or behind_it.destroys >= 0:
+        if step[0] in UNLIKE or behind_it.destroys >= 0:
             return
         turn = Turn(place, answer, status, behind_it, g in self.off)
         operations = self.script.goroutines[g]

@@ -93,7 +93,7 @@ class Shrinking:
                     yield self._whole(windowed)
         yield self._whole(near)
         yield self._whole(wide)
-        yield {unit for unit in range(len(self.units)) if self._is_before_end(unit)}
+        yield set(range(len(self.units)))
 
     def _about(self, sockets: set[Optional[int]], goroutines: set[Optional[int]]) -> set[int]:
         """The units about these objects, and all ticks."""
@@ -102,10 +102,7 @@ class Shrinking:
             is_about = event.kind == "tick" or self.events.socket_of(event) in sockets - {None}
             if is_about or (event.named("g") in goroutines - {None}):
                 found.add(self.player.owner[place])
-        return {unit for unit in found if self._is_before_end(unit)}
-
-    def _is_before_end(self, unit: int) -> bool:
-        return self.units[unit].events[0] < self.target.until
+        return found
 
     def _window(self, scope: set[int], window: int) -> set[int]:
         """The units near the steps of the target."""

@@ -26,7 +26,6 @@ class Target(ABC):
     socket: Optional[int] = None
     use: Optional[int] = None
     steps: list[int]
-    until: int  # the last step that can matter
 
     @abstractmethod
     def shows(self, player: Player) -> bool:
@@ -40,7 +39,7 @@ class SuspectTarget(Target):
         self.suspect, self.rank = suspect, rank
         self.goroutine, self.socket = suspect.goroutine, suspect.socket
         self.use = None if suspect.descriptor is None else events.use_at(suspect.descriptor, suspect.step)
-        self.steps, self.until = [suspect.step, *suspect.steps], len(events.all)
+        self.steps = [suspect.step, *suspect.steps]
 
     def shows(self, player: Player) -> bool:
         ranked = suspects_of(PlayedSteps(step for step, _ in player.steps))
@@ -60,7 +59,7 @@ class CellTarget(Target):
 
     def __init__(self, events: Events, cell: str, wanted: str, position: int) -> None:
         name, *number = cell.split()
-        self.name, self.wanted, self.steps, self.until = name, wanted, [position], position
+        self.name, self.wanted, self.steps = name, wanted, [position]
         self.which: Optional[int] = None
         self.of = CELLS[name].of
         if self.of is Of.DESCRIPTOR:
@@ -118,7 +117,7 @@ class StepsTarget(Target):
     """Steps that must remain with their answers: a call that fails, and its cause."""
 
     def __init__(self, events: Events, steps: Sequence[int]) -> None:
-        self.steps, self.until = list(steps), len(events.all)
+        self.steps = list(steps)
         self.stays = {number - 1 for number in steps}
         self.socket = events.socket_of(events.all[steps[-1] - 1])
 
