@@ -6,10 +6,11 @@ from typing import Any, Optional, cast
 
 import pytest
 
-from nrdb.dap import filters, looks, marks as dap_marks, memory, moving
+from nrdb.dap import breakpoints, filters, looks, marks as dap_marks, memory, moving
 from nrdb.dap.filters import Failure, Filter, Filters
 from nrdb.dap.marks import Marks, Sort
 from nrdb.dap.messages import Request, Unanswerable
+from nrdb.dap.numbering import Numbering
 from nrdb.dap.moving import AT_THE_END, Moves, Stop, text_of
 from nrdb.dap.wishes import wish_of
 from nrdb.one_call import Outcome
@@ -196,3 +197,30 @@ def test_breakpoints_of_a_kind_are_replaced() -> None:
     lines.clear()
     marks.replace(Sort.FUNCTION, [])
     assert lines == ["delete 2"]  # (and 5, but for the list of marks above)
+
+
+@pytest.mark.parametrize(
+    "line, end, is_recording, wanted",
+    [
+        (3, None, False, [3]), (4, None, False, []), (3, 9, False, [3, 5, 9]), (4, 8, False, [5]), (2, 3, False, [3]), (9, 12, False, [9]), (10, 12, False, []),
+        (5, 4, False, []), (3, 4, True, [3, 4]), (4, None, True, [4]), (1, 2, True, [2]), (4, 9, True, [4, 5]), (6, 9, True, []),
+    ],
+)  # fmt: skip
+@pytest.mark.parametrize("first", [0, 1])
+def test_the_lines_that_have_a_step(
+    line: int, end: Optional[int], is_recording: bool, wanted: list[int], first: int
+) -> None:
+    """Lines 3, 5 and 9 of the program have steps, and lines 2 to 5 of the recording; the editor counts lines from `first`."""
+    steps = {number: Made(number=number, line=number + 1) for number in (1, 2, 3, 4)}
+    debuggee = Made(
+        is_at=lambda path: is_recording, step=steps.get, step_at=lambda line: next((one for one in steps.values() if one.line >= line), None)
+    )  # fmt: skip
+    target = Made(debuggee=debuggee, go_lines=Made(lines=lambda path: {9, 3, 5}))
+    shift = 1 - first
+    asked = Request(
+        1,
+        "breakpointLocations",
+        {"source": {"path": "main.go"}, "line": line - shift} | ({"endLine": end - shift} if end else {}),
+    )
+    found = breakpoints.locations(cast(Any, target), Numbering(first == 1), asked)
+    assert [one["line"] + shift for one in found["breakpoints"]] == wanted

@@ -6,7 +6,7 @@ import os
 import socket
 import sys
 from collections.abc import Iterator
-from contextlib import contextmanager
+from contextlib import ExitStack, contextmanager
 from pathlib import Path
 from typing import Any, Optional, cast
 from unittest import mock
@@ -14,7 +14,7 @@ from unittest import mock
 import pytest
 
 from nrdb.collecting import Collecting
-from nrdb.dap import adapter, debuggee, serving
+from nrdb.dap import adapter, debuggee, handshakes, serving
 from nrdb.dap.adapter import Adapter
 from nrdb.dap.admission import NAMED_BY
 from nrdb.dap.debuggee import Debuggee
@@ -154,6 +154,36 @@ def test_an_editor_is_served_over_the_standard_streams() -> None:
         assert not stdin.closed
     (answer, *_) = messages_in(written.getvalue())
     assert (answer["command"], answer["success"]) == ("initialize", True)
+
+
+def test_who_says_nothing_delays_nobody_and_is_ended() -> None:
+    with socket.create_server(("127.0.0.1", 0)) as listening, mock.patch.object(handshakes, "IN_TIME", 0.3):
+        shaking = handshakes.Handshakes(listening, TOKEN)
+        with socket.create_connection(listening.getsockname()) as silent:
+            with socket.create_connection(listening.getsockname()) as editor:
+                editor.sendall(INITIALIZE + LAUNCH)
+                connection = shaking.next()
+                assert connection.launch and connection.launch.arguments == {"token": TOKEN}
+                silent.settimeout(60)
+                assert silent.recv(1) == b""  # (after a while)
+                editor.sendall(framed(3, "threads"))
+                request = connection.wire.request()
+                assert request and request.command == "threads"  # (an admitted connection isn't ended)
+                connection.close()
+
+
+def test_of_many_who_say_nothing_the_oldest_is_ended() -> None:
+    with socket.create_server(("127.0.0.1", 0)) as listening, mock.patch.object(
+        handshakes, "MOST", 2
+    ), ExitStack() as opened:
+        handshakes.Handshakes(listening, TOKEN)
+        silent = [opened.enter_context(socket.create_connection(listening.getsockname())) for _ in range(3)]
+        silent[0].settimeout(60)
+        assert silent[0].recv(1) == b""
+        for one in silent[1:]:
+            one.settimeout(0.05)
+            with pytest.raises(TimeoutError):
+                one.recv(1)
 
 
 def test_a_port_can_be_served_again_at_once(capsys: pytest.CaptureFixture[str]) -> None:

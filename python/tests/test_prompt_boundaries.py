@@ -15,10 +15,10 @@ from nrdb.prompt.completion import candidates
 from nrdb.prompt.terminal import Terminal, repeats
 from nrdb.recording import Recording
 from nrdb.session import Misused, Session
-from nrdb.timeline import page
+from nrdb.timeline import page, story
 from nrdb.timeline.picture import MOST
 from nrdb.timeline.runs import Window
-from nrdb.timeline.story import marks_of, times_of
+from nrdb.timeline.story import marks_of, ticks_of, times_of
 
 from .test_program_places import session_of
 from .test_suspects import OPEN, READ, Steps, recording_of
@@ -146,6 +146,26 @@ def test_a_terminal_completes_the_word_before_the_cursor(session: Session) -> No
 @pytest.mark.parametrize(("line", "is_repeated"), [("stepi", True), ("si 3", True), ("rsi", True), ("info position", False), ("goto 3", False), ("re", False), ("nothing", False)])  # fmt: skip
 def test_an_empty_line_repeats_a_step_alone(line: str, is_repeated: bool) -> None:
     assert repeats(line) == is_repeated
+
+
+def test_an_empty_line_at_the_terminal(session: Session) -> None:
+    lines = ["stepi 2", "", "", "goto 9", "", "rsi", " ", "info position"]
+    at = Terminal(session)
+    with mock.patch("builtins.input", side_effect=[*lines, EOFError]), mock.patch.object(session, "run") as run:
+        run.return_value = True
+        assert [at._turn() for _ in range(len(lines) + 1)] == [True] * len(lines) + [False]
+    ran = [call.args[0] for call in run.call_args_list]
+    assert ran == ["stepi 2", "stepi 2", "stepi 2", "goto 9", "", "rsi", "rsi", "info position"]
+
+
+@pytest.mark.parametrize(
+    ("ticks", "most", "shown"),
+    [([], 3, []), ([1], 3, [1]), ([1, 2, 3], 3, [1, 2, 3]), ([1, 2, 3, 4], 3, [1, 3, 4]), ([1, 2, 3, 4, 5], 3, [1, 3, 5]), ([1, 2, 3, 4, 5, 6, 7], 3, [1, 4, 7]), ([1, 2, 3, 4, 5, 6, 7, 8], 3, [1, 4, 7, 8])],
+)  # fmt: skip
+def test_the_clocks_steps_on_a_page(ticks: list[int], most: int, shown: list[int]) -> None:
+    changes = cast(Any, mock.Mock(changes_of=lambda cell: [(at, str(10 * at)) for at in ticks]))
+    with mock.patch.object(story, "MOST_TICKS", most):
+        assert ticks_of(changes) == [[0, 0], *([at, 10 * at] for at in shown)]
 
 
 # ---- pages

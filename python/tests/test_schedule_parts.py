@@ -1,5 +1,8 @@
 """The parts of a schedule: who waits for whom, when the network acts, the schedules that are kept, and how far a run goes."""
 
+import io
+import pickle
+from collections import Counter
 from typing import Any, Optional
 
 import pytest
@@ -8,15 +11,17 @@ from netrev_calls.flow import Sort
 from netrev_words.recording import Limits, Step
 from nrdb.exploring.board import Board
 from nrdb.exploring.control import CLOCK, GOROUTINE, NETWORK, NEVER, NotMade, Numbers, Place
-from nrdb.exploring.failing import failing_delays, watched
+from nrdb.exploring.failing import Failed, Reason, Why, ends_of, failing_delays, reason_of, stays_of, watched
+from nrdb.exploring.finding import Exploring
+from nrdb.exploring.hanging import ended_by
 from nrdb.exploring.making import script_of
 from nrdb.exploring.orders import Passing, Waiting, causes_of, orders_of
 from nrdb.exploring.others import MOST_TRIES, Others
 from nrdb.exploring.playing import Player
-from nrdb.exploring.runs import Delay
+from nrdb.exploring.runs import Delay, Made
 from nrdb.exploring.schedules import Schedule
 from nrdb.exploring.scripts import Cause, Item, Operation, Order, Script
-from nrdb.exploring.workers import Best
+from nrdb.exploring.workers import LENGTH, Best, Share, Told, tell_of
 from nrdb.reducing.events import Event
 from tests.test_exploring_failures import CLOSES, READS, sets
 from tests.test_suspects import COMES, OPEN, PARK, READ, Steps, recording_of
@@ -374,6 +379,76 @@ def test_the_delays_in_which_a_call_may_fail(steps: Steps, delays: list[Delay]) 
     script = script_of(recording_of(OPEN + steps))
     script.watched = watched(script)
     assert failing_delays(script) == delays
+
+
+def made_of(numbers: list[int], time: int) -> list[Made]:
+    """The steps of a schedule, by their numbers in the recording: step 5 sets a deadline at this time."""
+    return [Made(("setdeadline", 0, 0, "r", time) if one == 5 else ("tick", one), ("done",), one) for one in numbers]
+
+
+@pytest.mark.parametrize(
+    ("why", "numbers", "time", "reason", "stays"),
+    [
+        (Why.TIMED_OUT, [1, 5, 11, 0], 5, Reason(2, 1), (2, 3, 4)),
+        (Why.TIMED_OUT, [1, 5, 7, 11, 9, 0], 5, Reason(2, 1), (2, 4, 6)),
+        (Why.TIMED_OUT, [1, 11, 5, 7, 0], 5, None, ()),  # (no call ended under that deadline)
+        (Why.TIMED_OUT, [1, 5, 11, 16, 0], 5, Reason(2, 2), (2, 4, 5)),
+        (Why.TIMED_OUT, [1, 5, 11, 0, 16], 5, Reason(2, 1), (2, 3, 4)),
+        (Why.TIMED_OUT, [5, 11, 0], 5, Reason(1, 1), (1, 2, 3)),
+        (Why.TIMED_OUT, [1, 5, 11, 0], -1, Reason(2, 0), (2, 4)),
+        (Why.TIMED_OUT, [1, 5, 11, 0], 0, Reason(2, 0), (2, 4)),
+        (Why.TIMED_OUT, [1, 2, 11, 0], 5, None, ()),
+        (Why.CLOSED, [1, 5, 17, 11, 0], 5, Reason(3, 0), (3, 5)),
+        (Why.CLOSED, [1, 5, 11, 0], 5, None, ()),
+        (Why.BROKEN, [1, 5, 11, 0], 5, Reason(4, 0), (4,)),
+    ],
+)  # fmt: skip
+def test_why_a_call_fails(
+    why: Why, numbers: list[int], time: int, reason: Optional[Reason], stays: tuple[int, ...]
+) -> None:
+    """The calls end at steps 11 and 16, and 17 closes the socket. The step without a number, or else the last, fails."""
+    script = script_of(recording_of(OPEN + sets(5) + READS + READS + CLOSES))
+    script.watched = watched(script)
+    assert {number for row in ends_of(script).values() for number in row} == {11, 16}
+    failed = Failed(1, 4, numbers.index(0) + 1, why)
+    steps = made_of(numbers, time)
+    assert reason_of(script, failed, steps) == reason
+    if reason:
+        assert stays_of(script, failed, reason, steps) == stays
+
+
+@pytest.mark.parametrize(
+    ("operation", "ended"),
+    [(0, None), (1, 8), (2, 8), (3, None)],
+)
+def test_the_deadline_that_ended_a_call(operation: int, ended: Optional[int]) -> None:
+    """Step 5 sets the deadline of the other side, and step 8 that of this one, which ends the wait; step 17 comes later."""
+    other: Steps = [["incref", 0, 0], ["setdeadline", 0, 0, "w", -1], ["decref", 0, 0]]
+    steps = (
+        OPEN + other + sets(-1) + [["rwlock", 1, 0, "r"], ["pollreset", 1, 0, "r"], ["rwunlock", 1, 0, "r"]] + sets(-1)
+    )
+    script = script_of(recording_of(steps))
+    assert [one.sort for one in script.goroutines[1]] == [Sort.LOCK, Sort.RESET, Sort.WAIT, Sort.UNLOCK]
+    assert ended_by(script, 1, Place(operation)) == ended
+    assert ended_by(script, 0, Place(0)) is None
+
+
+def test_a_process_reports_all_that_it_found() -> None:
+    recording = recording_of(OPEN + sets(5) + READS + READS)
+    script = script_of(recording)
+    whole = Exploring(script, recording.lines.words)
+    whole.run(30, lambda: None)
+    out = io.BytesIO()
+    tell_of(Share(script, recording.lines, 30, 0, 1), out)
+    data, told = out.getvalue(), list[Told]()
+    while data:
+        size = int.from_bytes(data[:LENGTH], "big")
+        told.append(pickle.loads(data[LENGTH : LENGTH + size]))
+        data = data[LENGTH + size :]
+    assert [one.is_all for one in told] == [*[False] * (len(told) - 1), True]
+    assert sum(one.played for one in told) == whole.played > 0
+    assert sum((Counter(one.times) for one in told), Counter()) == whole.times
+    assert {key for one in told for key in one.best} == set(whole.found)
 
 
 def test_a_run_ends_before_a_time_or_after_so_many_steps() -> None:

@@ -6,7 +6,10 @@ from netrev_calls.flow import Sort
 from netrev_words.recording import Answer, Limits, Step
 from nrdb.exploring.board import Board
 from nrdb.exploring.control import NEVER, NotMade, Numbers, Place, Stream, behind, is_about, next_number, next_step
+from nrdb.exploring.making import script_of
 from nrdb.exploring.scripts import Operation
+
+from .test_suspects import COMES, OPEN, READ, Steps, recording_of
 
 FAILED = 7  # the operation with which a failed call continues
 LOCKS = Operation(Sort.LOCK, 0, side="r", on_failure=FAILED)
@@ -145,3 +148,53 @@ def test_the_next_recorded_step() -> None:
     operations = [Operation(Sort.LOCK, 0, steps=[3]), Operation(Sort.RESET, 0), Operation(Sort.READ, 0, steps=[8, 9])]
     places = (Place(), Place(0, 1), Place(1), Place(2), Place(2, 1), Place(2, 2), Place(3))
     assert [next_number(operations, place) for place in places] == [3, 8, 8, 8, 9, NEVER, NEVER]
+
+
+READY: Steps = [["pollevent", 0, 1, "rw", 0]]
+PARKS: Steps = [
+    ["waitbegin", 1, 0, "r"],
+    ["blockarm", 1],
+    ["blockcheck", 1],
+    ["parkcommit", 1],
+    *COMES,
+    ["blockswap", 1],
+]
+BYTES: Steps = [["arrive", 0, "61626364"]]
+UNLOCKS: Steps = [["rwunlock", 1, 0, "r"]]
+
+
+def read(count: int) -> Steps:
+    return [["sysread", 1, 0, count]]
+
+
+@pytest.mark.parametrize(
+    ("steps", "wanted"),
+    [
+        (READ + PARKS + read(16) + UNLOCKS, "LOCK RESET READ:7 UNLOCK"),
+        (READ + PARKS + UNLOCKS, "LOCK RESET READ:6 UNLOCK"),
+        (READ + READY + [["waitbegin", 1, 0, "w"], ["blockarm", 1]] + UNLOCKS, "LOCK RESET READ:1 WAIT:2 UNLOCK"),  # (of the other side)
+        (READ + READY + [["waitbegin", 1, 0, "r"], ["blockarm", 1]] + UNLOCKS, "LOCK RESET READ:3 UNLOCK"),
+        (READ[:2] + READY + [["waitbegin", 1, 0, "r"], ["blockarm", 1]] + UNLOCKS, "LOCK RESET WAIT:2 UNLOCK"),
+        (BYTES + READ[:2] + read(2) + read(2) + UNLOCKS, "LOCK RESET READ:2 UNLOCK"),  # (all that was asked for came)
+        (BYTES + READ[:2] + read(5) + read(2) + UNLOCKS, "LOCK RESET READ:1 READ:1 UNLOCK"),
+        (BYTES + READ[:2] + read(4) + read(1) + UNLOCKS, "LOCK RESET READ:2 UNLOCK"),
+        (BYTES + READ[:2] + read(3) + UNLOCKS + READ[:2] + read(1) + UNLOCKS, "LOCK RESET READ:1 UNLOCK LOCK RESET READ:1 UNLOCK"),
+        ([["peerclose", 0]] + READ[:2] + read(3) + read(3) + UNLOCKS, "LOCK RESET READ:1 READ:1 UNLOCK"),
+        ([["rwlock", 1, 0, "w"], ["pollreset", 1, 0, "w"], ["syswrite", 1, 0, "61"], ["syswrite", 1, 0, "62"], ["rwunlock", 1, 0, "w"]], "LOCK RESET WRITE:2 UNLOCK"),
+        ([["increfclose", 0, 0], ["rwlock", 1, 0, "r"]], "LOCK RESET:0 WAIT:0 UNLOCK:0"),
+        (READ[:2] + read(3) + UNLOCKS + [["increfclose", 0, 0], ["rwlock", 1, 0, "r"]], "LOCK RESET READ:1 UNLOCK LOCK RESET:0 READ:0 UNLOCK:0"),
+        ([["increfclose", 0, 0], ["incref", 1, 0]], "REFER GIVE_UP:0"),
+        ([["increfclose", 0, 0], ["increfclose", 1, 0]], "CLOSE EVICT:0 GIVE_UP:0"),
+        ([["incref", 1, 0], ["decref", 1, 0]], "REFER GIVE_UP"),
+        ([["incref", 1, 0], ["increfclose", 0, 0], ["evict", 0, 0], ["decref", 0, 0], ["decref", 1, 0], ["pollclose", 1, 0]], "REFER GIVE_UP:2"),
+        ([["rwlock", 0, 0, "r"], ["rwlock", 1, 0, "r"], ["acquire", 1], ["rwunlock", 0, 0, "r"], ["release", 0], ["acquire", 1], ["rwlock", 1, 0, "r"], *UNLOCKS], "LOCK:4 UNLOCK"),
+    ],
+)  # fmt: skip
+def test_a_goroutines_steps_are_divided_into_operations(steps: Steps, wanted: str) -> None:
+    """Each operation of goroutine 1 with the number of its steps; 0 for one that the recording doesn't show, because the call failed."""
+    (_, operations) = script_of(recording_of(OPEN + steps)).goroutines
+    assert all(len(one.steps) == len(one.kinds) for one in operations)
+    counts = [(one.sort.name, len(one.steps)) for one in operations]
+    assert counts == [(name, int(count or 1)) for name, _, count in (word.partition(":") for word in wanted.split())]
+    numbers = [number for one in operations for number in one.steps]
+    assert numbers == sorted(numbers) and len(set(numbers)) == len(numbers)

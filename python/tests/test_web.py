@@ -5,6 +5,7 @@ import base64
 import hashlib
 import json
 import re
+import socket
 import time
 import unittest
 from concurrent.futures import Future
@@ -328,3 +329,14 @@ def test_a_socket_that_cannot_listen_is_closed(call: str, error: Exception) -> N
         with pytest.raises(OSError, match=str(error.args[-1])):
             listening(7)
         made.return_value.close.assert_called_once_with()
+
+
+def test_a_port_can_be_listened_on_again_at_once() -> None:
+    """The system still remembers the connection of the browser before."""
+    with listening(0) as at:
+        port = at.getsockname()[1]
+        with socket.create_connection((LOOPBACK, port)) as browser:
+            accepted, _ = at.accept()
+            accepted.close()
+            assert browser.recv(1) == b""
+    listening(port).close()
