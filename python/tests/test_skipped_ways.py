@@ -47,9 +47,35 @@ SKIP = [
         "a loop after it", "\tfor x := range xs {\n\t\tif x == 0 {\n\t\t\treturn nil\n\t\t}\n\t}\n\tgive(c)\n\treturn nil", [(5, "returns")],
     ),
     ("a loop round it", "\tfor x := range xs {\n\t\tgive(c)\n\t}\n\treturn nil", [(3, "passes by")]),
+    (
+        "a loop that may have no round", "\tfor x := range xs {\n\t\tgive(c)\n\t\treturn nil\n\t}\n\treturn nil", [(7, "returns")],
+    ),
+    (
+        "a loop's continue", "\tfor x := range xs {\n\t\tif x {\n\t\t\tcontinue\n\t\t}\n\t\tgive(c)\n\t\tbreak\n\t}\n\treturn nil", [(3, "passes by")],
+    ),
+    ("an endless loop's break", "\tfor {\n\t\tif x {\n\t\t\tbreak\n\t\t}\n\t\tgive(c)\n\t\treturn nil\n\t}\n\treturn nil", [(10, "returns")]),
+    ("a switch's break", "\tswitch x {\n\tcase 1:\n\t\tbreak\n\tdefault:\n\t\tgive(c)\n\t}\n\treturn nil", [(3, "passes by")]),
+    ("an if's break", "\tfor {\n\t\tif x {\n\t\t\tbreak\n\t\t} else {\n\t\t\tgive(c)\n\t\t\tbreak\n\t\t}\n\t}\n\treturn nil", [(3, "passes by")]),
+    ("the case taken anew", "\tgive(c)\n\tswitch x {\n\tcase take():\n\t\treturn nil\n\t}\n\treturn nil", [(6, "returns")]),
+    ("an else if", "\tif a {\n\t\tgive(c)\n\t} else if b {\n\t\treturn nil\n\t} else {\n\t\tgive(c)\n\t}\n\treturn nil", [(6, "returns")]),
+    ("two conditions", "\tif a {\n\t\tif b {\n\t\t\tgive(c)\n\t\t}\n\t}\n\treturn nil", [(4, "passes by")]),
+    ("taken anew and not given", "\tgive(c)\n\tc = take()\n\treturn nil", [(5, "returns")]),
+    ("a literal that takes another", "\tgive(c)\n\tx := func() { take() }\n\tif bad {\n\t\tc = take()\n\t}\n\treturn nil", [(5, "passes by")]),
     ("two", "\tif a {\n\t\treturn nil\n\t}\n\tif b {\n\t\treturn nil\n\t}\n\tgive(c)\n\treturn nil", [(4, "returns"), (7, "returns")]),
 ]  # fmt: skip
 GIVEN = {
+    "before an endless loop is left": "\tfor {\n\t\tgive(c)\n\t\tbreak\n\t}\n\treturn nil",
+    "in the last round of an endless loop": "\tfor {\n\t\tif good {\n\t\t\tgive(c)\n\t\t\tbreak\n\t\t}\n\t}\n\treturn nil",
+    "an endless loop without an end": "\tgive(c)\n\tfor {\n\t\twork()\n\t}\n\tc = take()",
+    "deferred before a loop takes more": "\tgive(c)\n\tdefer give(c)\n\tfor x := range take() {\n\t\tif x {\n\t\t\tcontinue\n\t\t}\n\t}\n\treturn nil",
+    "in every case": "\tswitch x {\n\tcase 1:\n\t\tgive(c)\n\tdefault:\n\t\tgive(c)\n\t}\n\treturn nil",
+    "in the head of a switch": "\tswitch give(c) {\n\tcase 1:\n\t\treturn errBad\n\t}\n\treturn nil",
+    "in the head of a case": "\tswitch {\n\tcase give(c):\n\t\treturn errBad\n\tdefault:\n\t\tgive(c)\n\t}\n\treturn nil",
+    "by a literal": "\tgive(c)\n\tx := func() { take() }\n\treturn x()",
+    "handed on, if that is given back too": "\tgive(c)\n\tkeep(c)\n\treturn nil",
+    "as it returns": "\treturn give(c)",
+    "the program ends instead": "\tif good {\n\t\tgive(c)\n\t\treturn nil\n\t}\n\tlog.Fatal(1)",
+    "goto leads elsewhere": "\tif bad {\n\t\tgoto end\n\t}\n\tgive(c)\n\treturn nil",
     "each way": "\tif bad {\n\t\tgive(c)\n\t\treturn errBad\n\t}\n\tgive(c)\n\treturn nil",
     "deferred": "\tdefer give(c)\n\tif bad {\n\t\treturn errBad\n\t}\n\treturn nil",
     "deferred in a literal": "\tdefer func() {\n\t\tlog()\n\t\tgive(c)\n\t}()\n\tif bad {\n\t\treturn errBad\n\t}\n\treturn nil",
@@ -65,6 +91,23 @@ GIVEN = {
     "a raw string": "\ts := `\n} `\n\tif bad {\n\t\treturn nil\n\t}\n\tgive(c, s)\n\treturn nil",
     "in an endless loop": "\tfor {\n\t\tif good {\n\t\t\tbreak\n\t\t}\n\t}\n\tgive(c)\n\treturn nil",
 }
+LOOPS = [
+    ("\tgive(c)\n\tc := take()\n\tif bad {\n\t\treturn\n\t}", []),
+    ("\tif a {\n\t\tc := take()\n\t} else {\n\t\tkeep(x)\n\t}\n\tif bad {\n\t\treturn\n\t}\n\tgive(c)", [(8, "returns")]),
+    ("\tfor {\n\t\tc := take()\n\t\tgive(c)\n\t}", []),
+    ("\tfor {\n\t\tc := take()\n\t\tif bad {\n\t\t\tcontinue\n\t\t}\n\t\tgive(c)\n\t}", [(5, "goes on")]),
+    ("\tfor {\n\t\tc := take()\n\t\tif bad {\n\t\t\tbreak\n\t\t}\n\t\tgive(c)\n\t}", [(9, "ends")]),
+    ("\tfor {\n\t\tc := take()\n\t\tif bad {\n\t\t\treturn\n\t\t}\n\t\tgive(c)\n\t}", [(5, "returns")]),
+    ("\tfor {\n\t\tc := take()\n\t\tif good {\n\t\t\tgive(c)\n\t\t}\n\t}", [(4, "passes by")]),
+    ("\tfor {\n\t\tc := take()\n\t\tif good {\n\t\t\tgive(c)\n\t\t\tcontinue\n\t\t}\n\t}", [(2, "ends")]),
+    ("\tfor c := range take() {\n\t\tif bad {\n\t\t\tcontinue\n\t\t}\n\t\tgive(c)\n\t}", [(4, "goes on")]),
+    ("\tfor c := range take() {\n\t\tgive(c)\n\t}\n\twork()", []),
+    ("\tfor a {\n\t\tfor b {\n\t\t\tc := take()\n\t\t\tif bad {\n\t\t\t\tcontinue all\n\t\t\t}\n\t\t\tgive(c)\n\t\t}\n\t}", [(6, "goes on")]),
+    ("\tfor a {\n\t\tfor b {\n\t\t\tc := take()\n\t\t\tif bad {\n\t\t\t\tbreak all\n\t\t\t}\n\t\t\tgive(c)\n\t\t}\n\t}", [(6, "breaks off")]),
+    ("\tfor a {\n\t\tc := take()\n\t\tfor b {\n\t\t\tif bad {\n\t\t\t\tbreak\n\t\t\t}\n\t\t}\n\t\tgive(c)\n\t}", []),
+    ("\tdefer give(1)\n\tfor a {\n\t\tc := take()\n\t\tif bad {\n\t\t\tcontinue\n\t\t}\n\t\tgive(c)\n\t}", []),
+    ("\tfor c := range take() {\n\t\tdefer give(c)\n\t\tif bad {\n\t\t\tcontinue\n\t\t}\n\t}", []),
+]  # fmt: skip
 LOOP = "func f() {\n\tfor {\n\t\tselect {\n\t\tcase c, ok := <-in:\n%s\n\t\tcase <-quit:\n\t\t\treturn\n\t\t}\n\t}\n}\n"
 ROUNDS = [
     ("\t\t\tif bad {\n\t\t\t\tcontinue\n\t\t\t}\n\t\t\tgive(c)", [(6, "goes on")]),
@@ -74,6 +117,23 @@ ROUNDS = [
     ("\t\t\tfor bad {\n\t\t\t\tcontinue\n\t\t\t}\n\t\t\tgive(c)", []),
 ]
 TRIES = [
+    (
+        "\tc, err := take()\n\tif err := log(); bad {\n\t\twork()\n\t}\n\tif err != nil {\n\t\treturn\n\t}\n\tgive(c)",
+        [],
+    ),
+    ("\tc, err := take()\n\tif err := log(); err != nil {\n\t\treturn\n\t}\n\tgive(c)", [(4, "returns")]),
+    ("\tif c, err := take(); err == nil {\n\t\tgive(c)\n\t}", []),
+    ("\tif c := take(); c == nil {\n\t\treturn\n\t}\n\tgive(c)", []),
+    ("\tif c, ok := take(); ok {\n\t\tgive(c)\n\t}", []),
+    ("\tif c, ok := take(); !ok {\n\t\treturn\n\t}\n\tgive(c)", []),
+    ("\tif c, ok := take(); other {\n\t\tgive(c)\n\t}", [(2, "passes by")]),
+    ("\tc, ok := take()\n\tif !ok {\n\t\treturn\n\t}\n\tgive(c)", []),
+    ("\tc, ok := take()\n\tif d := log(); !ok {\n\t\treturn\n\t}\n\tgive(c)", []),
+    ("\tc, ok := take()\n\tswitch ok {\n\tcase true:\n\t\treturn\n\t}\n\tgive(c)", [(5, "returns")]),
+    ("\tc = take()\n\tif it != nil {\n\t\tgive(c)\n\t}", []),
+    ("\tc = take()\n\tif err != nil {\n\t\tgive(c)\n\t}", [(3, "passes by")]),
+    ("\tswitch {\n\tcase c, ok := take():\n\t\tif !ok {\n\t\t\treturn\n\t\t}\n\t\tgive(c)\n\t}", []),
+    ("\ttake()\n\tif bad {\n\t\treturn\n\t}\n\tgive()", [(4, "returns")]),
     ("\tif c, err := take(); err != nil {\n\t\treturn\n\t} else {\n\t\tgive(c)\n\t}", []),
     ("\tif !take() {\n\t\treturn\n\t}\n\tgive()", []),
     ("\tif take() {\n\t\tgive()\n\t}\n\treturn", []),
@@ -105,6 +165,11 @@ def test_no_way_skips_it(name: str) -> None:
 @pytest.mark.parametrize("body, expected", ROUNDS)
 def test_the_rounds_of_a_loop(body: str, expected: list[tuple[int, str]]) -> None:
     assert ways(LOOP % body, "<-in") == expected
+
+
+@pytest.mark.parametrize("body, expected", LOOPS)
+def test_each_round_gives_back_what_it_took(body: str, expected: list[tuple[int, str]]) -> None:
+    assert ways(f"func f() {{\n{body}\n}}\n") == expected
 
 
 @pytest.mark.parametrize("body, expected", TRIES)

@@ -45,10 +45,8 @@ def shared_at(lines: Lines, made: Call) -> Iterator[tuple[int, str]]:
         return
     head = loop_round(lines, within, begin)
     loop = LOOP.search(lines[head - 1]) if head else None
-    end = next(
-        (at for at in range(begin + 1, within.stop) if indent_of(lines[at - 1]) <= indent_of(lines[begin - 1])), begin
-    )
-    body = " ".join(line.partition("//")[0] for line in lines[begin - 1 : end])
+    ends = (at for at in range(begin + 1, within.stop) if indent_of(lines[at - 1]) <= indent_of(lines[begin - 1]))
+    body = " ".join(line.partition("//")[0] for line in lines[begin - 1 : next(ends, begin + 1) - 1])
     again = " ".join(lines[head : begin - 1]) if head else ""
     for name in loop.groups() if loop else ():
         if (

@@ -10,7 +10,7 @@ from .statements import Statement, statements_of
 
 Test = Callable[[str], bool]
 DIES = re.compile(r"(?:panic|os\.Exit|log\.Fatal\w*|runtime\.Goexit|goto|\w\.Fatal\w*)\b")
-LEAVES = re.compile(r"(return|continue|break)\b(?: (\w+))?")
+LEAVES = re.compile(r"(return|(?:continue|break)(?: \w+)?)\b")
 ENDLESS = re.compile(r"(?:\w+: *)?for \{$")
 IS_THERE = re.compile(r"if (?!err)\w+ != nil \{$")  # a test whether something was taken
 GOT = re.compile(r"(?:if |case )?(?:[\w.]+, )*(\w+) :?= ")
@@ -55,7 +55,8 @@ class State(NamedTuple):
 
 
 class Exit(NamedTuple):
-    """A line that leaves a block, how it leaves the block, and the state at the line."""
+    """A line that leaves a block, how it leaves the block (`end`, or the statement: `return`, `break all`), and the
+    state at the line."""
 
     kind: str
     number: int
@@ -116,8 +117,7 @@ class Walk(NamedTuple):
         if DIES.match(one.text):
             return None, []
         if found := LEAVES.match(one.text):
-            is_labelled = found[1] != "return" and found[2]
-            return None, [Exit(f"{found[1]}{' label' if is_labelled else ''}", one.number, now)]
+            return None, [Exit(found[1], one.number, now)]
         return now, []
 
     def block(self, one: Statement, now: State, got: str) -> Result:
@@ -159,13 +159,13 @@ class Walk(NamedTuple):
         begins = self.does_begin(one.text) and not now.is_deferred
         after, left = self.body(one.branches[-1].body, OPEN if begins else now, got)
         left += [Exit("end", one.number, after)] if after is not None else []
-        exits = [exit for exit in left if exit.kind == "return" or exit.kind.endswith("label")]
+        exits = [exit for exit in left if exit.kind not in ("continue", "break", "end")]
+        rounds = [exit for exit in left if exit.kind in ("continue", "end")]
         behind = [exit.state for exit in left if exit.kind == "break"]
-        behind += [] if ENDLESS.match(one.text) else [now]
-        for exit in left:
-            if exit.kind in ("continue", "end"):
-                behind += [exit.state] if now.is_open else []
-                self.leave(exit if not now.is_open else exit._replace(state=BEFORE))
+        if not ENDLESS.match(one.text):
+            behind += [now, *(exit.state for exit in rounds if now.is_open)]
+        for exit in rounds if not now.is_open else ():
+            self.leave(exit)
         return joined(behind, one.number), exits
 
     def leave(self, exit: Exit) -> None:
