@@ -49,7 +49,7 @@ def test_the_innermost_call_around_a_step(g: int, number: int, wanted: Optional[
     [
         (5, 11, "goroutine 1 pauses before Read on socket 0 (step 5) until goroutine 0 has made decref in SetReadDeadline on socket 0 (step 11)"),
         (7, 12, "goroutine 1, in Read on socket 0, pauses before sysread (step 7) until goroutine 1 has made decref in Control on socket 0 (step 12)"),
-        (9, 13, "goroutine 0 pauses before SetReadDeadline on socket 0 (step 9) until behind arrive 0 6869 (step 13)"),
+        (9, 13, "goroutine 0 pauses before SetReadDeadline on socket 0 (step 9) until after arrive 0 6869 (step 13)"),
         (10, 17, "goroutine 0, in SetReadDeadline on socket 0, pauses before setdeadline (step 10) until goroutine 1 has made sysread in Read on socket 0 (step 17)"),
         (16, 18, "goroutine 1, in Read on socket 0, pauses before pollreset (step 16) until its deadline has passed"),
     ],

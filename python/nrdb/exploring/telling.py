@@ -49,7 +49,7 @@ class Telling:
             return "its deadline has passed"
         kind, g = self._step(number)
         if g < 0:
-            return f"behind {self.recording.step(number)} (step {number})"
+            return f"after {self.recording.step(number)} (step {number})"
         call = self.call_of(g, number)
         in_call = f" in {self._named(call)}" if call else ""
         return f"goroutine {g} has made {kind}{in_call} (step {number})"
