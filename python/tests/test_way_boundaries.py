@@ -66,7 +66,8 @@ def test_loops_share_variables_before_a_language_version(
     folder = tmp_path / "one" / "two"
     folder.mkdir(parents=True)
     (tmp_path / "go.mod").write_text(module or "module none", encoding="utf-8")
-    (folder / "a.go").write_text(STARTS, encoding="utf-8")
+    for name in ("a.go", "b.go"):
+        (folder / name).write_text(STARTS, encoding="utf-8")
     calls = [Call("main.run", str(folder / made), line, of) for line in (6, 5)]
     known = {goid: Made(made=call) for goid, call in enumerate([*calls, calls[0], None], 1)}
     recording = cast(Any, Made(lines=Made(goroutines=known, written=float("inf"))))
