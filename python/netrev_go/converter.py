@@ -226,7 +226,7 @@ class Converter:
             self.of(g, socket, stack, written(g, number, min(max(asked, 1), BUFFER), answer))
             return
         capacity = socket.capacity()
-        for count in parts(put, min(capacity, BUFFER)):
+        for count in parts(put, capacity):
             missing = socket.held + count - capacity
             if missing > 0:
                 self.step(drained(number, missing))

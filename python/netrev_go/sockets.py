@@ -72,8 +72,8 @@ class Socket:
     whole: dict[int, int] = field(default_factory=dict)
 
     def capacity(self) -> int:
-        """The capacity of its output: large enough to be full exactly when Go first found it full, or otherwise to hold the largest
-        write."""
+        """The capacity of its output, at most BUFFER: large enough to be full exactly when Go first found it full, or otherwise to hold
+        the largest write."""
         return self.full_at or self.largest
 
 
@@ -222,7 +222,7 @@ def count_bytes(socket: Socket, point: Point) -> None:
 def count_parts(points: list[tuple[Point, Socket]]) -> None:
     """Counts the steps of writes once the sizes of the outputs are known: a write is split into parts that fit."""
     for point, socket in points:
-        socket.steps += -(-max(point.b, 0) // min(socket.capacity(), BUFFER)) - 1
+        socket.steps += -(-max(point.b, 0) // socket.capacity()) - 1
 
 
 def count_points(points: list[tuple[Point, Socket]]) -> None:
