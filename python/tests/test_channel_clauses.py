@@ -8,9 +8,11 @@ import pytest
 
 from nrdb.all_goroutines import CLOSED, FOR_ROOM, FOR_VALUE, PUT, TOOK, At, Use
 
-from nrdb.causes import made_channels, rpc_calls, sibling_channels, slots, unpassed_ends
+from nrdb.causes import (
+    dropped_requests, failing, first, leftovers, made_channels, needs, needs_of_mutexes, rpc_calls, sibling_channels, slots, unpassed_ends,
+)  # fmt: skip
 from nrdb.causes.senders import Giving
-from nrdb.one_call import Outcome
+from nrdb.one_call import CLOSE, Outcome
 from nrdb.waits import Name, Waiting
 from nrdb.where import OF_A_LIBRARY, OF_THE_PROGRAM, Stack
 from tests.test_cause_boundaries import line_of
@@ -183,3 +185,196 @@ def test_an_end_that_a_relay_didn_t_pass_on(change: dict[str, Any], says: bool, 
     index.book.calls = [call, other]
     case.told, case.closing = True, 0
     assert [one.met for one in unpassed_ends.unpassed_ends(cast(Any, index))][-1] is other
+
+
+@pytest.mark.parametrize(
+    "change, holder",
+    [
+        ({}, 6), ({"side": "w"}, 5), ({"side": ""}, 5), ({"is_asking": True}, 5), ({"first": 20}, 6), ({"first": 21}, 5), ({"last": 20}, 5), ({"last": 21}, 6), ({"last": 7}, 5),
+        ({"mine": ""}, 0), ({"mine": "w"}, 0),
+    ],
+)  # fmt: skip
+def test_the_call_that_has_a_socket_s_lock(change: dict[str, Any], holder: int, monkeypatch: Patch) -> None:
+    case = Made(**({"side": "r", "is_asking": False, "first": 6, "last": 0, "mine": "r"} | change))
+    monkeypatch.setattr(needs, "told", lambda recording, call: f"Goroutine {call.goroutine}")
+    calls = [
+        Made(goroutine=5, side="r", is_asking=False, first=4, last=0),
+        Made(goroutine=6, side=case.side, is_asking=case.is_asking, first=case.first, last=case.last),
+    ]
+    names = {Name(holder), Name(1)}
+    whole = Made(_index=Made(by_socket={3: calls}), _position=20, _recording=None)
+    whole._is_under_way = lambda call: needs.Needs._is_under_way(cast(Any, whole), call)
+    whole._elsewhere = Made(excess_of=lambda found: ["excess"] if found == names else [])
+    found = needs.Needs._of_lock(cast(Any, whole), cast(Any, Made(socket=3, side=case.mine, goroutine=1)))
+    since = case.first if holder == 6 else 4
+    says = f"It waits for socket 3's read lock, which Goroutine {holder} has since step {since}."
+    assert found.says == ([says] if holder else []) and found.more == (["excess"] if holder else [])
+    assert found.by == (Name(holder) if holder else None)
+
+
+@pytest.mark.parametrize(
+    "change, line",
+    [
+        ({}, 7), ({"held": "s.lock"}, 0), ({"held": ""}, 0), ({"text": "work()"}, 0), ({"function": "main.(*pool).put"}, 7), ({"function": "main.(*room).put"}, 0),
+        ({"function": "main.put"}, 0), ({"text": "p.lock.RLock()"}, 7), ({"held": "s.lock p.lock"}, 8),
+    ],
+)  # fmt: skip
+def test_a_goroutine_that_may_have_locked_the_mutex_itself(
+    change: dict[str, Any], line: int, monkeypatch: Patch
+) -> None:
+    case = Made(**({"held": "p.lock", "text": "\tp.lock.Lock() // s.lock", "function": "main.(*pool).take"} | change))
+    monkeypatch.setattr(needs_of_mutexes, "text_at", lambda recording, call: case.text)
+    lock, outer = line_of(3, "main.(*pool).get"), line_of(9, case.function, "b.go")
+    held = {outer: [Made(name=name, line=number) for number, name in enumerate(case.held.split(), 7)]}
+    whole = Made(_recording=None, _held=lambda call: held.get(call, []))
+    waiter = Made(stack=Stack((lock, outer), None))
+    found = needs_of_mutexes.NeedsOfMutexes._of_itself(cast(Any, whole), cast(Any, waiter), lock)
+    assert found == (f"Perhaps it holds that itself, locked at b.go:{line}." if line else "")
+
+
+OPEN_ENDS = {
+    "by": True,
+    "last": 8,
+    "used": False,
+    "closing": False,
+    "of_go": False,
+    "closed": 8,
+    "wait": True,
+    "serves": True,
+    "own": True,
+    "objects": 1,
+}
+STAYS = ", and for nothing else: the end of the request's context doesn't end that"
+
+
+@pytest.mark.parametrize(
+    "change, says",
+    [
+        ({}, True), ({"by": False}, False), ({"last": None}, False), ({"used": True}, False), ({"closing": True}, False), ({"of_go": True}, False), ({"last": 9}, False),
+        ({"last": 7}, True), ({"wait": False}, None), ({"serves": False}, None), ({"own": False}, None), ({"objects": 2}, True), ({"objects": 0}, True),
+    ],
+)  # fmt: skip
+def test_a_socket_that_is_left_open(change: dict[str, Any], says: bool | None, monkeypatch: Patch) -> None:
+    case = Made(**(OPEN_ENDS | change))
+    last = case.last and Made(first=6, last=case.last, goroutine=4, steps=lambda: "in step 6")
+    first = Made(first=2, last=3, goroutine=5, steps=lambda: "in step 2")
+    monkeypatch.setattr(leftovers, "ends_of", lambda index: [(3, 4), (5, 6)])
+    monkeypatch.setattr(leftovers, "is_of_go", lambda recording, call: case.of_go and call is last)
+    monkeypatch.setattr(leftovers, "told", lambda recording, call: f"The call of {call.goroutine}")
+    monkeypatch.setattr(
+        leftovers, "place_of_step", lambda recording, step, goroutine: f" in step {step} by {goroutine}"
+    )
+    monkeypatch.setattr(
+        leftovers, "has", lambda stack, function: case.serves and function == leftovers.SERVE and stack.is_its
+    )
+    monkeypatch.setattr(leftovers, "waits_words", lambda wait: "waits")
+    wait = Made(stack=Made(own=lambda: case.own, is_its=True), objects=[1] * case.objects, first=7)
+    waits = Made(at=lambda name, position: wait if case.wait and (name, position) == (Name(4), 20) else None)
+    monkeypatch.setattr(leftovers, "waits_of", lambda recording: waits)
+    closes = {
+        4: Made(first=8, goroutine=9) if case.by else None,
+        3: case.closing or None,
+        6: Made(first=8, goroutine=9),
+    }
+    index = Made(
+        recording=Made(length=20), by_socket={3: [first, Made(last=0 if case.used else 5)], 5: [first]},
+        closing=lambda socket, step, whole=False: closes.get(socket) if whole else None, last_use=lambda socket, step: last if socket == 3 else first,
+    )  # fmt: skip
+    found = list(leftovers.left_open(cast(Any, index)))
+    assert found[-1].call is first and len(found) == (1 if says is False else 2)
+    serves = f"Goroutine 4, which serves it, waits since step 7{STAYS if case.objects == 1 else ''}."
+    expected = [
+        "socket 3 is left open, and nobody is in a call there.", "The call of 4 was the last to use it, in step 6.",
+        "Its other end was closed in step 8 by 9.", *([serves] if says else []),
+    ]  # fmt: skip
+    assert found[0].says == expected or says is False
+
+
+@pytest.mark.parametrize(
+    "change, says",
+    [
+        ({}, True), ({"by": None}, False), ({"before": False}, False), ({"deep": 2}, True), ({"deep": 3}, False), ({"outcome": Outcome.DONE}, False), ({"outcome": Outcome.EOF}, True),
+        ({"last": 0}, False), ({"last": 9}, True), ({"last": 10}, False), ({"file": True}, False),
+    ],
+)  # fmt: skip
+def test_the_failure_before_a_close(change: dict[str, Any], says: bool, monkeypatch: Patch) -> None:
+    by = Made(first=9)
+    case = Made(
+        **({"by": by, "before": True, "deep": 0, "outcome": Outcome.TIMED_OUT, "last": 8, "file": False} | change)
+    )
+    before, other = Made(outcome=case.outcome, last=case.last), Made()
+    monkeypatch.setattr(failing, "is_of_a_file", lambda index, call: case.file)
+    monkeypatch.setattr(
+        failing, "cause_of", lambda index, call, deep: Made(says=["it failed.", f"At {deep}."], chain=[other])
+    )
+    index = Made(before=lambda call: before if case.before and call is by else None)
+    found = failing.why(cast(Any, index), cast(Any, case.by), case.deep)
+    assert found.says == (["Before that, it failed.", f"At {case.deep + 1}."] if says else [])
+    assert found.calls == ([before, other] if says else [])
+
+
+@pytest.mark.parametrize(
+    "waits, step",
+    [
+        ("4:7", 7),
+        ("4:8", 8),
+        ("4:9", 0),
+        ("5:7", 0),
+        ("4:", 0),
+        ("", 0),
+        ("4:7 4:5", 7),
+        ("4:5 4:7 5:8", 7),
+        ("4:0", 0),
+    ],
+)
+def test_when_a_wait_at_the_same_line_ended(waits: str, step: int, monkeypatch: Patch) -> None:
+    every = [
+        Made(stack=Stack((line_of(int(line)),), None), last=int(last) if last else None)
+        for line, _, last in (one.partition(":") for one in waits.split())
+    ]
+    other = Made(stack=Stack((line_of(4),), None), last=8)
+    of = {Name(1): every, Name(2): [other]}
+    monkeypatch.setattr(dropped_requests, "waits_of", lambda recording: Made(of=of))
+    wait = waiting([(5, FOR_VALUE)], 4)._replace(first=8)
+    assert dropped_requests.answered_before(cast(Any, None), wait) == step
+    assert dropped_requests.answered_before(cast(Any, None), wait._replace(name=Name(3))) == 0
+
+
+@pytest.mark.parametrize(
+    "what, number, end, found",
+    [(PUT, 5, 9, True), (PUT, 5, 8, False), (PUT, 5, 10, True), (TOOK, 5, 10, False), (CLOSED, 5, 10, False), (PUT, 6, 10, True), (PUT, 7, 10, False)],
+)  # fmt: skip
+def test_an_answer_after_a_request(what: str, number: int, end: int, found: bool) -> None:
+    uses = {number: [use_of(number, what, 1, end=end)], 4: [use_of(4, PUT, 1, end=20)]}
+    recording = cast(Any, Made(lines=Made(uses=uses)))
+    wait = waiting([(5, FOR_VALUE), (6, FOR_VALUE)])
+    assert dropped_requests.has_answer(recording, wait, use_of(3, PUT, 1, end=9)) is found
+
+
+@pytest.mark.parametrize(
+    "change, whose",
+    [
+        ({}, ", at which goroutine 4 was the last to put a value"), ({"use": FOR_ROOM}, ", at which goroutine 4 was the last to take one"), ({"user": 8}, ", as goroutine 4 had put for others"),
+        ({"object": 6}, ", as goroutine 4 had put for others"), ({"gone": 5}, ""), ({"gone": None}, ""), ({"wait": False}, ""), ({"ended": None}, ""), ({"later": 9}, ""),
+        ({"later": 8}, ", at which goroutine 4 was the last to put a value"), ({"later": 9, "name": CLOSE}, ", at which goroutine 4 was the last to put a value"),
+    ],
+)  # fmt: skip
+def test_a_goroutine_that_ended_after_a_failure(change: dict[str, Any], whose: str, monkeypatch: Patch) -> None:
+    usual = {"use": FOR_VALUE, "user": 7, "object": 5, "gone": 4, "wait": True, "ended": 12, "later": 0, "name": "Read"}
+    case = Made(**(usual | change))
+    call = Made(goroutine=4, first=6, last=8)
+    later = [Made(first=case.later, name=case.name)] if case.later else []
+    monkeypatch.setattr(first, "index_of", lambda recording: Made(by_goroutine={4: [call, *later]}))
+    monkeypatch.setattr(first, "ended_behind", lambda index, one, position: case.ended if position == 20 else None)
+    monkeypatch.setattr(first, "goid_of", lambda recording, name: 7)
+    monkeypatch.setattr(first, "waits_words", lambda wait: "waits")
+    waiters = {
+        Name(2): Made(name=Name(2), wait=None), Name(3): Made(name=Name(3), wait=waiting([(5, case.use)]) if case.wait else None),
+    }  # fmt: skip
+    known = {Name(2): Made(gone=None), Name(3): Made(gone=Name(case.gone) if case.gone else None)}
+    recording = Made(lines=Made(uses={case.object: [use_of(case.object, PUT, 1, goid=case.user)]}))
+    found = first.left_by(
+        cast(Any, Made(recording=recording, waiters=waiters, needs=known, position=20)), cast(Any, call)
+    )
+    says = f"Goroutine 4 ended after that, at step 12; goroutine 3 waits{whose}."
+    assert found == ([says] if whose else [])
