@@ -1,0 +1,163 @@
+"""The rules about datagrams from other addresses, failed dials and ended contexts, clause by clause: a row for each clause that doesn't hold, and
+for each side of a boundary."""
+
+import re
+from pathlib import Path
+from types import SimpleNamespace as Made
+from typing import Any, cast
+
+import pytest
+
+from nrdb.all_goroutines import CLOSED, PUT, Use
+
+from nrdb.causes import ended_contexts, failed_dials, needs_elsewhere, source_functions, unheard
+from nrdb.waits import Name
+from nrdb.where import OF_GO, OF_THE_PROGRAM, Call, Stack
+from tests.test_cause_boundaries import line_of
+
+Patch = pytest.MonkeyPatch
+
+
+@pytest.mark.parametrize(
+    "change, says",
+    [
+        ({}, True), ({"addresses": {}}, False), ({"addresses": {3: ("", "b:2")}}, False), ({"addresses": {3: ("a:1", "")}}, False), ({"target": "a:3"}, False),
+        ({"source": "b:2"}, False), ({"target": "0.0.0.0:1"}, True), ({"target": "0.0.0.0:3"}, False), ({"source": "[::]:2"}, False), ({"source": "[::]:3"}, True),
+        ({"first": 20}, True), ({"first": 21}, False), ({"first": 5}, True), ({"first": 4}, False), ({"first": 4, "name": "Write"}, True), ({"first": 4, "moved": 0}, True),
+        ({"first": 4, "last": 8}, True), ({"first": 7, "last": 7}, False), ({"first": 8, "last": 7}, True),
+    ],
+)  # fmt: skip
+def test_a_datagram_from_another_address(change: dict[str, Any], says: bool, monkeypatch: Patch) -> None:
+    usual = {
+        "addresses": {3: ("a:1", "b:2")}, "target": "a:1", "source": "c:4", "first": 6, "name": "Read", "moved": 5, "last": 4,
+    }  # fmt: skip
+    case = Made(**(usual | change))
+
+    def sent(begin: int, target: str) -> Any:
+        wrote = Made(first=begin, socket=9, steps=lambda: f"step {begin}")
+        return unheard.Sent(cast(Any, wrote), case.source, target)
+
+    monkeypatch.setattr(unheard, "sent_at", lambda index: [sent(19, "a:7"), sent(case.first, case.target)])
+    monkeypatch.setattr(unheard, "told", lambda recording, call: "Write")
+    monkeypatch.setattr(unheard, "opened_at", lambda index, socket: ", opened")
+    reads = [Made(name=case.name, moved=case.moved, last=case.last), Made(name="Read", moved=5, last=2)]
+    index = Made(recording=Made(lines=Made(addresses=case.addresses)), by_socket={3: reads})
+    need = unheard.unheard(cast(Any, index), cast(Any, Made(socket=3, first=8)), 20)
+    expected = [
+        f"Write sent a datagram to its address, a:1, in step {case.first}, from socket 9, {case.source}, opened.",
+        "Socket 3 is connected to b:2: the system drops what comes from any other address.",
+    ]
+    assert (need.says if need else []) == (expected if says else []) and (need is None or need.is_odd)
+
+
+def test_the_first_datagram_from_another_address_is_named(monkeypatch: Patch) -> None:
+    every = [
+        unheard.Sent(cast(Any, Made(first=begin, socket=9, steps=lambda begin=begin: f"step {begin}")), "c:4", "a:1")
+        for begin in (9, 6, 7)
+    ]
+    monkeypatch.setattr(unheard, "sent_at", lambda index: every)
+    monkeypatch.setattr(unheard, "told", lambda recording, call: "Write")
+    monkeypatch.setattr(unheard, "opened_at", lambda index, socket: "")
+    index = Made(recording=Made(lines=Made(addresses={3: ("a:1", "b:2")})), by_socket={3: []})
+    need = unheard.unheard(cast(Any, index), cast(Any, Made(socket=3, first=8)), 20)
+    assert need and " in step 6, from socket 9" in need.says[0]
+
+
+@pytest.mark.parametrize(
+    "change, by",
+    [
+        ({}, 6), ({"goroutine": 1}, 5), ({"first": 20}, 6), ({"first": 21}, 5), ({"last": 20}, 5), ({"last": 21}, 6), ({"last": 7}, 5), ({"inside": False}, 0), ({"goid": True}, 0),
+    ],
+)  # fmt: skip
+def test_the_call_that_a_close_waits_for(change: dict[str, Any], by: int, monkeypatch: Patch) -> None:
+    case = Made(**({"goroutine": 6, "first": 6, "last": 0, "inside": True, "goid": False} | change))
+    monkeypatch.setattr(needs_elsewhere, "told", lambda recording, call: f"Goroutine {call.goroutine}")
+    calls = [Made(goroutine=5, first=4, last=0), Made(goroutine=case.goroutine, first=case.first, last=case.last)]
+    closes = Made(socket=3, goroutine=1)
+    index = Made(
+        inside=lambda number, position: closes if case.inside and (number, position) == (1, 20) else None,
+        by_socket={3: calls},
+    )
+    whole = Made(_index=index, _position=20, _recording=None)
+    waiter = cast(Any, Made(name=Name(1)._replace(is_goid=case.goid)))
+    need = needs_elsewhere.NeedsElsewhere._of_close(cast(Any, whole), waiter)
+    says = f"Goroutine {by} uses socket 3 since step {case.first if by == 6 else 4}."
+    assert (need.says, need.by) == (([says], Name(by)) if by else ([], None))
+
+
+@pytest.mark.parametrize(
+    "change, says",
+    [
+        ({}, "cancelled"), ({"context": 0}, ""), ({"context": 6}, ""), ({"what": PUT}, ""), ({"begin": 8}, "cancelled"), ({"begin": 9}, ""), ({"own": False}, ""),
+        ({"once": True}, "once"), ({"once": True, "context": 0}, "once"),
+    ],
+)  # fmt: skip
+def test_why_a_dial_failed(change: dict[str, Any], says: str, monkeypatch: Patch) -> None:
+    case = Made(**({"context": 5, "what": CLOSED, "begin": 7, "own": True, "once": False} | change))
+    monkeypatch.setattr(failed_dials, "name_of_goid", lambda lines, goid: f"goid {goid}")
+    stacks = {
+        1: Stack((line_of(4, "main.stop") if case.own else line_of(0, "context.cancel", of=OF_GO),), None),
+        2: Stack((line_of(0, failed_dials.ONCE if case.once else "net.Dial", of=OF_GO), line_of(9)), None),
+    }
+    uses = {
+        5: [Use(5, 7, case.what, 1, 1, 3, 3, case.begin, case.begin), Use(5, 8, PUT, 2, 1, 1, 1, 1, 1)],
+        0: [Use(0, 7, CLOSED, 1, 1, 3, 3, 1, 1)],
+    }
+    failed = Made(context=case.context, time=8, stack=2)
+    found = failed_dials.ended_says(cast(Any, Made(lines=Made(uses=uses, stacks=stacks))), cast(Any, failed))
+    texts = {
+        "cancelled": ["Its context had been cancelled at a.go:4 in stop (goid 7, step 3)."], "": [],
+        "once": ["That was in a sync.Once, which calls its function once alone: no later call dials again."],
+    }  # fmt: skip
+    assert found == texts[says]
+
+
+@pytest.mark.parametrize(
+    "places, function, says",
+    [(["a.go:4"], "main.run", True), ([], "main.run", False), (["a.go:4", "b.go:5"], "main.run", False), (["a.go:4"], ended_contexts.SERVE, False)],
+)  # fmt: skip
+def test_a_handler_keeps_the_context_of_its_request(
+    places: list[str], function: str, says: bool, monkeypatch: Patch
+) -> None:
+    monkeypatch.setattr(
+        ended_contexts, "places_with", lambda recording, file, pattern: places if file == "a.go" else []
+    )
+    stack = Stack((line_of(3, "main.get"), line_of(9, function, of=OF_GO)), None)
+    found = ended_contexts.kept_by_a_handler(cast(Any, None), stack)
+    text = "Perhaps it is the one that a.go:4 keeps of a request: net/http ends that as its handler returns."
+    assert found == ([text] if says else [])
+    assert ended_contexts.kept_by_a_handler(cast(Any, None), Stack((), None)) == []
+
+
+@pytest.mark.parametrize(
+    "kind, begin, since",
+    [(ended_contexts.A_CONNECTION, 6, 6), (ended_contexts.A_CONNECTION, 9, 9), (ended_contexts.A_CONNECTION, 10, 2), ("a value", 6, 2)],
+)  # fmt: skip
+@pytest.mark.parametrize("depth, is_waiting", [(0, True), (2, True), (3, False)])
+def test_a_request_whose_context_ended_as_it_waited_for_a_connection(
+    kind: str, begin: int, since: int, depth: int, is_waiting: bool, monkeypatch: Patch
+) -> None:
+    calls = [line_of(0, "net/http.get", of=OF_GO)] * depth
+    stack = Stack((*calls, line_of(0, ended_contexts.GET_CONNECTION, of=OF_GO), line_of(3, "main.ask")), None)
+    waits = Made(of={Name(4): [Made(kind=ended_contexts.A_CONNECTION, first=2), Made(kind=kind, first=begin)]})
+    monkeypatch.setattr(ended_contexts, "name_of_goid", lambda lines, goid: Name(4))
+    monkeypatch.setattr(ended_contexts, "waits_of", lambda recording: waits)
+    monkeypatch.setattr(ended_contexts, "Ledger", lambda recording, waits: None)
+    monkeypatch.setattr(ended_contexts, "open_bodies", lambda recording, ledger, waits, step: [f"since {step}"])
+    monkeypatch.setattr(ended_contexts, "of_a_handler", lambda recording, goid: [])
+    monkeypatch.setattr(ended_contexts, "kept_by_a_handler", lambda recording, stack: ["kept"])
+    ended = ended_contexts.EndedBefore(Use(5, 7, "ended", 1, 1, 9, 9, 9, 9))
+    found = ended.says(cast(Any, Made(lines=Made(stacks={1: stack}))))
+    waited = [
+        "The request at a.go:3 in ask (goroutine 4, step 9) ended while it waited for a connection: its context had ended.",
+        f"since {since}",
+    ]
+    unsent = ["The request at a.go:3 in ask (goroutine 4, step 9) wasn't sent: its context had ended before.", "kept"]
+    assert found == (waited if is_waiting else unsent)
+
+
+def test_no_lines_are_found_without_the_source(tmp_path: Path) -> None:
+    recording = cast(Any, Made(lines=Made(written=float("inf"))))
+    call = Call("main.f", str(tmp_path / "none.go"), 3, OF_THE_PROGRAM)
+    assert source_functions.found_in(recording, call, re.compile("x")) == []
+    assert source_functions.function_of(recording, call) == ((), range(0))
