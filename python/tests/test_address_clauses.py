@@ -1,5 +1,5 @@
-"""The rules about datagrams from other addresses, failed dials and ended contexts, clause by clause: a row for each clause that doesn't hold, and
-for each side of a boundary."""
+"""The rules about requests and answers, datagrams from other addresses, failed dials and ended contexts, clause by clause: a row for each clause
+that doesn't hold, and for each side of a boundary."""
 
 import re
 from pathlib import Path
@@ -8,9 +8,12 @@ from typing import Any, cast
 
 import pytest
 
-from nrdb.all_goroutines import CLOSED, PUT, Use
+from nrdb.all_goroutines import CLOSED, PUT, TOOK, Use
 
-from nrdb.causes import ended_contexts, failed_dials, needs_elsewhere, source_functions, unheard
+from nrdb.causes import (
+    dropped_answers, dropped_requests, ended_contexts, exchanges, failed_dials, left_in_buffers, needs_elsewhere, source_functions, unheard,
+)  # fmt: skip
+from nrdb.one_call import CLOSE
 from nrdb.waits import Name
 from nrdb.where import OF_GO, OF_THE_PROGRAM, Call, Stack
 from tests.test_cause_boundaries import line_of
@@ -161,3 +164,104 @@ def test_no_lines_are_found_without_the_source(tmp_path: Path) -> None:
     call = Call("main.f", str(tmp_path / "none.go"), 3, OF_THE_PROGRAM)
     assert source_functions.found_in(recording, call, re.compile("x")) == []
     assert source_functions.function_of(recording, call) == ((), range(0))
+
+
+@pytest.mark.parametrize(
+    "calls, found",
+    [
+        ("w2 r3", "2/3"), ("w2 w3 r4 r5", "2,3/4,5"), ("w2 r3 w4 r5", "2/3 4/5"), ("r1 w2 r3", "2/3"), ("w2", "2/"), ("r2", ""), ("", ""), ("w2 r9", "2/9"), ("w2 r10", "2/"),
+        ("w2 o3 r4", "2/4"), ("w2 r3:other r4", "2/4"), ("w2 r3:nothing r4", "2/4"), ("w2 r3:going r4", "2/4"), ("w2:other r3", ""),
+    ],
+)  # fmt: skip
+def test_what_a_goroutine_wrote_and_read_in_turn(calls: str, found: str) -> None:
+    names = {"r": "Read", "w": "Write", "o": CLOSE}
+    made = []
+    for one in calls.split():
+        at, _, how = one.partition(":")
+        made.append(
+            Made(
+                name=names[at[0]], first=int(at[1:]), goroutine=2 if how == "other" else 1, moved=0 if how == "nothing" else 4,
+                last=0 if how == "going" else int(at[1:]),
+            )
+        )  # fmt: skip
+    says = exchanges.exchanges_of(cast(Any, Made(by_socket={3: made})), 1, 3, 9)
+    texts = ["/".join(",".join(str(call.first) for call in part) for part in (one.writes, one.reads)) for one in says]
+    assert " ".join(texts) == found
+    assert exchanges.exchanges_of(cast(Any, Made(by_socket={})), 1, 3, 9) == []
+
+
+@pytest.mark.parametrize(
+    "calls, asked, on, is_answered",
+    [
+        ("r6 w7", 1, False, True), ("r6 w7", 2, False, False), ("r6 w7", 2, True, True), ("r5 w7", 1, False, False), ("r6", 1, True, False), ("w7", 1, True, False),
+        ("r6 w6", 1, True, False), ("r6 w7 w8", 2, False, True), ("r6 w7 w8b", 3, True, False), ("r6 w7 r8", 2, True, False), ("", 1, True, False), ("w3 r6 w7", 2, False, True),
+    ],
+)  # fmt: skip
+def test_whether_all_requests_were_answered(
+    calls: str, asked: int, on: bool, is_answered: bool, monkeypatch: Patch
+) -> None:
+    made = []
+    for one in calls.split():
+        step = int(one[1])
+        made.append(
+            Made(
+                name="Read" if one[0] == "r" else "Write", first=step, last=step, moved=4, goroutine=2 if one[2:] else 1
+            )
+        )
+    monkeypatch.setattr(
+        dropped_answers, "reads_on", lambda index, goroutine, socket: on and (goroutine, socket) == (1, 4)
+    )
+    mine = [Made(name="Write", moved=4)] * asked + [Made(name="Read", moved=4), Made(name="Write", moved=0)]
+    index = Made(other_end=lambda socket: 4 if socket == 3 else None, by_socket={3: mine, 4: made})
+    wrote = Made(socket=3, first=5)
+    assert dropped_answers.is_answered(cast(Any, index), cast(Any, wrote)) is is_answered
+    wrote.socket = 5
+    assert not dropped_answers.is_answered(cast(Any, index), cast(Any, wrote))
+
+
+@pytest.mark.parametrize(
+    "change, taker",
+    [
+        ({}, 8), ({"puts": 3}, None), ({"puts": 1}, None), ({"free": (7,)}, None), ({"free": (8,)}, None), ({"lines": {7: 4}}, 7), ({"lines": {}}, None), ({"waiters": (7,)}, 7),
+        ({"waiters": ()}, None), ({"own": False}, None),
+    ],
+)  # fmt: skip
+def test_the_goroutine_that_took_a_request(change: dict[str, Any], taker: int | None, monkeypatch: Patch) -> None:
+    case = Made(**({"puts": 2, "free": (7, 8), "lines": {7: 4, 8: 5}, "waiters": (7, 8), "own": True} | change))
+    monkeypatch.setattr(dropped_requests, "name_of_goid", lambda lines, goid: Name(goid))
+    monkeypatch.setattr(
+        dropped_requests, "is_free", lambda recording, use, number, waiters: number == 5 and use.goid in case.free
+    )
+    monkeypatch.setattr(
+        dropped_requests,
+        "answer_line",
+        lambda recording, wait, file, taker: case.lines.get(taker, 0) * (file == "a.go"),
+    )
+    put = Use(5, 1, PUT, 1, case.puts, 1, 1, 1, 1)
+    uses = [put, *(Use(5, goid, TOOK, 1, 1, 2, 2, goid, goid) for goid in (7, 8))]
+    wait = Made(stack=Stack((line_of(3),) if case.own else (), None))
+    waiters = {Name(goid): goid for goid in case.waiters}
+    found = dropped_requests.taker_of(
+        cast(Any, Made(lines=Made(uses={5: uses}))), cast(Any, wait), put, cast(Any, waiters)
+    )
+    assert found == (
+        dropped_requests.Taken(cast(Any, taker), uses[taker - 6], "a.go", case.lines[taker]) if taker else None
+    )
+
+
+@pytest.mark.parametrize(
+    "of, flushed, places, says",
+    [
+        (OF_THE_PROGRAM, "", ["a.go:4", "a.go:5"], "a.go:4"), (OF_GO, "", ["a.go:4"], ""), (OF_THE_PROGRAM, "w", ["a.go:4"], ""), (OF_THE_PROGRAM, "x", ["a.go:4"], "a.go:4"),
+        (OF_THE_PROGRAM, "", [], ""),
+    ],
+)  # fmt: skip
+def test_a_writer_that_no_line_flushes(of: str, flushed: str, places: list[str], says: str, monkeypatch: Patch) -> None:
+    monkeypatch.setattr(
+        left_in_buffers, "places_with", lambda recording, file, pattern: places if file == "a.go" else []
+    )
+    monkeypatch.setattr(left_in_buffers, "names_near", lambda recording, file: Made(flushed={flushed}, buffers={"w"}))
+    stacks = [Stack((line_of(3, of=of),), None), Stack((), None)]
+    recording = cast(Any, Made(lines=Made(of=lambda step: stacks[step])))
+    assert left_in_buffers.never_flushed(recording, cast(Any, Made(first=0))) == says
+    assert left_in_buffers.never_flushed(recording, cast(Any, Made(first=1))) == ""
