@@ -77,7 +77,7 @@ class _Unoptioned(socket.socket):
     def __init__(self, of: socket.socket) -> None:
         super().__init__(of.family, of.type, of.proto, of.detach())
 
-    def setsockopt(self, *_: Any) -> None:  # type: ignore[override]
+    def setsockopt(self, *_: Any) -> None:
         pass
 
 

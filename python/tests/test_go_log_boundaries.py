@@ -487,7 +487,7 @@ def test_a_write_has_as_many_steps_as_fit_into_the_output(
 
 
 def test_a_file_that_is_no_log_is_named_and_not_everything_is_recorded(tmp_path: Path, capsys: Output) -> None:
-    recordings = tested.Recordings(tmp_path, *cast(Any, (None, None)), False, False)
+    recordings = tested.Recordings(tmp_path, cast(Any, None), cast(Any, None), False, False)
     assert recordings.read(tmp_path / "log.1", cast(Any, None)) is None
     assert not recordings.all_recorded and str(tmp_path / "log.1") in capsys.readouterr().err
 
