@@ -213,6 +213,7 @@ TAKEN = {
     "ended": True,
     "waits": 0,
     "more": 0,
+    "other_taker": "",
 }
 SKIPS = "The loop at a.go:3 took 4 values from a channel and called Done at a.go:9 3 times: "
 
@@ -224,7 +225,7 @@ SKIPS = "The loop at a.go:3 took 4 values from a channel and called Done at a.go
         ({"what": PUT}, "perhaps"), ({"missing": 2}, "perhaps"), ({"took": 5}, "perhaps"), ({"done": 2}, "perhaps"), ({"took": 0, "done": 0, "missing": 0}, "perhaps"),
         ({"ended": False}, "perhaps"), ({"ended": False, "waits": 5}, f"{SKIPS}stays without it."), ({"ended": False, "waits": 6}, "perhaps"), ({"other": 2}, f"{SKIPS}left without it."),
         ({"more": 1, "done": 2}, SKIPS.replace("a.go:9", "a.go:9 and a.go:11") + "left without it."), ({"more": 1}, "perhaps"),
-        ({"took": 3, "puts": 3}, "unput 3"), ({"took": 3, "puts": 2}, "perhaps"), ({"took": 3, "puts": 4}, "perhaps"), ({"took": 3, "puts": 3, "other": 1}, "perhaps"), ({"took": 2, "puts": 2}, "perhaps"),
+        ({"other_taker": "busy", "took": 3}, "perhaps"), ({"other_taker": "waits", "took": 3, "waits": 5}, f"{SKIPS}left without it."), ({"took": 3, "puts": 3}, "unput 3"), ({"took": 3, "puts": 2}, "perhaps"), ({"took": 3, "puts": 4}, "perhaps"), ({"took": 3, "puts": 3, "other": 1}, "perhaps"), ({"took": 2, "puts": 2}, "perhaps"),
     ],
 )  # fmt: skip
 def test_a_loop_took_more_values_than_it_called_done(change: dict[str, Any], says: str, monkeypatch: Patch) -> None:
@@ -242,7 +243,9 @@ def test_a_loop_took_more_values_than_it_called_done(change: dict[str, Any], say
         lambda recording, stack: skipped_done.Rounds(stack.calls[0], 3 if stack.calls[0].line < 20 else 15, 4, stack.calls[0])
         if stack.calls[0].line != 20 else None,
     )  # fmt: skip
-    monkeypatch.setattr(skipped_done, "count_says", lambda recording, count: "count")
+    monkeypatch.setattr(
+        skipped_done, "count_says", lambda recording, count: f"count{count.missing - case.missing or ''}"
+    )
     monkeypatch.setattr(skipped_done, "unput_says", lambda recording, count, puts: [f"unput {puts[0].often}"])
     monkeypatch.setattr(skipped_done, "perhaps_skipped", lambda *rest: ["count", "perhaps"])
     monkeypatch.setattr(skipped_done, "words_of_ways", lambda recording, every, left: "left" if left else "stays")
@@ -256,10 +259,13 @@ def test_a_loop_took_more_values_than_it_called_done(change: dict[str, Any], say
         6: [use(PUT, 1, 5)],
         5: [use(case.what, case.took, 3)] * bool(case.took) + [use(PUT, case.puts, 5, 8)] * bool(case.puts),
     }
+    uses[5] += [use(TOOK, 1, 3, 8)] * bool(case.other_taker)
     known = {7: Made(last=0 if case.ended else -1), 8: Made(last=-1)}
     recording = Made(lines=Made(stacks=stacks, uses=uses, goroutines=known))
     wait = Made(objects=(At(3, ""), At(case.waits, "")))
-    waits = Made(at=lambda name, position: wait if case.waits and (name, position) == (Name(7), 20) else None)
+    waits = Made(
+        at=lambda name, position: wait if case.waits and (name, position) in ((Name(7), 20), (Name(8), 20)) else None
+    )
     found = skipped_done.skipped_done(
         cast(Any, recording), cast(Any, waits), cast(Any, Made(done=done, missing=case.missing)), 20
     )
