@@ -9,6 +9,7 @@ from collections.abc import Callable
 from pathlib import Path
 from types import SimpleNamespace as Made
 from typing import Any, cast
+from xml.etree import ElementTree
 
 import pytest
 
@@ -20,6 +21,7 @@ from netrev_go import (
     compare,
     converting,
     doctor,
+    forms,
     goroutines,
     keeping,
     lines,
@@ -35,8 +37,10 @@ from netrev_go import sockets, tested, toolchain, trying
 from netrev_go.goroutines import Goroutines, Making, NEVER, Park, Passing, Span, Used
 from netrev_go.answering import can_answer
 from netrev_go.asking import Late
+from netrev_go.beside import OF_UNIX, Beside
 from netrev_go.lines import Call, Calls
 from netrev_go.logfile import HEADER_WORDS, MOST_HOLDERS, MOST_POINTS, MOST_STACKS, UNDER_WAY, Header, NoLog
+from netrev_go.notes import REFERENCES, WAITING, Note
 from netrev_go.points import Kind, Log, Point
 from netrev_go.sockets import BUFFER, FEW_BYTES, OUTPUT, Socket
 from netrev_go.status import Status
@@ -281,6 +285,7 @@ def test_the_results_for_which_the_machine_has_an_answer(
 def test_the_status_of_recovered_runs(statuses: str, ends: int, monkeypatch: Patch, capsys: Output) -> None:
     """Each run's recordings are all accepted (a), not all accepted (r), or can't be written (t); its logs are left by the same rules."""
     left: list[bool] = []
+    looked: list[Path] = []
     runs = [Made(folder=Path(kind), command=kind, when=lambda: "today") for kind in statuses]
 
     def made(folder: Path, base: Path, go: object, wish: object, count: int) -> Made:
@@ -290,12 +295,12 @@ def test_the_status_of_recovered_runs(statuses: str, ends: int, monkeypatch: Pat
         )
 
     fakes: dict[str, Callable[..., object]] = {
-        "look": lambda base: None, "left_runs": lambda: runs, "take_over": lambda run: True, "Making": made,
+        "look": looked.append, "left_runs": lambda: runs, "take_over": lambda run: True, "Making": made,
     }  # fmt: skip
     for name, fake in fakes.items():
         monkeypatch.setattr(recovery, name, fake)
     assert recovery.recover(argparse.Namespace(keep=True), Path("x"), None, cast(Any, None)) == ends
-    assert left == [True] * len(statuses)
+    assert left == [True] * len(statuses) and looked == [Path("x")]
     told = capsys.readouterr().err
     assert (f"{len(statuses)} recordings" in told) is (len(statuses) > 1)
 
@@ -565,3 +570,73 @@ def test_a_left_run_is_in_a_folder_of_this_user_s(
     user = (tmp_path / name).lstat().st_uid
     monkeypatch.setattr(run_folders.os, "geteuid", lambda: user if is_mine else user + 1)
     assert run_folders.is_own(tmp_path / name, stat.S_ISDIR) is is_folder
+
+
+@pytest.mark.parametrize(
+    "status, failed, parts",
+    [("passed", 0, []), ("skipped", 0, [("skipped", None)]), ("failed", 1, [("failure", "a\nb")]), ("unfinished", 1, [("error", "a\nb")])],
+)  # fmt: skip
+def test_the_parts_of_a_test_case(status: str, failed: int, parts: list[tuple[str, str | None]]) -> None:
+    one = forms.Told("p", "T", status, 1, failed, 0.5, says=["a", "b"])
+    case = ElementTree.fromstring(forms.junit([one])).find("testsuite/testcase")
+    assert case is not None and case.attrib == {"classname": "p", "name": "T", "time": "0.500000"}
+    assert [(part.tag, part.text) for part in case] == parts
+
+
+ACCEPTED, DIALED = (7, 0), (0, 7)  # the path of a Unix socket's own end, and of its other end
+
+
+@pytest.mark.parametrize(
+    "ends, peers",
+    [
+        ([(0, ACCEPTED, 1), (1, DIALED, 2)], [(1, 0)]), ([(0, DIALED, 1), (1, ACCEPTED, 1), (2, DIALED, 1), (3, ACCEPTED, 1)], [(0, 1), (2, 3)]),
+        ([(0, ACCEPTED, 1), (1, DIALED, 2), (2, DIALED, 3)], []), ([(0, ACCEPTED, 1), (1, ACCEPTED, 3), (2, DIALED, 2)], []), ([(0, ACCEPTED, 1), (1, (0, 8), 2)], []),
+    ],
+)  # fmt: skip
+def test_the_ends_of_unix_connections_are_paired_if_their_order_is_known(
+    ends: list[tuple[int, tuple[int, int], int]], peers: list[tuple[int, int]]
+) -> None:
+    beside = Beside()
+    for socket, path, goroutine in ends:
+        beside.named(socket, Point(1, Kind.NAMED, goroutine, 0, *path, OF_UNIX, 0, 0))
+    beside.pair_unix()
+    assert beside.peers == peers
+
+
+def test_recordings_of_a_running_program_are_numbered(monkeypatch: Patch) -> None:
+    names: list[str] = []
+
+    def convert(log: Path, name: Path, *words: object, **more: object) -> Made:
+        names.append(name.name)
+        return Made(is_empty=False, taken=True, lines=[])
+
+    monkeypatch.setattr(keeping, "logs_in", lambda folder: [Path("log.1"), Path("log.2")])
+    monkeypatch.setattr(keeping, "convert", convert)
+    made = keeping.Making(Path("logs"), Path("x"), None, cast(Any, None))
+    made.so_far()
+    made.so_far()
+    assert names == ["x-so-far-1.jsonl", "x-so-far-1-2.jsonl", "x-so-far-2.jsonl", "x-so-far-2-2.jsonl"]
+
+
+def test_the_fields_of_a_lock_word() -> None:
+    note = Note(1, 1 | 2 | 5 << 3 | 70 << 23 | (2**20 - 1) << 43, (0, 0))
+    assert [note.field(place) for place in (REFERENCES, *WAITING)] == [5, 70, 2**20 - 1]
+    assert note.is_taken(0) and not note.is_taken(1)
+
+
+@pytest.mark.parametrize(
+    "lengths, rooms", [([10], [10]), ([12, 10], [10, 10]), ([12, 13, 9], [10, 10, 7]), ([12, 13, 11, 8], [10, 10, 7, 6])]
+)  # fmt: skip
+def test_a_recording_that_is_too_long_after_its_steps_were_counted_gets_less_room(
+    lengths: list[int], rooms: list[int], monkeypatch: Patch
+) -> None:
+    asked: list[int] = []
+    made = iter(lengths)
+
+    def converter(points: object, begin: int, ends: object) -> Made:
+        return Made(lines=[""] * next(made), convert=lambda: None, made_of=dict)
+
+    own = Made(chosen=lambda most, megabytes, room: asked.append(room), is_crowded=False, restore=lambda: None, found=Made(sockets=[]))  # fmt: skip
+    monkeypatch.setattr(making, "Converter", converter)
+    monkeypatch.setattr(making, "MOST_STEPS", 10)
+    assert len(making.Fitted.converted(cast(Any, own), 0, 256, 1).lines) == lengths[-1] and asked == rooms
