@@ -640,3 +640,15 @@ def test_a_recording_that_is_too_long_after_its_steps_were_counted_gets_less_roo
     monkeypatch.setattr(making, "Converter", converter)
     monkeypatch.setattr(making, "MOST_STEPS", 10)
     assert len(making.Fitted.converted(cast(Any, own), 0, 256, 1).lines) == lengths[-1] and asked == rooms
+
+
+@pytest.mark.parametrize(
+    "numbers, first",
+    [
+        ([5, 5 + UNDER_WAY], 5), ([5, 6 + UNDER_WAY], 6 + UNDER_WAY), ([5, 6, 7 + UNDER_WAY, 8 + UNDER_WAY], 7 + UNDER_WAY), ([5, 45, 85], 5), ([5, 100, 200, 240], 200), ([5], 5), ([], None),
+    ],
+)  # fmt: skip
+def test_the_points_after_the_last_gap_that_is_too_large(numbers: list[int], first: int | None) -> None:
+    points = [Point(number, Kind.INIT, 1, 0, 0, 0, 0, 0, 0) for number in numbers]
+    kept = logfile.behind_the_last_gap(points)
+    assert kept == [point for point in points if first is not None and point.number >= first]
