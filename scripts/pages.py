@@ -56,7 +56,7 @@ Rule = Callable[[Tree], Iterator[Finding]]
 NEEDED = (
     "docs/proof/THEOREM.md",
     "docs/proof/TRUSTED.md",
-    "docs/internals/GLOSSARY.md",
+    "scripts/page_rules/shared_names.txt",
     "docs/proof/PROMISES.md",
     "docs/internals/ARCHITECTURE.md",
     "crates.txt",

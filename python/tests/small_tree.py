@@ -77,12 +77,15 @@ rt: counting proved
 GLOSSARY = """\
 # Glossary
 
-Names may be shared: [the list](#names-that-several-crates-have).
+A sum has a meaning: [a word](#words).
 
-## Names that several crates have
+## Words
 
-- `total` is in `counting` and in `adding`.
+| Here | Means |
+|---|---|
+| sum | total |
 """
+SHARED_NAMES = "# CRATE ..: NAME ..\ncounting adding: total\n"
 PROMISES = """\
 # Promises
 
@@ -176,6 +179,7 @@ TREE = {
     "docs/proof/THEOREM.md": THEOREM,
     "docs/proof/TRUSTED.md": TRUSTED,
     "docs/internals/GLOSSARY.md": GLOSSARY,
+    "scripts/page_rules/shared_names.txt": SHARED_NAMES,
     "docs/proof/PROMISES.md": PROMISES,
     "docs/internals/ARCHITECTURE.md": ARCHITECTURE,
     "crates.txt": "adding:\ncounting: adding arrayvec\n",

@@ -10,12 +10,10 @@ from collections import defaultdict
 from collections.abc import Iterator
 from pathlib import PurePosixPath
 
-from page_rules.markdown import CODE, blocks
 from page_rules.sources import DEFINED, FUNCTION, OWNER, functions_of, without_comments
 from page_rules.tree import Finding, Tree, has_word
 
-GLOSSARY = "docs/internals/GLOSSARY.md"
-SHARED = "Names that several crates have"
+SHARED = "scripts/page_rules/shared_names.txt"
 FOR_CALLERS, INSIDE = ("what callers need", "more for callers"), "inner"
 
 IMPORT = re.compile(r"use Rattle\.(\w+)\.specs\.([A-Z]\w*)(?:\.\{([^}]*)\}| as (\w+))")
@@ -97,21 +95,27 @@ def defined(tree: Tree) -> dict[str, dict[str, tuple[str, int]]]:
     return found
 
 
+def listed_as_shared(tree: Tree) -> Iterator[tuple[int, str, set[str]]]:
+    """The rows of the list of shared names, a name each: the line, the name and its crates."""
+    for number, line in tree.lines(SHARED) if tree.has(SHARED) else ():
+        crates, colon, names = line.partition(":")
+        if colon and not line.startswith("#"):
+            yield from ((number, name, set(crates.split())) for name in names.split())
+
+
 def shared_names(tree: Tree) -> Iterator[Finding]:
-    """Names that definitions of two crates have, and that the glossary doesn't list with both crates."""
-    if not tree.has(GLOSSARY):
-        return
-    together: dict[int, set[str]] = defaultdict(set)  # the code font in an item or in a table's row
-    for block in blocks(tree.text(GLOSSARY)):
-        if block.heading == SHARED:
-            together[block.line].update(CODE.findall(block.text))
-    listed: dict[str, set[str]] = defaultdict(set)
-    for words in together.values():
-        for word in words:
-            listed[word] |= words
-    for name, places in defined(tree).items():
-        left_out = set(places) - listed[name]
+    """Names that definitions of several crates have, if the list doesn't have exactly these crates."""
+    listed: dict[str, tuple[int, set[str]]] = {}
+    for row, name, crates in listed_as_shared(tree):
+        listed[name] = row, crates | listed.get(name, (0, set()))[1]
+    found = defined(tree)
+    for name, places in found.items():
+        left_out = set(places) - listed.get(name, (0, set()))[1]
         if len(places) > 1 and left_out:
             path, number = next(places[crate] for crate in places if crate in left_out)
-            others = ", ".join(sorted(places))
-            yield Finding(path, number, f"{name} is defined in {others}, and {GLOSSARY} doesn't list it so")
+            yield Finding(
+                path, number, f"{name} is defined in {', '.join(sorted(places))}, and {SHARED} doesn't list it so"
+            )
+    for name, (row, crates) in listed.items():
+        for crate in sorted(crates - set(found[name])):
+            yield Finding(SHARED, row, f"{crate} doesn't define {name}")
