@@ -98,7 +98,7 @@ puts_directly start c' sent piece held b o' result none still has ok err =
     subst (λ h. SentOrCut start (sent ++ piece) (record { taken = c'; held = h; out = o' }) result) (sym still)
     (subst (λ s. SentOrCut start s (record { taken = c'; held = []; out = o' }) result) (append-nil (sent ++ piece)) done)
 
--- if nothing is held or counted, an empty text has been sent
+-- an empty buffer whose count is 0 has sent the empty text
 begins : (b : Buffering) → b.held ≡ [] → b.out ≡ 0 → HasSent b.taken [] b
 begins b none no_count = record {
   out = [];

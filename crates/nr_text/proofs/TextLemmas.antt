@@ -19,7 +19,7 @@ parts_at f xs i d h =
     ap (flat_map f) (sym (take-append-drop i xs)) ∙ flat_map-append f (take i xs) (drop i xs)
     ∙ ap (λ ys. flat_map f (take i xs) ++ flat_map f ys) (drop-cons xs i d h)
 
--- if the parts before the i-th are sent and a write fails in the i-th, it fails in the whole text
+-- sending the whole text fails if the parts before the i-th are sent and a write fails in the i-th
 pub all_cut : {X : Type 0} (f : X → List ℕ) (xs : List X) (i : ℕ) (x : X) (u v w : Buffering) (e : WriteFailed) (result : Result (Unit {0}) WriteFailed)
     → i < length xs → x ≡ get_or xs i x → IsErr result → Writes u v (flat_map f (take i xs)) (Ok tt) → Writes v w (f x) (Err e) → Writes u w (flat_map f xs) result
 all_cut f xs i x u v w e result within is fails sent cut =

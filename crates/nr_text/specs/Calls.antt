@@ -51,7 +51,7 @@ a_read_failed calls = list_any fails calls
 abbrev pub a_write_failed : List Call → Bool
 a_write_failed calls = list_any (λ call. fails call || moves_none call) calls
 
--- ---- how the prover stores calls
+-- ---- the encoding of calls for ghost fields
 
 abbrev to_parts : CallOutcome → Option (Option ℕ)
 to_parts (Moved n) = Some (Some n)

@@ -3,9 +3,9 @@ use Rattle.std.specs.Prelude.{◌≡◌, ℕ, ◌-◌, ◌^◌, ◌<◌, min, Bo
 use Rattle.std.specs.Io.KnownBytes.{Appends, Consumes, IsAtEnd}
 use Rattle.nr_text.specs.Moments.{Moment}
 
--- The abstract state of a source: the bytes that its reader has left, if they are known; the bytes
--- that reads returned, in their order; whether the last read found the end; whether a read failed;
--- and the moments of its reads, in their order.
+-- The abstract state of a source. It has the reader's remaining bytes, if they are known, and the
+-- bytes that reads returned, in order. It also records whether the last read found the end, whether
+-- a read failed, and when each read was made (`moments`, in order).
 pub record Incoming : Type 0 where
   pub remaining : Option (List ℕ)
   pub received : List ℕ
@@ -13,8 +13,8 @@ pub record Incoming : Type 0 where
   pub failed : Bool
   pub moments : List Moment
 
--- The abstract state of a sink: the bytes that its writer holds, if they are known; the bytes that
--- were written, in order; and whether a write failed or wrote none of its bytes.
+-- The abstract state of a sink. It has the writer's contents, if they are known, and the bytes that
+-- were written, in order. It also records whether a write failed or wrote none of its bytes.
 pub record Outgoing : Type 0 where
   pub contents : Option (List ℕ)
   pub sent : List ℕ
@@ -48,8 +48,8 @@ saturating_count n = min n (2 ^ 64 - 1)
 abbrev pub WritesAll : Outgoing → Outgoing → List ℕ → Type 0
 WritesAll old new text = Sends old new text × (new.failed ≡ old.failed)
 
--- True if a write failed after exactly n bytes of the text, fewer than all, were written, and the
--- count is n or the greatest count, 2 ^ 64 - 1, if that is less.
+-- True if a write failed after exactly n bytes of the text were written, and the text is longer
+-- than n bytes. The count is n, or 2 ^ 64 - 1 if n is greater.
 pub record WritesPrefix (old new : Outgoing) (text : List ℕ) (count : ℕ) : Type 0 where
   pub n : ℕ
   pub within : n < length text

@@ -20,9 +20,9 @@ pub(crate) const ROOM: usize = 512;
 #[derive(Clone, Copy, Debug, PartialEq, Eq)]
 pub struct WriteFailed;
 
-/// A writer that joins the pieces of a text: it holds them until its buffer is full or the text
-/// ends, and takes no memory. If a write fails, the held bytes are dropped. Contracts see the bytes
-/// that the inner writer wrote, the held bytes, and how many bytes of the text are written.
+/// A writer that joins the pieces of a text: it holds them until its buffer is full or the text ends, and allocates no
+/// memory. If a write fails, the held bytes are dropped. In contracts, its state has what the inner writer wrote, the
+/// held bytes, and the number of bytes of the text that are written.
 #[derive(Drop)]
 pub struct Buffered<W: Write> {
     writer: LoggedWriter<W>,

@@ -15,11 +15,11 @@ use std::marker::Model;
 /// The outcome of a call of a reader or a writer.
 #[derive(Clone, Copy, Debug, PartialEq, Eq)]
 pub enum CallOutcome {
-    /// The call moved this many bytes, the first of its buffer.
+    /// The call read or wrote this many bytes, from the start of its buffer.
     Moved(usize),
-    /// The call was interrupted, and moved no bytes.
+    /// The call was interrupted, and read or wrote no bytes.
     Interrupted,
-    /// The call failed, and moved no bytes.
+    /// The call failed, and read or wrote no bytes.
     Failed,
 }
 
@@ -69,8 +69,8 @@ impl Calls {
     }
 }
 
-/// The moments of the reads, in order: what had been received and sent by then, and whether the
-/// previous read found the end.
+/// A log of when the reads were made, with one moment for each read, in order. A moment has the
+/// bytes that had been received and sent by then, and whether the previous read found the end.
 #[derive(Drop)]
 pub(crate) struct Moments {
     ghost passed: { List Moment } by { moments_code },
@@ -88,7 +88,7 @@ impl Moments {
         Moments {}
     }
 
-    // Returns this log with one more moment, after these reads and these writes.
+    // Returns this log with the moment of one more read, which follows these reads and writes.
     #[inline(always)]
     pub(crate) fn and(&self, _reads: &Calls, _writes: &Calls) -> Moments
         ensures { result.passed ≡ self.now.passed

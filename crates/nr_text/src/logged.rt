@@ -9,9 +9,9 @@ use crate::calls::{Call, CallOutcome, Calls, Moments};
 use std::io::{Read, Write};
 use std::marker::Model;
 
-/// A reader that remembers its reads. Contracts see the bytes that it has left, if they are known;
-/// the bytes that its reads returned; whether the last read found the end; whether a read failed;
-/// and what had been received and sent at the time of each read.
+/// A reader that remembers its reads. In contracts, its state has the reader's remaining bytes, if they are known, and
+/// the bytes that reads returned. It also records whether the last read found the end, whether a read failed, and what
+/// had been received and sent at the time of each read.
 #[derive(Drop)]
 pub(crate) struct LoggedReader<R: Read> {
     reader: R,
@@ -89,9 +89,9 @@ impl<R: Read> LoggedReader<R> {
     }
 }
 
-/// A writer that remembers its writes. Contracts see the bytes that it holds, if they are known;
-/// the bytes that were written; whether a write failed or wrote none of its bytes; and the number
-/// of writes.
+/// A writer that remembers its writes. In contracts, its state has the writer's contents, if they are known, and the
+/// bytes that were written. It also records whether a write failed or wrote none of its bytes, and the number of
+/// writes.
 #[derive(Drop)]
 pub(crate) struct LoggedWriter<W: Write> {
     writer: W,

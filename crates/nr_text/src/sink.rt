@@ -11,9 +11,10 @@ use std::io::Write;
 use std::marker::Model;
 
 /// A writer of whole texts that remembers what it wrote and whether a write failed or wrote none of
-/// its bytes. It joins the pieces of a text, so a text of up to 512 bytes goes out in one write.
-/// Contracts see the bytes that the writer holds, if they are known; the bytes that were written;
-/// and whether a write failed. The log of writes and their outcomes exists in proofs only.
+/// its bytes. It joins the pieces of a text, so a text of up to 512 bytes goes out in one write. In
+/// contracts, its state has the writer's contents, if they are known, the bytes that were written,
+/// and whether a write failed or wrote none of its bytes. The log of writes and their outcomes
+/// exists in proofs only.
 #[derive(Drop)]
 pub struct Sink<W: Write> {
     writer: Buffered<W>,

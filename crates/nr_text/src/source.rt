@@ -10,10 +10,10 @@ use crate::sink::Sink;
 use std::io::{Read, Write};
 use std::marker::Model;
 
-/// A reader that remembers what its reads returned and whether one failed. Contracts see the bytes
-/// that the reader has left, if they are known; the bytes that reads returned; whether the last
-/// read found the end; whether a read failed; and what had been received and sent at the time of
-/// each read. The log of reads and their outcomes exists in proofs only.
+/// A reader that remembers what its reads returned and whether one failed. In contracts, its state
+/// has the reader's remaining bytes, if they are known, and the bytes that reads returned. It also
+/// records whether the last read found the end, whether a read failed, and what had been received
+/// and sent at the time of each read. The log of reads and their outcomes exists in proofs only.
 #[derive(Drop)]
 pub struct Source<R: Read> {
     reader: LoggedReader<R>,

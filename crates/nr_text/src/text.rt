@@ -49,7 +49,7 @@ impl Text for Spaced {
     }
 }
 
-/// Bytes are their own text.
+/// The text of bytes is the bytes themselves.
 impl Text for &[u8] {
     ghost text = { λ bytes. bytes.now };
 

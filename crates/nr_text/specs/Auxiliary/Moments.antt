@@ -3,7 +3,7 @@ use Rattle.std.specs.Prelude.{◌≡◌, ℕ, Bool, List, refl}
 use Rattle.std.specs.Coded.{Coded, code_by, coded×, coded_ℕ, coded_bool, coded_list}
 use Rattle.nr_text.specs.Moments.{Moment}
 
--- ---- how the prover stores moments
+-- ---- the encoding of moments for ghost fields
 
 abbrev Parts : Type 0
 Parts = List ℕ × (List ℕ × Bool)

@@ -7,12 +7,12 @@ use Rattle.nr_text.specs.declared.calls.CallOutcome.TheVariants.{Moved, Interrup
 use Rattle.nr_text.specs.declared.sink.Part.{Part}
 use Rattle.nr_text.specs.Streams.{Incoming, IsOver, Outgoing, Passes, Receives, Sends, WritesAll, WritesPrefix}
 
--- a source before its first read, with the bytes that its reader has left, if they are known
+-- a source before its first read, given the reader's remaining bytes, if they are known
 abbrev pub unread : Option (List ℕ) → Incoming
 unread known =
     record { remaining = known; received = []; ended = false; failed = false; moments = [] }
 
--- a sink before its first write, with the bytes that its writer holds, if they are known
+-- a sink before its first write, given the writer's contents, if they are known
 abbrev pub unwritten : Option (List ℕ) → Outgoing
 unwritten known = record { contents = known; sent = []; failed = false }
 
