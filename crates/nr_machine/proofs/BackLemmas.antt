@@ -6,7 +6,7 @@ use Rattle.nr_machine.specs.Delta.{UndoBack}
 use Rattle.nr_machine.specs.DeltaLaws.{LeadsToOne}
 use Rattle.nr_machine.specs.World.{WorldParts}
 
--- after the first of two undos, which has a unique result, the second one applies
+-- if two undos apply in turn and the first has a unique result, the second applies to that result
 pub then_next : {S : Type 0} (first next : S → S → Type 0) → LeadsToOne first → (new mid : S) → (old : S) × Then first next new old → first new mid
     → (old : S) × next mid old
 then_next {S} first next one new mid both made =

@@ -103,7 +103,7 @@ with_firings t w = record w { firings = t.firings }
 
 module _ (m : WorldParts) (d : ℕ) (o : DescOp) (x after : Descriptor) (answer : DescAnswer) (there : slice_get m.core.descriptors.items d ≡ Some x)
     (step : desc_op_auxiliary.StepTo x o answer after) (t : State) where
-  -- the world with another descriptor and other timers
+  -- the world after the descriptor and its timers change
   abbrev left_world : World
   left_world = record (with_row d (row_of after (timers_of t.entries d)) (with_firings t (meant m))) { next_arming = t.next }
 
@@ -119,7 +119,7 @@ module _ (m : WorldParts) (d : ℕ) (o : DescOp) (x after : Descriptor) (answer 
 
 -- ---- the parts still fit
 
--- the core with other statuses and another number of waiters
+-- the core after statuses and the number of waiters change
 abbrev moved : List Status → ℕ → Core → Core
 moved gs n core = record core { goroutines = record core.goroutines { goroutines = gs }; waiters = n }
 
@@ -156,7 +156,7 @@ module _ (m : WorldParts) (d : ℕ) (o : DescOp) (x after : Descriptor) (answer 
       let all : written ≡ with_descriptor d after (record m.core { timers = timed.timers }) = is ∙ ap (with_descriptor d after) times.rest in
       can_wake m d x h there o after answer written step (ap (λ (c : Core). c.goroutines) all) (ap (λ (c : Core). c.waiters) all)
 
-  -- changing a descriptor, its timers and the woken goroutines in this way makes the step
+  -- the step is complete after the timer orders, the change of the descriptor and the wakes
   pub changed_made : (due : Outcome) (asked : List TimersOp) (both : Sides (Option TimersDelta)) (delta : DescDelta) (timed written new : Core)
       → DescFits after → Timed d answer.orders asked both m.core timed → written ≡ with_descriptor d after timed
       → new ≡ woken_both d answer.woken written → IsQueuedUp new.goroutines → WokenBack answer.woken new written

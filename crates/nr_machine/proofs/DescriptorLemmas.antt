@@ -1,5 +1,4 @@
--- Looking up a descriptor in the parts, changing only a descriptor, and the list of free
--- descriptors.
+-- Descriptors in the parts: lookups, changes of one descriptor, and the free list.
 use Rattle.std.proofs.Common.{◌≡◌, ℕ, Bool, true, false, List, [], Option, Some, None, Result, Ok, Err, refl, sym, ap, subst, ◌∙◌, lit≤}
 use Rattle.std.proofs.lemmas.Option.{same_Some}
 use Rattle.std.specs.Prelude.{option_and_then, option_map, slice_get}
@@ -37,7 +36,7 @@ use Rattle.nr_machine.specs.World.{WorldParts, meant}
 use Rattle.nr_machine.proofs.FitsLemmas.{IsTiedAs, counted_fits, descriptor_fits, descriptor_tied, retied}
 use Rattle.nr_machine.proofs.RowsLemmas.{descriptor_set, row_at, row_past, row_with}
 
--- ---- the goroutine that a word waits for is inside the wait
+-- ---- wait words, and goroutines inside a wait
 
 parked_inside : (status : Option Status) (place : ℕ × Side) → option_and_then parked_of status ≡ Some place → option_and_then wait_of status ≡ Some place
 parked_inside (Some (Parked d side)) place is = is
@@ -49,7 +48,7 @@ awaiting_inside (Some (Parking d side)) place is = is
 awaiting_inside (Some (Swapping d side)) place is = is
 awaiting_inside _ place is = cc
 
--- if no goroutine is inside the wait, the word doesn't wait for a goroutine
+-- if no goroutine is inside a wait for a side, the side's word is nil or ready
 pub unawaited : (w : World) (d : ℕ) (side : Side) (row : DescriptorRow) → WellFormed w → slice_get w.descriptors d ≡ Some row → is_waited d side w.goroutines ≡ false
     → is_awaited (of_side side row.descriptor.words) ≡ false
 unawaited w d side row h at nobody = by (of_side side row.descriptor.words) refl
@@ -68,7 +67,7 @@ unawaited w d side row h at nobody = by (of_side side row.descriptor.words) refl
 
 -- ---- a descriptor of the parts
 
--- a row that a lookup finds exists
+-- if a lookup succeeds, the row that it returns exists
 pub row_found : (o : Option DescriptorRow) (row : DescriptorRow) → found_or o NoSuchDescriptor ≡ Ok row → o ≡ Some row
 row_found None row is = absurd cc
 row_found (Some r) row is = cc
@@ -89,7 +88,7 @@ module _ (m : WorldParts) (d : ℕ) (x : Descriptor) where
       let rows : row_with m d y ≡ row_with m d x = same_Some _ _ (sym (row_at m.core.descriptors.items m.core.timers.entries d y at) ∙ is) in
       ap (λ (row : DescriptorRow). Some row.descriptor) rows
 
-  -- a descriptor that a lookup finds in the world exists in the parts
+  -- if a lookup finds a descriptor in the world, the parts contain it too
   pub found_there : find_row d (meant m) ≡ Ok (row_with m d x) → slice_get m.core.descriptors.items d ≡ Some x
   found_there is = there_by (slice_get m.core.descriptors.items d) refl (row_found (slice_get (meant m).descriptors d) (row_with m d x) is)
 

@@ -20,8 +20,8 @@ use Rattle.nr_machine.specs.Auxiliary.Changing.{with_descriptor, with_lock, with
 use Rattle.nr_machine.specs.Fits.{CoreFits, PartsFit}
 use Rattle.nr_machine.specs.World.{WorldParts}
 
--- true if new has as many locks as old, the same unused semaphores, and no timer without a
--- descriptor unless old has one
+-- True if both cores have the same limits, number of locks and unused semaphores. If each armed
+-- timer of old belongs to a descriptor, so does each one of new.
 pub record IsTiedAs (old new : Core) : Type 0 where
   pub limits : new.limits ≡ old.limits
   pub locks : length new.locks.items ≡ length old.locks.items
@@ -30,7 +30,8 @@ pub record IsTiedAs (old new : Core) : Type 0 where
   pub unarmed : ((d : ℕ) → length old.descriptors.items ≤ d → timers_of old.timers.entries d ≡ twice None)
       → (d : ℕ) → length new.descriptors.items ≤ d → timers_of new.timers.entries d ≡ twice None
 
--- a core that fits still fits the buffers if it is tied to the old core
+-- the parts still fit together with a new core if `CoreFits` holds for it, and `IsTiedAs` for the
+-- old core and the new one
 pub retied : (m : WorldParts) (core : Core) → PartsFit m → CoreFits core → IsTiedAs m.core core → PartsFit (record m { core = core })
 retied m core h fits tied =
     record {
@@ -49,8 +50,8 @@ retied m core h fits tied =
       unarmed = tied.unarmed h.unarmed;
     }
 
--- a core fits with another goroutine table, free list, clock and number of waiters, if the table is
--- well formed
+-- `CoreFits` still holds after a change of the goroutine table, free list, clock and number of
+-- waiters, if the new table is well formed and the capacities stay the same
 pub counted_fits : (core : Core) (table : GoroutineTable) (free : Roomed ℕ) (clock : ℤ) (waiters : ℕ) → CoreFits core → IsQueuedUp table → table.limit ≡ core.goroutines.limit
     → length table.semaphores ≡ length core.goroutines.semaphores → free.room ≡ core.free.room
     → CoreFits (record core { goroutines = table; free = free; clock = clock; waiters = waiters })
@@ -69,7 +70,7 @@ counted_fits core table free clock waiters h queued limit many room =
       timers_room = h.timers_room;
     }
 
--- a core with other locks fits if each lock does
+-- `CoreFits` still holds after a change of the locks, if `LockFits` holds for each of them
 pub locks_fit : (core : Core) (items : List Lock) → CoreFits core → ((s : ℕ) (lock : Lock) → slice_get items s ≡ Some lock → LockFits lock)
     → CoreFits (record core { locks = record core.locks { items = items } })
 locks_fit core items h fit =
@@ -87,7 +88,7 @@ locks_fit core items h fit =
       timers_room = h.timers_room;
     }
 
--- a core with other descriptors fits if each descriptor does
+-- `CoreFits` still holds after a change of the descriptors, if `DescFits` holds for each of them
 pub descriptors_fit : (core : Core) (items : List Descriptor) → CoreFits core → ((d : ℕ) (x : Descriptor) → slice_get items d ≡ Some x → DescFits x)
     → CoreFits (record core { descriptors = record core.descriptors { items = items } })
 descriptors_fit core items h fit =
@@ -105,14 +106,14 @@ descriptors_fit core items h fit =
       timers_room = h.timers_room;
     }
 
--- a core with another status
+-- a goroutine's status changes
 pub status_fits : (core : Core) (g : ℕ) (status : Status) → CoreFits core → IsQueuedUp (with_status g status core).goroutines → CoreFits (with_status g status core)
 status_fits core g status h queued = counted_fits core (with_status g status core).goroutines core.free core.clock core.waiters h queued refl refl refl
 
 pub status_tied : (core : Core) (g : ℕ) (status : Status) → IsTiedAs core (with_status g status core)
 status_tied core g status = record { limits = refl; locks = refl; semaphores = λ s both past at. at; unarmed = λ h d past. h d past }
 
--- a core with another lock
+-- a lock changes
 pub lock_fits : (core : Core) (s : ℕ) (before after : Lock) → CoreFits core → slice_get core.locks.items s ≡ Some before → LockFits after → CoreFits (with_lock s after core)
 lock_fits core s before after h there fits =
     locks_fit core (with_lock s after core).locks.items h (slice_get-set_all LockFits core.locks.items s before after there fits h.locks)
@@ -121,7 +122,7 @@ pub lock_tied : (core : Core) (s : ℕ) (lock : Lock) → IsTiedAs core (with_lo
 lock_tied core s lock =
     record { limits = refl; locks = length-set core.locks.items s lock; semaphores = λ s both past at. at; unarmed = λ h d past. h d past }
 
--- a core with another descriptor
+-- a descriptor changes
 pub descriptor_fits : (core : Core) (d : ℕ) (before after : Descriptor) → CoreFits core → slice_get core.descriptors.items d ≡ Some before → DescFits after
     → CoreFits (with_descriptor d after core)
 descriptor_fits core d before after h there fits =
@@ -136,7 +137,8 @@ descriptor_tied core d x =
       unarmed = λ h k past. h k (subst (λ (n : ℕ). n ≤ k) (length-set core.descriptors.items d x) past);
     }
 
--- a core in which only timers of a descriptor d that exists change
+-- `CoreFits` still holds after a change of the timers, if the new timers are well formed and have
+-- the same capacity
 pub timed_fits : (core : Core) (t : State) → CoreFits core → IsTimers t → t.descriptors ≡ core.timers.descriptors → CoreFits (record core { timers = t })
 timed_fits core t h fits room =
     record {

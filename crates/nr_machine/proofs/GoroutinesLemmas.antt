@@ -42,11 +42,11 @@ use Rattle.nr_machine.proofs.ListLemmas.{get_within}
 use Rattle.nr_machine.proofs.FitsLemmas.{counted_fits, retied}
 use Rattle.nr_machine.proofs.SocketsLemmas.{length-sockets_of, semaphores_at, semaphores_set, socket_at, socket_with}
 
--- the parts with another goroutine table
+-- the parts after the goroutine table is replaced
 abbrev pub with_table : GoroutineTable → WorldParts → WorldParts
 with_table t m = record m { core = record m.core { goroutines = t } }
 
--- the outcome of the goroutine table, as an outcome of the world
+-- the outcome of the world that corresponds to an outcome of the goroutine table
 abbrev pub lifted : WorldParts → table.Outcome → Outcome
 lifted m (Ok left) = Ok (left.0, meant (with_table left.1 m))
 lifted m (Err e) = Err e
@@ -77,7 +77,7 @@ exit_is m g =
     bind_then (status_of g (meant m)) (λ status. refused_unless (is_idle status) NotThere) (Ok (Done, with_status g Gone (meant m)))
     ∙ lift_bind m (status_of g (meant m)) _ _ λ status at. lift_then m (refused_unless (is_idle status) NotThere) _ _ refl
 
--- a socket that a status names has a lock and semaphores
+-- if a goroutine's status names a socket, that socket has a lock and semaphores
 pub named_there : (m : WorldParts) (g s : ℕ) → IsWorld m → HasView socket_named (meant m).goroutines g s
     → (lock : Lock) × (both : Sides Semaphore) × (slice_get m.core.locks.items s ≡ Some lock) × (slice_get m.core.goroutines.semaphores s ≡ Some both)
 named_there m g s h named =
@@ -165,7 +165,7 @@ module _ (m : WorldParts) (g s : ℕ) (side : Side) (lock : Lock) (both : Sides 
   release_left left (Some h) =
       semaphore_means m g s side lock both locked there left (set (set m.core.goroutines.goroutines h (Acquiring s side)) g to)
 
-  -- the rest of a release by a goroutine at a socket with these semaphores
+  -- the rest of the release, given the socket's semaphores
   abbrev releases : Sides Semaphore → Outcome
   releases x =
       released (of_side side x) >>= λ left.
@@ -309,7 +309,7 @@ goroutine_refused m o e h is (inl reason) =
     goroutine_is m o h is ∙ ap (lifted m) (refused_for (table.outcome m.core.goroutines o) e reason)
 goroutine_refused m o e h is (inr none) = absurd none.2
 
--- an operation that the table carries out makes the world's step
+-- if the goroutine table carries out an operation, the world's step is complete
 pub goroutine_made : (m : WorldParts) (o : GOperation) (answer : Answer) (delta : GDelta) (t : GoroutineTable) → IsWorld m → IsStep o
     → table.StepTo m.core.goroutines o answer t → IsQueuedUp t → LeadsBack delta t m.core.goroutines → delta_weight delta ≤ weight_allowed o + (0 + 7) / 8
     → Made (goroutine_outcome o (meant m)) [] MOST_WORDS m answer (Goroutine delta) (with_table t m)

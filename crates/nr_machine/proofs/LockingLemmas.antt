@@ -62,7 +62,7 @@ module _ (m : WorldParts) (g s : ℕ) (op : LockOp) where
       → locking g s op (meant m) ≡ Ok (lock_left g (status_left s op (lock_op.left answer after)) s (socket_with m s before) (lock_op.left answer after) (meant m))
   locking_leads before after answer at leads = rw (socket_at m.core.locks.items m.core.goroutines.semaphores m.socks s before at, leads) refl
 
--- the status after an operation on a lock isn't one that only the table sets
+-- after an operation on a lock, the goroutine is neither queued nor ended
 owing_movable : (s : ℕ) (owed : Sides ℕ) → is_movable (owing s owed) ≡ true
 owing_movable s owed = elim (owed.read + owed.write == 0) as (λ b. is_movable (cond b Idle (Owing s owed.read owed.write)) ≡ true) [ true ↦ refl | false ↦ refl ]
 
@@ -118,7 +118,7 @@ lock_moves m g s from op before after answer undo mid h there movable locks =
     })
 
 module _ (old : WorldParts) (g s : ℕ) (op : LockOp) (answer : LockAnswer) (undo : LockUndo) (moved : Option GDelta) (mid new : Core) where
-  -- changing a lock and a status in this way makes the step
+  -- the step is complete after the changes of the lock and of the goroutine's status
   pub locking_made : (before after : Lock) → PartsFit old → Locks old.core s op before after answer undo mid
       → MovesOn mid g (status_left s op (lock_op.left answer after)) moved new
       → Made (locking g s op (meant old)) [] MOST_WORDS old answer.answer (Locked undo moved) (record old { core = new })

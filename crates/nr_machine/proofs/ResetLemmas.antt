@@ -48,7 +48,7 @@ module _ (m : WorldParts) (g d : ℕ) (side : Side) (x : Descriptor) (world : Is
   reset_is : desc_op.outcome x (op.Reset side) ≡ Ok (Code 0, quiet (with_wait_word side word.Nil x))
   reset_is = rw (can.unhindered, nobody_awaited) refl
 
-  -- no word refuses the reset
+  -- the reset isn't refused
   pub reset_applies : (e : Refusal) → desc_outcome d (op.Reset side) m.core ≡ Err e → ⊥
   reset_applies e refused =
       let is : desc_outcome d (op.Reset side) m.core ≡ desc_op.outcome x (op.Reset side) =

@@ -141,7 +141,7 @@ module _ (world snapshot : WorldParts) (opened rest : List SockParts) (there : P
       let of_snapshot = ap length (sym of.socks) ∙ kept.socks_made ∙ ap (λ (l : Limits). l.sockets) of.limits ∙ sym there.socks_made in
       omega (arith, many, of_snapshot)
 
-  -- writing the opened sockets over the world's doesn't change the number of sockets
+  -- replacing the world's first sockets by the opened ones doesn't change the number of sockets
   pub written_count : length (opened ++ drop (length opened) world.socks) ≡ length world.socks
   written_count =
       let many = length-append opened (drop (length opened) world.socks) in
@@ -156,7 +156,7 @@ module _ (world snapshot : WorldParts) (opened rest : List SockParts) (there : P
     | inr behind ↦ (there.socks s sock behind.1).limit
   ]
 
-  -- after the opened sockets, those without a lock are closed
+  -- after the write, a socket is closed if it comes after the opened ones and has no lock
   pub written_closed : AreClosedFrom (length opened) (length world.core.locks.items) (opened ++ drop (length opened) world.socks)
   written_closed s sock at from none = elim (slice_get-written opened world.socks s sock at) [
     | inl first ↦ let within = slice_get_within opened s sock first in absurd (omega (arith, within, from))

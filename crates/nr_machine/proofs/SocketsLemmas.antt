@@ -1,4 +1,4 @@
--- The sockets after a lock, semaphores or buffers change, and after a socket is opened.
+-- The sockets after a change of a lock, of semaphores or of buffers, and after a socket is opened.
 use Rattle.std.proofs.Common.{◌≡◌, ◌≢◌, ℕ, ◌<◌, List, [], ◌∷◌, ◌++◌, length, set, Some, None, refl, sym, ap, ◌∙◌, arith}
 use Rattle.std.proofs.lemmas.List.{get_or-set_same, get_or-set_other}
 use Rattle.std.proofs.lemmas.Option.{get_or_from_slice_get}
@@ -16,7 +16,7 @@ use Rattle.nr_machine.specs.World.{WorldParts}
 use Rattle.nr_machine.proofs.ListLemmas.{set_same}
 use Rattle.nr_machine.proofs.NumberedLemmas.{length-numbered, numbered_past, numbered_push, numbered_set}
 
--- socket s with this lock and the other parts that it has
+-- socket s with this lock, and with the semaphores and buffers of the parts
 abbrev pub socket_with : WorldParts → ℕ → Lock → Socket
 socket_with m s lock = socket_of lock (rest_at m.core.goroutines.semaphores m.socks s)
 

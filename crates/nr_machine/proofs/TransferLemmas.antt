@@ -37,7 +37,7 @@ use Rattle.nr_machine.specs.World.{WorldParts, meant}
 use Rattle.nr_machine.proofs.ListLemmas.{get_within, set_same}
 use Rattle.nr_machine.proofs.SocketsLemmas.{length-sockets_of, sock_at, sock_set, socket_at, socket_past, socket_with}
 
--- ---- the outcome of the buffers is that of the machine
+-- ---- a step on a socket's buffers has the machine's outcome
 
 goes_on : {r : Result (Unit {0}) Refusal} (x : Outcome) → r ≡ Ok tt → (r >> x) ≡ x
 goes_on x is = ap (λ r. r >> x) is
@@ -87,7 +87,7 @@ sock_seen m s lock before h locked at =
     ∙ ap (λ (o : Option OpenSock). record { limit = m.core.limits.buffer; opened = o }) (open_again before.opened (fits.opened (slice_get_within m.core.locks.items s lock locked)))
     ∙ ap (λ (limit : ℕ). record { limit = limit; opened = before.opened }) (sym fits.limit)
 
--- the parts with other buffers of socket s
+-- the parts after the buffers of socket s change
 abbrev pub with_sock : ℕ → SockParts → WorldParts → WorldParts
 with_sock s sock m = record m { socks = set m.socks s sock }
 

@@ -114,7 +114,7 @@ module _ (m : WorldParts) (g d : ℕ) (o : DescOp) where
   waiting_leads before after answer at leads =
       rw (row_at m.core.descriptors.items m.core.timers.entries d before at, leads.defined) refl
 
--- the status after an operation on a word isn't one that only the table sets
+-- after an operation on a word, the goroutine is neither queued nor ended
 after_movable : (d : ℕ) (o : DescOp) (answer : Answer) → is_movable (status_after d o answer) ≡ true
 after_movable d (op.Arm side) Answer.Wait = refl
 after_movable d (op.Arm side) _ = refl
@@ -190,7 +190,8 @@ described_means m g d to before after =
     ap (λ (rows : List DescriptorRow). record (with_status g to (meant m)) { descriptors = rows }) (descriptor_set m.core.descriptors.items m.core.timers.entries d after)
 
 module _ (old : WorldParts) (g d : ℕ) (o : DescOp) (answer : DescAnswer) (undo : DescUndo) (delta : GDelta) (mid moved new : Core) where
-  -- changing a descriptor and a status in this way makes the step
+  -- the step is complete after the changes of the descriptor, the goroutine's status and the number
+  -- of waiters
   pub waiting_made : (before after : Descriptor) → PartsFit old → Describes old.core d o before after answer undo mid → Moves mid g (status_after d o answer.answer) delta moved
       → new ≡ core_parked (parks o answer.answer) moved → ParkBack (parks o answer.answer) new moved
       → Made (waiting g d o (meant old)) [] MOST_WORDS old answer.answer (Waited undo delta (parks o answer.answer)) (record old { core = new })

@@ -51,7 +51,7 @@ sides_held : (old new : Sides WaitWord) (side : Side) (g : ℕ) → of_side side
 sides_held old new Read g is = let_go_held old.read new.read g is
 sides_held old new Write g is = let_go_held old.write new.write g is
 
--- an operation wakes only a goroutine that the word of its side held
+-- if an operation wakes a goroutine at a side, that side's word held the goroutine
 woken_held : (o : DescOp) (old new : Descriptor) (side : Side) (g : ℕ) → of_side side (woken_by o old new) ≡ Some g → of_side side old.words ≡ Held g
 woken_held (op.SetDeadline clock mode t) old new side g is = sides_held old.words new.words side g is
 woken_held op.Evict old new side g is = sides_held old.words new.words side g is
@@ -174,7 +174,7 @@ wakes_append : (read write : Option ℕ) (w : World) → after_wakes (option_to_
 wakes_append None write w = refl
 wakes_append (Some g) write w = refl
 
--- waking the goroutines of both sides, reading first, has the same effect in parts and world
+-- waking the reader and then the writer has the same effect in the parts as in the world
 pub both_mean : (m : WorldParts) (d : ℕ) (both : Sides (Option ℕ)) (core : Core) → CanWake d both core
     → meant (record m { core = woken_both d both core }) ≡ after_wakes (listed both) (meant (record m { core = core }))
 both_mean m d both core can =

@@ -65,7 +65,7 @@ abbrev pub woken_any : ℕ → Side → Option ℕ → Core → Core
 woken_any d side None core = core
 woken_any d side (Some g) core = woken g d side core
 
--- the core after the goroutines, if any, are woken at d's sides, reading first
+-- the core after d's reader, if any, and then its writer, if any, are woken
 abbrev pub woken_both : ℕ → Sides (Option ℕ) → Core → Core
 woken_both d both core = woken_any d Write both.write (woken_any d Read both.read core)
 

@@ -26,7 +26,7 @@ abbrev pub ParkBack : Bool → Core → Core → Type 0
 ParkBack true new old = (0 < new.waiters) × (old ≡ record new { waiters = new.waiters - 1 })
 ParkBack false new old = old ≡ new
 
--- undoes adding a descriptor, which is the last one
+-- undoes adding the last descriptor
 abbrev pub MadeBack : Core → Core → Type 0
 MadeBack new old =
     old ≡ record new {
@@ -34,7 +34,7 @@ MadeBack new old =
           { items = take (length new.descriptors.items - 1) new.descriptors.items };
     }
 
--- undoes adding a lock, which is the last one
+-- undoes adding the last lock
 abbrev pub AddBack : Core → Core → Type 0
 AddBack new old =
     old ≡ record new {
@@ -52,11 +52,11 @@ TakeBack d new old =
 abbrev pub GiveBack : Core → Core → Type 0
 GiveBack new old = old ≡ record new { free = record new.free { items = drop 1 new.free.items } }
 
--- undoes orders to the timers of both sides, of which the read side's came first
+-- undoes timer orders that were carried out for the read side and then for the write side
 abbrev pub ObeyBack : Sides (Option TimersDelta) → Core → Core → Type 0
 ObeyBack both = Then (IfAny TimersBack both.write) (IfAny TimersBack both.read)
 
--- undoes waking these goroutines, of which the reader was woken first
+-- undoes waking the reader and then the writer
 abbrev pub WokenBack : Sides (Option ℕ) → Core → Core → Type 0
 WokenBack both = Then (IfAny WakeBack both.write) (IfAny WakeBack both.read)
 

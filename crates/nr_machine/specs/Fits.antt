@@ -30,8 +30,8 @@ pub record CoreFits (core : Core) : Type 0 where
   pub timers : IsTimers core.timers
   pub timers_room : core.timers.descriptors ≡ core.limits.descriptors
 
--- true if the buffers of socket s have the recording's limit, and are open exactly if the socket
--- has a lock
+-- true if the buffers of socket s have the recording's limit, and are open if and only if the
+-- socket has a lock
 pub record SockFits (core : Core) (s : ℕ) (sock : SockParts) : Type 0 where
   pub limit : sock.limit ≡ core.limits.buffer
   pub opened : s < length core.locks.items → is_opened sock.opened ≡ true

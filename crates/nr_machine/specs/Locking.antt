@@ -18,7 +18,7 @@ status_left s Decref left = Idle
 status_left s (RwLock side) left = locker s side left.answer
 status_left s (RwUnlock side) left = owing s left.owed
 
--- the outcome of an operation on socket s's lock by goroutine g, which may try it
+-- the outcome of an operation by goroutine g, whose status allows it, on the lock of socket s
 abbrev pub locking : ℕ → ℕ → LockOp → World → Outcome
 locking g s op w = do
   socket ← socket_of s w

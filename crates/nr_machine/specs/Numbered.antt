@@ -1,4 +1,4 @@
--- Numbered items, each combined with a second value for its number.
+-- Numbered lists: each item is combined with the value that belongs to its number.
 use Rattle.std.specs.Prelude.{ℕ, suc, List, [], ◌∷◌}
 
 -- each item combined with the value for its number; the first item has number k

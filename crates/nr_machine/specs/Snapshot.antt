@@ -7,7 +7,8 @@ abbrev pub HaveLimit : ℕ → List SockParts → Type 0
 HaveLimit limit socks =
     (s : ℕ) (sock : SockParts) → slice_get socks s ≡ Some sock → sock.limit ≡ limit
 
--- true if the sockets from `first` on that have no lock, given the number of locks, aren't open
+-- true if each socket from number `first` on that has no lock is closed; the sockets below `locks`
+-- have a lock
 abbrev pub AreClosedFrom : ℕ → ℕ → List SockParts → Type 0
 AreClosedFrom first locks socks =
     (s : ℕ) (sock : SockParts) → slice_get socks s ≡ Some sock → first ≤ s → locks ≤ s

@@ -9,7 +9,8 @@ use Rattle.nr_machine.specs.Fits.{IsWorld, PartsFit}
 use Rattle.nr_machine.specs.World.{WorldParts, meant}
 
 -- The step turns a packed world into parts that fit and represent the machine's next world. The
--- operations that the step requests make the timers, so each entry has only one place in the heap.
+-- operations that the step requests turn the old timers into the new ones, so each entry has only
+-- one place in the heap.
 pub record StepTo (old : WorldParts) (step : Step) (answer : Answer) (new : WorldParts) : Type 0
   where
     pub world : IsWorld old

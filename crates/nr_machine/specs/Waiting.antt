@@ -1,4 +1,4 @@
--- The outcome of an operation on a word by a goroutine that is inside the word's wait.
+-- The outcome of an operation that a goroutine inside a wait applies to the wait word.
 use Rattle.std.specs.Prelude.{ℕ, ◌+◌, Bool, true, false, Ok}
 use Rattle.nr_rev.specs.declared.answer.Answer.{Answer}
 use Rattle.nr_rev.specs.declared.status.Status.{Status}
@@ -11,7 +11,7 @@ use Rattle.nr_desc.specs.declared.op.DescOp.{DescOp}
 use Rattle.nr_desc.specs.declared.op.DescOp.TheVariants as op
 use Rattle.nr_machine.specs.declared.world_core.Core.{Core}
 
--- the status of a goroutine after an operation on the word of its wait, given the answer
+-- the status of a goroutine after it applies an operation to a wait word and gets this answer
 abbrev pub status_after : ℕ → DescOp → Answer → Status
 status_after d (op.Arm side) Answer.Wait = Armed d side
 status_after d (op.Commit side g) Answer.Yes = Parked d side

@@ -87,7 +87,8 @@ impl Core {
         let _ = self.locks.replace(socket as usize, word);
     }
 
-    /// Applies an operation that has no timer orders and wakes no goroutine to a descriptor.
+    /// Applies an operation to a descriptor. The operation has no timer orders and wakes no
+    /// goroutine.
     #[inline(always)]
     pub(crate) fn describe(
         &mut self,

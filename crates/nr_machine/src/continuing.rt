@@ -115,8 +115,8 @@ impl Core {
         }
     }
 
-    /// Carries out either all orders to both sides' timers, reading first, or none of them. Doesn't
-    /// touch the heap if there are no orders.
+    /// Carries out the read side's timer order and then the write side's: either all of them or
+    /// none. Doesn't touch the heap if there are no orders.
     #[inline(always)]
     fn obey(
         &mut self,
@@ -190,7 +190,7 @@ impl Core {
         Ok(())
     }
 
-    /// Wakes these goroutines, reading first.
+    /// Wakes the reader, if any, and then the writer, if any.
     #[inline(always)]
     pub(crate) fn wake_both(&mut self, descriptor: u32, woken: Sides<Option<u32>>)
         requires { CanWake descriptor woken self.old }

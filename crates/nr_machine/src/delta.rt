@@ -43,7 +43,7 @@ pub(crate) enum WorldUndo {
     Closed(DescUndo),
     /// A descriptor changed.
     Described(DescUndo),
-    /// A descriptor changed, and so did the status of the goroutine inside its wait. If the
+    /// A descriptor changed, and so did the status of a goroutine inside a wait for it. If the
     /// goroutine parked, there is one more waiter.
     Waited {
         desc: DescUndo,

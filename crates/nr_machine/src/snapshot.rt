@@ -11,8 +11,9 @@ use nr_sockbuf::{Sock, SockSnapshot};
 use std::alloc::Global;
 use std::marker::Model;
 
-/// A snapshot of a packed world. Contracts see it as the core and the bytes in the buffers, as they
-/// see the world. It stores the sockets up to the last opened one, and only counts the rest.
+/// A snapshot of a packed world. In contracts a snapshot consists of the core and the bytes in the
+/// buffers, as a world does. It stores the sockets up to the last opened one, and only counts the
+/// rest.
 #[derive(Drop)]
 pub struct WorldSnapshot {
     pub(crate) alloc: Global,

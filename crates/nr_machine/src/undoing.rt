@@ -46,7 +46,8 @@ impl Core {
         }
     }
 
-    /// Restores a descriptor, and the goroutine inside its wait.
+    /// Restores a descriptor, the status of a goroutine inside a wait for it, and the number of
+    /// waiters.
     #[inline(always)]
     fn unwait(&mut self, desc: DescUndo, moved: GDelta, parked: bool)
         requires { (old : Parts)

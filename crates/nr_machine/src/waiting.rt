@@ -169,8 +169,8 @@ impl World {
         Ok(self.go_on(Answer::Code(code), goroutine, from, to, way))
     }
 
-    /// Applies an operation to the word of a wait for the goroutine inside the wait, and changes
-    /// the goroutine's status accordingly.
+    /// Applies an operation of a goroutine inside a wait to the wait word, and changes the
+    /// goroutine's status accordingly.
     #[inline(always)]
     fn wait<K: Keeper<WorldUndo>>(
         &mut self,
@@ -199,7 +199,8 @@ impl World {
         Ok(answer)
     }
 
-    /// Changes only the status of a goroutine inside a wait, which may leave the wait.
+    /// Changes only the status of a goroutine inside a wait. With the new status it may have left
+    /// the wait.
     #[inline(always)]
     fn go_on<K: Keeper<WorldUndo>>(
         &mut self,
@@ -223,7 +224,8 @@ impl World {
     }
 }
 
-/// Returns the status of a goroutine after an operation on the word of its wait, given the answer.
+/// Returns the status of a goroutine after it applies an operation to a wait word and gets this
+/// answer.
 #[inline(always)]
 fn status_after(descriptor: u32, op: &DescOp, answer: Answer) -> Status
     ensures { result ≡ status_after descriptor op.now answer }

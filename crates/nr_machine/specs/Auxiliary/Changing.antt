@@ -29,17 +29,17 @@ use Rattle.nr_machine.specs.declared.world_core.Core.{Core}
 use Rattle.nr_machine.specs.declared.delta.DescUndo.{DescUndo}
 use Rattle.nr_machine.specs.declared.delta.LockUndo.{LockUndo}
 
--- the core with another status of goroutine g
+-- the core after goroutine g gets this status
 abbrev pub with_status : ℕ → Status → Core → Core
 with_status g status core =
     record core { goroutines = table.with_status g status core.goroutines }
 
--- the core with another lock of socket s
+-- the core after socket s gets this lock
 abbrev pub with_lock : ℕ → Lock → Core → Core
 with_lock s lock core =
     record core { locks = record core.locks { items = slice_set core.locks.items s lock } }
 
--- the core with another descriptor d
+-- the core after descriptor d gets this value
 abbrev pub with_descriptor : ℕ → Descriptor → Core → Core
 with_descriptor d x core =
     record core

@@ -17,7 +17,7 @@ use Rattle.nr_machine.specs.World.{WorldParts, meant}
 use Rattle.nr_machine.specs.Made.{TakesMemory, parts_reason}
 
 -- True if the new parts represent the definition's next world and fit together, and the requested
--- operations make the new timers.
+-- operations turn the old timers into the new ones.
 pub record Advanced (due : Outcome) (asked : List TimersOp) (old : WorldParts) (answer : Answer)
     (new : WorldParts) : Type 0 where
   pub leads : due ≡ Ok (answer, meant new)
@@ -42,8 +42,8 @@ Makes {Place} holds place due asked old (Ok answer) new =
     (undo : WorldUndo) × holds place undo × Made due asked MOST_WORDS old answer undo new
 Makes {Place} holds place due asked old (Err e) new = (due ≡ Err e) × (new ≡ old)
 
--- True if the step is made, and the place, if it keeps undos, holds the undo of the step; or if
--- nothing changes, because the step is refused or memory runs out for the bytes to keep.
+-- True if the step is made, and its undo is in the place if undos are kept. Also true if nothing
+-- changes because the step is refused, or because memory runs out for the bytes to keep.
 abbrev pub MakesStep : {Place : Type 0} → Bool → (Place → WorldUndo → Type 0) → Place → Step
     → WorldParts → Result Answer Refusal → WorldParts → Type 0
 MakesStep {Place} keeps holds place step old (Ok answer) new =

@@ -35,7 +35,7 @@ reset_from-requires-clause-limit c =
     subst (λ (m : WorldParts). HaveLimit m.core.limits.buffer m.socks) (sym c.restore_opened.ensures)
     (written_limit c.args.self.now c.args.snapshot.now c.deref.result.now rest c.requires.well_formed.parts c.requires.kept.parts of)
 
--- after the snapshot's sockets, those without a lock are closed
+-- a socket is closed if it comes after the snapshot's opened sockets and has no lock
 pub reset_from-requires-clause-closed : goal.reset_from-requires-clause-closed
 reset_from-requires-clause-closed c =
     let inside = c.snapshot.inside in
