@@ -124,7 +124,7 @@ waitcheck_touches w g =
     ComesTo-bind (ComesTo-any (row_of place.0 w)) λ row _.
     ComesTo-ok (goroutine_set _ w g _ _ (here g []))
 
--- ---- changes of a descriptor with its timers
+-- ---- changes to a descriptor with its timers
 
 change_keeps : (t : Touched) (d : ℕ) (row : DescriptorRow) (change : Change) (w : World) → t.descriptor ≡ Some d → ((h : ℕ) → Contains change.woken h → Contains t.goroutines h)
     → ComesTo (Keeps t w) (after_change d row change w)
@@ -188,7 +188,7 @@ fired_touches : (t : Touched) (d : ℕ) (row : DescriptorRow) (change : Option C
 fired_touches t d row None w at among = ComesTo-ok Keeps-same
 fired_touches t d row (Some change) w at among = ComesTo-bind (change_keeps t d row change w at (λ h. among change h refl)) λ next keeps. ComesTo-ok keeps
 
--- a change of the world, followed by a step
+-- a change to the world, followed by a step
 Touches-after : {t : Touched} {w between : World} {o : Outcome} → Keeps t w between → Touches t between o → Touches t w o
 Touches-after first step = record { value = λ left is. Keeps-then first (step.value left is) }
 

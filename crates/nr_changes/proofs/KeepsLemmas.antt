@@ -1,4 +1,4 @@
--- A change of a world affects only the things that it touches.
+-- A change to a world affects only the things that it touches.
 use Rattle.std.proofs.Common.{◌≡◌, ◌≢◌, ℕ, zero, suc, List, [], ◌∷◌, ◌++◌, length, Option, Some, refl, sym, ap, subst, ◌∙◌, Bool, true, false, Result}
 use Rattle.std.specs.Prelude.{Contains, slice_get, slice_set, option_map, if◌then◌else◌}
 use Rattle.nr_rev.specs.declared.answer.Answer.{Answer}

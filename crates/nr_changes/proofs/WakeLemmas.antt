@@ -1,4 +1,4 @@
--- A change of a descriptor wakes only goroutines that its words held.
+-- A change to a descriptor wakes only goroutines that its words held.
 use Rattle.std.proofs.Common.{◌≡◌, ℕ, Bool, true, false, ◌&&◌, not, List, [], ◌++◌, Option, Some, refl, subst, inl, inr}
 use Rattle.std.specs.Prelude.{Contains, if◌then◌else◌, ℤ, negsuc}
 use Rattle.std.specs.Ordering.{int_eq}

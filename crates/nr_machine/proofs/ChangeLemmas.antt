@@ -156,7 +156,7 @@ module _ (m : WorldParts) (d : ℕ) (o : DescOp) (x after : Descriptor) (answer 
       let all : written ≡ with_descriptor d after (record m.core { timers = timed.timers }) = is ∙ ap (with_descriptor d after) times.rest in
       can_wake m d x h there o after answer written step (ap (λ (c : Core). c.goroutines) all) (ap (λ (c : Core). c.waiters) all)
 
-  -- the step is complete after the timer orders, the change of the descriptor and the wakes
+  -- the step is complete after the timer orders, the change to the descriptor and the wakes
   pub changed_made : (due : Outcome) (asked : List TimersOp) (both : Sides (Option TimersDelta)) (delta : DescDelta) (timed written new : Core)
       → DescFits after → Timed d answer.orders asked both m.core timed → written ≡ with_descriptor d after timed
       → new ≡ woken_both d answer.woken written → IsQueuedUp new.goroutines → WokenBack answer.woken new written

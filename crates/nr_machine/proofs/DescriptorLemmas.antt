@@ -1,4 +1,4 @@
--- Descriptors in the parts: lookups, changes of one descriptor, and the free list.
+-- Descriptors in the parts: lookups, changes to one descriptor, and the free list.
 use Rattle.std.proofs.Common.{◌≡◌, ℕ, Bool, true, false, List, [], Option, Some, None, Result, Ok, Err, refl, sym, ap, subst, ◌∙◌, lit≤}
 use Rattle.std.proofs.lemmas.Option.{same_Some}
 use Rattle.std.specs.Prelude.{option_and_then, option_map, slice_get}

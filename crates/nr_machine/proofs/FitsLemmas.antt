@@ -1,4 +1,4 @@
--- The parts still fit after changes of the core.
+-- The parts still fit after changes to the core.
 use Rattle.std.proofs.Common.{◌≡◌, ◌≢◌, ℕ, ◌<◌, ◌≤◌, List, length, Some, None, ℤ, refl, sym, ap, subst, ◌∙◌, length-set, arith}
 use Rattle.std.specs.Prelude.{slice_get}
 use Rattle.nr_rev.specs.declared.descriptor.Descriptor.{Descriptor}
@@ -50,7 +50,7 @@ retied m core h fits tied =
       unarmed = tied.unarmed h.unarmed;
     }
 
--- `CoreFits` still holds after a change of the goroutine table, free list, clock and number of
+-- `CoreFits` still holds after a change to the goroutine table, free list, clock and number of
 -- waiters, if the new table is well formed and the capacities stay the same
 pub counted_fits : (core : Core) (table : GoroutineTable) (free : Roomed ℕ) (clock : ℤ) (waiters : ℕ) → CoreFits core → IsQueuedUp table → table.limit ≡ core.goroutines.limit
     → length table.semaphores ≡ length core.goroutines.semaphores → free.room ≡ core.free.room
@@ -70,7 +70,7 @@ counted_fits core table free clock waiters h queued limit many room =
       timers_room = h.timers_room;
     }
 
--- `CoreFits` still holds after a change of the locks, if `LockFits` holds for each of them
+-- `CoreFits` still holds after a change to the locks, if `LockFits` holds for each of them
 pub locks_fit : (core : Core) (items : List Lock) → CoreFits core → ((s : ℕ) (lock : Lock) → slice_get items s ≡ Some lock → LockFits lock)
     → CoreFits (record core { locks = record core.locks { items = items } })
 locks_fit core items h fit =
@@ -88,7 +88,7 @@ locks_fit core items h fit =
       timers_room = h.timers_room;
     }
 
--- `CoreFits` still holds after a change of the descriptors, if `DescFits` holds for each of them
+-- `CoreFits` still holds after a change to the descriptors, if `DescFits` holds for each of them
 pub descriptors_fit : (core : Core) (items : List Descriptor) → CoreFits core → ((d : ℕ) (x : Descriptor) → slice_get items d ≡ Some x → DescFits x)
     → CoreFits (record core { descriptors = record core.descriptors { items = items } })
 descriptors_fit core items h fit =
@@ -137,7 +137,7 @@ descriptor_tied core d x =
       unarmed = λ h k past. h k (subst (λ (n : ℕ). n ≤ k) (length-set core.descriptors.items d x) past);
     }
 
--- `CoreFits` still holds after a change of the timers, if the new timers are well formed and have
+-- `CoreFits` still holds after a change to the timers, if the new timers are well formed and have
 -- the same capacity
 pub timed_fits : (core : Core) (t : State) → CoreFits core → IsTimers t → t.descriptors ≡ core.timers.descriptors → CoreFits (record core { timers = t })
 timed_fits core t h fits room =

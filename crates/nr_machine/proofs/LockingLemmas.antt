@@ -118,7 +118,7 @@ lock_moves m g s from op before after answer undo mid h there movable locks =
     })
 
 module _ (old : WorldParts) (g s : ℕ) (op : LockOp) (answer : LockAnswer) (undo : LockUndo) (moved : Option GDelta) (mid new : Core) where
-  -- the step is complete after the changes of the lock and of the goroutine's status
+  -- the step is complete after the changes to the lock and to the goroutine's status
   pub locking_made : (before after : Lock) → PartsFit old → Locks old.core s op before after answer undo mid
       → MovesOn mid g (status_left s op (lock_op.left answer after)) moved new
       → Made (locking g s op (meant old)) [] MOST_WORDS old answer.answer (Locked undo moved) (record old { core = new })

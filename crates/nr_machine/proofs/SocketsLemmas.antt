@@ -1,4 +1,4 @@
--- The sockets after a change of a lock, of semaphores or of buffers, and after a socket is opened.
+-- The sockets after a change to a lock, to semaphores or to buffers, and after a socket is opened.
 use Rattle.std.proofs.Common.{◌≡◌, ◌≢◌, ℕ, ◌<◌, List, [], ◌∷◌, ◌++◌, length, set, Some, None, refl, sym, ap, ◌∙◌, arith}
 use Rattle.std.proofs.lemmas.List.{get_or-set_same, get_or-set_other}
 use Rattle.std.proofs.lemmas.Option.{get_or_from_slice_get}

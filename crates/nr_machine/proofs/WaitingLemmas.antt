@@ -190,7 +190,7 @@ described_means m g d to before after =
     ap (λ (rows : List DescriptorRow). record (with_status g to (meant m)) { descriptors = rows }) (descriptor_set m.core.descriptors.items m.core.timers.entries d after)
 
 module _ (old : WorldParts) (g d : ℕ) (o : DescOp) (answer : DescAnswer) (undo : DescUndo) (delta : GDelta) (mid moved new : Core) where
-  -- the step is complete after the changes of the descriptor, the goroutine's status and the number
+  -- the step is complete after the changes to the descriptor, the goroutine's status and the number
   -- of waiters
   pub waiting_made : (before after : Descriptor) → PartsFit old → Describes old.core d o before after answer undo mid → Moves mid g (status_after d o answer.answer) delta moved
       → new ≡ core_parked (parks o answer.answer) moved → ParkBack (parks o answer.answer) new moved

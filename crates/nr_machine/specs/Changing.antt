@@ -1,4 +1,4 @@
--- The outcomes of changes of the core, and their undos.
+-- The outcomes of changes to the core, and their undos.
 use Rattle.std.specs.Prelude.{ℕ, slice_get}
 use Rattle.nr_rev.specs.declared.refusal.Refusal.TheVariants.{NoSuchDescriptor}
 use Rattle.nr_rev.specs.Refusing.{◌>>=◌, found_or}

@@ -62,11 +62,11 @@ WokenBack both = Then (IfAny WakeBack both.write) (IfAny WakeBack both.read)
 
 -- ---- undos of the whole world
 
--- undoes a change of the core only
+-- undoes a change to the core only
 abbrev pub OfCore : (Core → Core → Type 0) → WorldParts → WorldParts → Type 0
 OfCore back new old = back new.core old.core × (old.socks ≡ new.socks)
 
--- undoes a change of the buffers of socket s
+-- undoes a change to the buffers of socket s
 pub record SockBack (s : ℕ) (delta : SockDelta) (new old : WorldParts) : Type 0 where
   pub before : SockParts
   pub after : SockParts

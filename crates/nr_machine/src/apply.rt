@@ -100,7 +100,7 @@ impl World {
     }
 }
 
-/// A step consists of changes of the parts, each with its undo. Undoing the step undoes the changes, from the last to
+/// A step consists of changes to the parts, each with its undo. Undoing the step undoes the changes, from the last to
 /// the first.
 impl Reversible for World {
     ghost use Rattle.nr_rev.specs.Worlds.{bytes_left};

@@ -1,4 +1,4 @@
-//! The changes of the core, each with its undo.
+//! The changes to the core, each with its undo.
 
 ghost use Rattle.std.specs.Prelude.{◌≡◌, ℕ, ◌+◌, ◌-◌, ◌^◌, ◌<◌, ◌++◌, ◌∷◌, [], length, slice_get, Some, Err, IfOk, IfErr, OnErr};
 ghost use Rattle.nr_desc.specs.Desc.{DescFits};

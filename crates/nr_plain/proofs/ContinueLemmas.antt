@@ -1,4 +1,4 @@
--- Extending a plan by the change of a descriptor.
+-- Extending a plan with a change to a descriptor.
 use Rattle.std.proofs.Common.{◌≡◌, ℕ, ◌*◌, ◌≤◌, List, [], ◌∷◌, ◌++◌, length, map, Option, Some, None, Result, Ok, Err, refl, sym, ap, ◌∙◌, arith, length-append}
 use Rattle.std.proofs.lemmas.List.{length-map}
 use Rattle.std.proofs.lemmas.List.Sums.{sum_by-append, sum_by-cons}
@@ -27,7 +27,8 @@ both_obeyed (Some order) b before =
     elim (after_order order before) as (λ (r : Result (Sides (Option Timer) × ℕ) Refusal). (r >>= after_orders (option_to_list b)) ≡ ((r >>= λ after. Ok after) >>= after_orders (option_to_list b)))
     [ Ok after ↦ refl | Err e ↦ refl ]
 
--- making two lists of changes in turn is making their concatenation
+-- applying two lists of changes one after the other gives the same world as applying their
+-- concatenation
 pub after_edits-append : (xs ys : List Edit) (w : World) → after_edits (xs ++ ys) w ≡ after_edits ys (after_edits xs w)
 after_edits-append [] ys w = refl
 after_edits-append (x ∷ xs) ys w = after_edits-append xs ys (after_edit x w)
@@ -49,7 +50,8 @@ woken_words : (gs : List ℕ) → total_weight (map Wake gs) ≡ 7 * length gs
 woken_words [] = refl
 woken_words (g ∷ gs) = let one = sum_by-cons edit_weight (Wake g) (map Wake gs) in let rest = woken_words gs in omega (arith, one, rest)
 
--- the changes of the plan make the world that the descriptor's change makes
+-- if the timer orders succeed, a change to a descriptor leads to the same world as the plan's
+-- changes
 where_it_leads : (d : ℕ) (row : DescriptorRow) (change : Change) (w v : World) (after : Sides (Option Timer) × ℕ) → v.next_arming ≡ w.next_arming
     → after_orders change.orders (row.timers, w.next_arming) ≡ Ok after
     → after_change d row change v ≡ Ok (after_edits (Row d (record { descriptor = change.descriptor; timers = after.0 }) ∷ Arming after.1 ∷ map Wake change.woken) v)

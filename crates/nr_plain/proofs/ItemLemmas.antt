@@ -21,18 +21,19 @@ module _ {X : Type 0} (change back : X → X) (xs : List X) (place : ℕ) where
       let read = ap (λ (found : Option X). unwrap_or found x) (sym at) ∙ unwrap_or-slice_get xs place x in
       subst (λ y. set (set xs place (change x)) place y ≡ xs) returns (set_read_back xs place x (change x) read)
 
-  -- undoing the change of an element restores the list
+  -- undoing the change to an element restores the list
   pub changed_back : IfSome (slice_get xs place) (λ x. x ≡ back (change x)) → with_changed place back (with_changed place change xs) ≡ xs
   changed_back returns =
       ap (λ (found : Option X). with_item place (option_map back found) (with_changed place change xs)) (changed-here change xs place)
       ∙ returned_as (slice_get xs place) refl returns
 
--- if a property holds after the change of an element, it holds of the changed element
+-- if P holds for `change` of an optional element, it holds for the element after `change` is mapped
+-- over it
 pub mapped_known : {X Y : Type 0} (change : X → Y) (P : Y → Type 0) (found : Option X) → IfSome found (λ x. P (change x)) → IfSome (option_map change found) P
 mapped_known change P None known = tt
 mapped_known change P (Some x) known = known
 
--- two facts about an element, if it exists, imply a third
+-- if P and Q hold for an optional element and together imply R, then R holds for it
 pub both_known : {X : Type 0} {P Q R : X → Type 0} (found : Option X) → IfSome found P → IfSome found Q → ((x : X) → P x → Q x → R x) → IfSome found R
 both_known None one other follows = tt
 both_known (Some x) one other follows = follows x one other

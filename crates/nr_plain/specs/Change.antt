@@ -15,7 +15,7 @@ change_view c =
       woken = option_to_list c.woken.read ++ option_to_list c.woken.write;
     }
 
--- the change with at most one order that this Rust type represents; it wakes no goroutine
+-- the change that a `Followed` represents: it has at most one order and wakes no goroutine
 abbrev pub followed_view : Followed → Change
 followed_view f = record { descriptor = f.descriptor; orders = option_to_list f.order; woken = [] }
 

@@ -1,4 +1,4 @@
--- Extending a plan by the change of a descriptor.
+-- Extending a plan with a change to a descriptor.
 use Rattle.std.specs.Prelude.{◌≡◌, ℕ, ◌+◌, ◌≤◌, length, Result, Ok, Err}
 use Rattle.nr_rev.specs.declared.descriptor.DescriptorRow.{DescriptorRow}
 use Rattle.nr_rev.specs.declared.refusal.Refusal.{Refusal}
@@ -8,7 +8,7 @@ use Rattle.nr_rev.specs.World.{World}
 use Rattle.nr_plain.specs.declared.plan.Plan.{Plan}
 use Rattle.nr_plain.specs.Plan.{CanEditAll, after_edits, total_weight}
 
--- true if the plan `after` is `before`, extended by this change of descriptor d
+-- true if the plan `after` extends `before` with this change to descriptor d
 pub record Continues (d : ℕ) (row : DescriptorRow) (change : Change) (w : World)
     (before after : Plan) : Type 0 where
   pub answer : after.answer ≡ before.answer

@@ -1,4 +1,4 @@
--- The primitive changes of a world, and their undos.
+-- The primitive changes to a world, and their undos.
 use Rattle.std.specs.Prelude.{◌≡◌, ℕ, ◌+◌, ◌-◌, ◌*◌, ◌<◌, ◌≤◌, List, [], ◌∷◌, ◌++◌, length, take, drop, insert, remove, slice_get, slice_set, Option, Some, None, option_map, IfSome}
 use Rattle.nr_rev.specs.declared.status.Status.TheVariants as status
 use Rattle.nr_rev.specs.Socket.{new_socket}

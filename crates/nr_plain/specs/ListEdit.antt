@@ -1,4 +1,4 @@
--- The changes of a list.
+-- The changes to a list.
 use Rattle.std.specs.Prelude.{ℕ, ◌+◌, ◌≤◌, List, ◌++◌, length, take, drop}
 use Rattle.nr_plain.specs.declared.list_edit.ListEdit.{ListEdit}
 use Rattle.nr_plain.specs.declared.list_edit.ListEdit.TheVariants as edit

@@ -34,7 +34,7 @@ steps_unique old step a b new other p q = same_parts a b new other (sym p ∙ q)
 pub weight_is_within : (step : Step) → MOST_WORDS ≤ MOST_WORDS
 weight_is_within step = lit≤ tt
 
--- an outcome that has a reason for refusal is that refusal
+-- if an outcome has a reason for refusal, it is the refusal for that reason
 refused_for : (o : Outcome) (e : Refusal) → refusal_of o ≡ Some e → ◌≡◌ {A = Outcome} o (Err e)
 refused_for (Ok left) e is = cc
 refused_for (Err reason) e is = cc
@@ -44,7 +44,7 @@ pub memory_is_no_reason : (w : World) (step : Step) → WellFormed w
     → world_reason w step ≡ Some out_of_memory → ⊥
 memory_is_no_reason w step h is = none_for_memory w step h (refused_for (outcome w step) _ is)
 
--- undoing a change, and so a delta, has only one result
+-- undoing a change has only one result, and so has undoing a delta
 pub Undoes-unique : (undo : Undo) (new a b : World) → Undoes undo new a → Undoes undo new b → a ≡ b
 Undoes-unique undo new a b p q = p.1 ∙ sym q.1
 

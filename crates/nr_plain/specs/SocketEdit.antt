@@ -1,4 +1,4 @@
--- The primitive changes of a socket, and their undos.
+-- The primitive changes to a socket, and their undos.
 use Rattle.std.specs.Prelude.{◌≡◌, ℕ, ◌+◌, ◌-◌, ◌<◌, ◌≤◌, ◌^◌, true, false, List, [], ◌∷◌, ◌++◌, length, take, drop, option_to_list}
 use Rattle.nr_rev.specs.declared.sides.Side.{Side}
 use Rattle.nr_rev.specs.Sides.{of_side, with_side}

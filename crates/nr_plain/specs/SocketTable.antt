@@ -2,7 +2,7 @@
 use Rattle.std.specs.Prelude.{ℕ, List}
 use Rattle.nr_rev.specs.Socket.{Socket}
 
--- a socket with the room of its queues and its buffers
+-- a socket with the capacities of its queues and of its buffers
 pub record RoomedSocket : Type 0 where
   pub socket : Socket
   pub queue_room : ℕ

@@ -36,7 +36,7 @@ pub record Edits (edit : SocketEdit) (undo : SocketUndo) (old new : RoomedSocket
       (after_socket_edit edit old.socket) old.socket
   pub light : socket_undo_weight undo ≤ socket_edit_weight edit
 
--- true if the change of socket s was made, and the undo restores the old table and has at most the
+-- true if the change to socket s was made, and the undo restores the old table and has at most the
 -- allowed number of words
 pub record EditsSocket (s : ℕ) (edit : SocketEdit) (undo : SocketUndo) (old new : SocketTable) :
     Type 0 where

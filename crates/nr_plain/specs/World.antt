@@ -6,7 +6,7 @@ use Rattle.nr_plain.specs.declared.edit.Undo.{Undo}
 use Rattle.nr_plain.specs.declared.world.PlainWorld.TheInside.{Inside}
 use Rattle.nr_plain.specs.Edit.{Undoes, edit_weight, after_edit, undo_weight}
 
--- the world that contracts see
+-- the world that these fields represent in contracts
 abbrev pub world_view : Inside → World
 world_view p =
     record {

@@ -10,7 +10,7 @@ use Rattle.nr_rev.specs.World.{World}
 use Rattle.nr_rev.specs.Worlds.{LosesBytes, bytes_left, refusal_of}
 use Rattle.nr_plain.specs.Plan.{world_reason}
 
--- the machine's world that this world models, which is the model itself
+-- the machine's world that this world models: the world itself
 abbrev pub meant : World → World
 meant w = w
 

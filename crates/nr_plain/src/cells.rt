@@ -1,4 +1,4 @@
-//! The values of those cells that aren't simply a number that the world stores.
+//! The values of cells that the world doesn't store as a single number.
 
 ghost use Rattle.std.specs.Prelude.{◌≡◌, ◌^◌, ◌<◌, ◌≤◌, length, slice_get, option_map};
 ghost use Rattle.nr_rev.specs.Cell.{descriptor_value, socket_value};

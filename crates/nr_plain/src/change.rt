@@ -1,5 +1,5 @@
 //! The changes that operations make to a descriptor: its new fields, the orders to its timers, and the goroutines that
-//! are woken. There is at most one order and one goroutine per side, reading first.
+//! are woken. Each side has at most one order and one woken goroutine; the read side's come first.
 
 ghost use Rattle.std.specs.Prelude.{◌≡◌, ◌&&◌, IfOk, IsTrue, None, negsuc, option_map, option_to_list};
 ghost use Rattle.std.specs.Ordering.{int_eq};
@@ -24,7 +24,7 @@ pub(crate) struct PlainChange {
     pub(crate) woken: Sides<Option<u32>>,
 }
 
-/// A descriptor and the order to the timer of one side, if any.
+/// A descriptor, and an order for one side's timer, if any.
 #[derive(Clone, Copy)]
 pub(crate) struct Followed {
     pub(crate) descriptor: Descriptor,
@@ -74,7 +74,7 @@ fn unblock(word: WaitWord, ioready: bool) -> Unblocked
 }
 
 impl PlainChange {
-    /// Unblocks a side. The woken goroutines are in the order of the sides, reading first.
+    /// Unblocks a side. The list of woken goroutines has the reader before the writer.
     fn unblock(self, side: Side, ioready: bool) -> PlainChange
         requires none { sides.of_side side self.woken ≡ None }
         requires first { self.woken.write ≡ None }
@@ -137,7 +137,7 @@ fn timer_function(side: Side, descriptor: Descriptor) -> TimerFunction
     }
 }
 
-/// Returns the descriptor with the order for a side's timer after the deadlines changed from those of `old`.
+/// Returns the descriptor, and the order for a side's timer, if any, when the deadlines change from those of `old`.
 fn timer_follows(side: Side, old: Descriptor, descriptor: Descriptor) -> Result<Followed, Refusal>
     ensures { Gives followed_view result (spec.timer_follows side old descriptor) }
 {
@@ -174,7 +174,7 @@ fn is_unmoved(side: Side, old: Descriptor, descriptor: Descriptor) -> bool
 }
 
 impl PlainChange {
-    /// Unblocks the sides whose deadline has passed, reading first.
+    /// Unblocks the sides whose deadline has passed, the read side first.
     fn unblock_expired(self) -> PlainChange
         requires { self.woken ≡ sides.twice None }
         ensures { change_view result ≡ spec.expired_unblocked (change_view self) }
@@ -190,7 +190,7 @@ impl PlainChange {
     }
 }
 
-/// Returns the orders for both timers after the deadlines changed from those of `old`, reading first.
+/// Returns the orders for the read timer and then for the write timer when the deadlines change from those of `old`.
 fn both_follow(old: Descriptor, descriptor: Descriptor) -> Result<PlainChange, Refusal>
     ensures viewed { Gives change_view result (auxiliary.both_follow old descriptor) }
     ensures woken { IfOk result (λ change. change.woken ≡ sides.twice None) }
@@ -207,8 +207,8 @@ fn both_follow(old: Descriptor, descriptor: Descriptor) -> Result<PlainChange, R
     })
 }
 
-/// Sets a deadline (Go's `poll_runtime_pollSetDeadline`): orders the timers anew, reading first,
-/// and unblocks the sides whose deadline has passed.
+/// Sets a deadline (Go's `poll_runtime_pollSetDeadline`): requests changes to the read timer and
+/// then to the write timer, and unblocks the sides whose deadline has passed.
 pub(crate) fn change_by_deadline(
     clock: i64,
     mode: Mode,
@@ -285,7 +285,7 @@ fn with_past(side: Side, descriptor: Descriptor) -> Descriptor
 }
 
 impl PlainChange {
-    /// Expires the sides that a function covers, reading first.
+    /// Expires the sides that a function covers, the read side first.
     fn expire(self, function: TimerFunction) -> PlainChange
         requires { self.woken ≡ sides.twice None }
         ensures { change_view result

@@ -15,8 +15,8 @@ use crate::world::PlainWorld;
 use nr_rev::{DescriptorRow, Refusal, Sides, Timer, TimerOrder, raised_sequence};
 
 impl PlainWorld {
-    /// Extends the plan by the change of a descriptor: carries out the orders to its timers, and lets the goroutines
-    /// that its words held continue.
+    /// Extends the plan with a change to a descriptor: its timer orders are carried out, and the goroutines that it
+    /// wakes continue.
     pub(crate) fn then_changed<'a>(
         &self,
         plan: Plan<'a>,
@@ -74,7 +74,7 @@ fn after_order(
     }
 }
 
-/// Extends the plan by the woken goroutines, reading first.
+/// Extends the plan with the wakes: first of the reader, then of the writer, if any.
 fn then_woken<'a>(plan: Plan<'a>, woken: Sides<Option<u32>>) -> Plan<'a>
     requires { length plan.edits.items ≤ 3 }
     ensures answer { result.answer ≡ plan.entry.answer }

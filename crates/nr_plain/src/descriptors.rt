@@ -1,4 +1,4 @@
-//! The steps that open, evict and close a descriptor and bring it events: Go's `poll_runtime_pollOpen`,
+//! The steps that open, evict and close a descriptor and deliver events to it: Go's `poll_runtime_pollOpen`,
 //! `poll_runtime_pollUnblock`, `poll_runtime_pollClose` and `netpollready`.
 
 ghost use Rattle.std.specs.Prelude.{◌≡◌, ◌<◌, ◌∷◌, [], List, MatchOption, ℕ, OnOk, length};

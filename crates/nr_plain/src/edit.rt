@@ -3,7 +3,7 @@
 use crate::socket_edit::{SocketEdit, SocketUndo};
 use nr_rev::{DescriptorRow, Entry, Status};
 
-/// A change of the world.
+/// A change to the world.
 #[derive(Drop)]
 pub(crate) enum Edit<'a> {
     /// Sets a goroutine's status.
@@ -62,7 +62,7 @@ pub(crate) enum Edit<'a> {
     },
 }
 
-/// The undo of a change of the world.
+/// The undo of a change to the world.
 #[derive(Drop)]
 pub enum Undo {
     Status {

@@ -1,4 +1,4 @@
-//! Making the primitive changes of a world, and undoing them.
+//! Making the primitive changes to a world, and undoing them.
 
 ghost use Rattle.std.specs.Prelude.{◌≡◌};
 ghost use Rattle.nr_rev.specs.Step as step;
@@ -174,7 +174,7 @@ impl PlainWorld {
     }
 }
 
-/// Returns a goroutine's status after a word released it: a parked goroutine swaps next.
+/// Returns a goroutine's status after a wake: swapping if it was parked, else the same.
 fn after_wake(status: Status) -> Status
     ensures { result ≡ step.after_wake status }
 {

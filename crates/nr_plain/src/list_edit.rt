@@ -1,11 +1,11 @@
-//! The changes of a list, and how they are made.
+//! The changes to a list, and how they are made.
 
 ghost use Rattle.std.specs.Prelude.{◌≡◌, ◌≤◌, length};
 ghost use Rattle.nr_plain.specs.ListEdit.{CanEditList, after_list_edit};
 
 use nr_rev::RoomedList;
 
-/// A change of a list.
+/// A change to a list.
 #[derive(Clone, Copy)]
 pub(crate) enum ListEdit<'a, T> {
     /// Appends items.
@@ -18,7 +18,7 @@ pub(crate) enum ListEdit<'a, T> {
     Truncate(usize),
 }
 
-/// Makes a change of a list.
+/// Makes a change to a list.
 pub(crate) fn edit_list<T: Copy + Drop>(list: &mut RoomedList<T>, edit: ListEdit<T>)
     requires { CanEditList list.old.room edit list.old.items }
     ensures after { list.new ≡ record list.old {

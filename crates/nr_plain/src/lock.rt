@@ -1,5 +1,5 @@
-//! The operations of a lock, after `internal/poll/fd_mutex.go`. An operation changes the fields of
-//! the word that Go changes by compare-and-swap. If Go panics, the operation is refused.
+//! The operations of a lock, modelled on `internal/poll/fd_mutex.go`. An operation changes the
+//! fields of the word that Go changes by compare-and-swap. If Go panics, the operation is refused.
 
 ghost use Rattle.std.specs.Prelude.{◌≡◌};
 ghost use Rattle.nr_rev.specs.Lock as spec;

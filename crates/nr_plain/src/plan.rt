@@ -40,7 +40,7 @@ impl<'a> Plan<'a> {
         }
     }
 
-    /// Returns the plan with another change at the end.
+    /// Returns the plan with one more change at its end.
     pub(crate) fn then(mut self, edit: Edit<'a>) -> Plan<'a>
         requires { length self.edits.items < MOST_EDITS }
         ensures answer { result.answer ≡ self.entry.answer }

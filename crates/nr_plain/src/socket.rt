@@ -152,7 +152,7 @@ impl PlainSocket {
         }
     }
 
-    /// Returns the buffer of a side, which is the input for the read side.
+    /// Returns the buffer of a side: the input for the read side, the output for the write side.
     pub(crate) fn buffer(&self, side: Side) -> PlainBuffer<'_>
         ensures viewed { buffer_view result ≡ of_side side self.now.socket.buffers }
         ensures short { length result.bytes.now ≤ self.now.byte_room }

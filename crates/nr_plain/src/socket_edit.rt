@@ -1,8 +1,8 @@
-//! The primitive changes of a socket, and their undos.
+//! The primitive changes to a socket, and their undos.
 
 use nr_rev::{KeptBytes, Lock, Side};
 
-/// A change of a socket.
+/// A change to a socket.
 #[derive(Drop)]
 pub(crate) enum SocketEdit<'a> {
     /// Sets the lock.
@@ -21,7 +21,7 @@ pub(crate) enum SocketEdit<'a> {
     Shut(bool),
 }
 
-/// The undo of a change of a socket.
+/// The undo of a change to a socket.
 #[derive(Drop)]
 pub enum SocketUndo {
     Lock(Lock),

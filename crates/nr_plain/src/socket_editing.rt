@@ -1,4 +1,4 @@
-//! Making the primitive changes of a socket, and undoing them.
+//! Making the primitive changes to a socket, and undoing them.
 
 ghost use Rattle.std.specs.Prelude.{◌≡◌, ◌≤◌, drop, length};
 ghost use Rattle.nr_rev.specs.Sides.{of_side};

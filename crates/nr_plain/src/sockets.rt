@@ -139,7 +139,7 @@ impl Sockets {
         self.all[place].edit(edit)
     }
 
-    /// Undoes a change of a socket.
+    /// Undoes a change to a socket.
     pub(crate) fn undo(&mut self, socket: u32, undo: SocketUndo)
         requires { IfSome (slice_get self.old.sockets socket)
             (CanUndoSocket self.old.queue_room self.old.byte_room undo) }

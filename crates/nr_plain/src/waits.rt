@@ -181,7 +181,7 @@ impl PlainWorld {
     }
 }
 
-/// Returns the row with another word at a side.
+/// Returns the row after a side's word is set.
 fn reworded(row: DescriptorRow, side: Side, word: WaitWord) -> DescriptorRow
     ensures { result ≡ record row { descriptor = spec.with_wait_word side word row.descriptor } }
 {

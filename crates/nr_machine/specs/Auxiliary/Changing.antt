@@ -68,21 +68,21 @@ abbrev pub IfAny : {A : Type 0} → (A → Core → Core → Type 0) → Option 
 IfAny back None = Same
 IfAny back (Some a) = back a
 
--- undoes a change of goroutines and semaphores
+-- undoes a change to goroutines and semaphores
 abbrev pub GoroutineBack : GDelta → Core → Core → Type 0
 GoroutineBack delta new old =
     goroutine.LeadsBack delta new.goroutines old.goroutines
     × (old ≡ record new { goroutines = old.goroutines })
 
--- undoes a change of a lock
+-- undoes a change to a lock
 abbrev pub LockBack : LockUndo → Core → Core → Type 0
 LockBack undo new old = old ≡ with_lock undo.socket undo.before.before new
 
--- undoes a change of a descriptor
+-- undoes a change to a descriptor
 abbrev pub DescBack : DescUndo → Core → Core → Type 0
 DescBack undo new old = old ≡ with_descriptor undo.descriptor undo.before.before new
 
--- undoes a change of timers
+-- undoes a change to timers
 abbrev pub TimersBack : TimersDelta → Core → Core → Type 0
 TimersBack delta new old =
     timers.TimersBack delta new.timers old.timers × (old ≡ record new { timers = old.timers })
