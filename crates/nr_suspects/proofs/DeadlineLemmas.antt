@@ -1,4 +1,4 @@
--- A firing takes effect only for the deadline that is set, and in time.
+-- A timer's firing takes effect only if its deadline is still set and its time has come.
 use Rattle.std.proofs.Common.{◌≡◌, ◌≢◌, ℕ, Bool, true, false, not, Option, Some, None, Result, Ok, refl, sym, ap, subst, ◌∙◌}
 use Rattle.std.specs.Prelude.{if◌then◌else◌, slice_get, remove}
 use Rattle.std.proofs.lemmas.Bool.{eqb-true}

@@ -28,7 +28,8 @@ debt_of side a = option_and_then (λ (x : Account). of_side side x.debts) a
 abbrev pub event_of : Option Debt → Option ℕ
 event_of debt = option_map (λ (b : Debt). b.event) debt
 
--- the notice settles the debt of a side, given the descriptor's account
+-- the notice ends a side's debt: the descriptor was opened, or the socket in its account was tried
+-- at this side and the answer was `Again`
 abbrev pub Pays : ℕ → Side → Notice → Option Account → Type 0
 Pays d side x a =
     ((s : ℕ) × (x ≡ notices.Opened d s)) ⊎ ((s : ℕ) × (x ≡ notices.Tried s side) × (option_map (λ (y : Account). y.socket) a ≡ Some s))

@@ -289,7 +289,7 @@ step_sums w (Step.CloseWrite g k) answer next s fits is = none_moved s w.limits.
 timely_at : (steps : List Step) (n : ℕ) (step : Step) → All IsTimely steps → slice_get steps n ≡ Some step → IsTimely step
 timely_at steps n step timely read = subst IsTimely (get_or_from_slice_get steps n step step read) (timely n step (slice_get_within steps n step read))
 
--- the references that all goroutines took and returned add up to the count in the lock
+-- the references that all goroutines took equal those that they returned plus the count in the lock
 pub sums_at : (r : Recording) (n s : ℕ) → 0 < r.limits.goroutines → All IsTimely r.steps
     → references_at (world_at r n) s + total (λ g. (holding r g s n).given) r.limits.goroutines ≡ total (λ g. (holding r g s n).taken) r.limits.goroutines
 sums_at r zero s room timely = let none = total_none r.limits.goroutines in omega (arith, none)

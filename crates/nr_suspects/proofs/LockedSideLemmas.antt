@@ -101,7 +101,7 @@ decref_keeps lock = ComesTo-then (ComesTo-any (refused_if (lock.references == 0)
 
 -- ---- what a step does to a side
 
--- true if the side is locked, as a view of a socket
+-- true if the socket exists and this side of its lock is locked
 abbrev locked_in : Side → Option Socket → Bool
 locked_in side o = option_map_or (λ (socket : Socket). of_side side socket.lock.locked) o false
 

@@ -28,8 +28,8 @@ after_next [] w (suc n) = refl
 after_next (step ∷ steps) w zero = refl
 after_next (step ∷ steps) w (suc n) = after_next steps (next_of w (outcome w step)) n
 
--- The step after a position turns its world into the next one and has this notice; or the world is
--- unchanged, and the notice is `Nothing`.
+-- Either the step after position n turns the world at n into the world at n + 1 and gives the
+-- notice at n, or the two worlds are equal and the notice is `Nothing`.
 pub data Moves (r : Recording) (n : ℕ) : Type 0 where
   Made : (step : Step) (answer : Answer) (next : World) → slice_get r.steps n ≡ Some step → outcome (world_at r n) step ≡ Ok (answer, next) → world_at r (suc n) ≡ next → notice_at r n ≡ notice (world_at r n) step answer next → Moves r n
   Stays : world_at r (suc n) ≡ world_at r n → notice_at r n ≡ notices.Nothing → Moves r n
@@ -99,8 +99,8 @@ socket_cases capacity answers.Pipe = inr refl
 
 -- ---- notices by step
 
--- true if a notice isn't an opening of a descriptor, an event, a setting of deadlines or a visit to
--- a side
+-- true if the notice is a try, a reference that was taken or returned, a socket that was opened, a
+-- peer's close, or `Nothing`
 abbrev pub is_quiet : Notice → Bool
 is_quiet (notices.Tried s side) = true
 is_quiet (notices.TookReference g s) = true

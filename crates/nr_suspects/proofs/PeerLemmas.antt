@@ -1,4 +1,4 @@
--- The other ends in the notebook are those in the machine.
+-- The other ends computed from the notices are those in the world.
 use Rattle.std.proofs.Common.{◌≡◌, ℕ, zero, suc, ◌*◌, ◌&&◌, ◌||◌, not, Bool, true, false, length, List, [], ◌∷◌, Option, Some, None, inl, inr, refl, sym, ap, ◌∙◌, true≢false}
 use Rattle.std.specs.Prelude.{if◌then◌else◌, ◌==◌, int_le, int_lt, nat_le, nat_lt, option_map, remove, slice_get, slice_set, ℤ}
 use Rattle.std.proofs.lemmas.Bool.{eqb-false, eqb-true}
@@ -188,7 +188,7 @@ closewrite_peers w g k = ComesTo-then (ComesTo-any (idle g w)) λ _. ComesTo-bin
 
 -- ---- the notices of other ends
 
--- true if the notice concerns no socket's other end
+-- true unless the notice is that a socket was opened or that a socket's peer closed
 abbrev is_peerless : Notice → Bool
 is_peerless (notices.SocketOpened s capacity) = false
 is_peerless (notices.PeerClosed s) = false
@@ -309,7 +309,7 @@ follows w Step.Pop s = stays w Step.Pop s (pop_peers w) (λ a m. refl)
 follows w (Step.Fire i) s = stays w (Step.Fire i) s (fire_peers w i) (λ a m. ran w m (fired_descriptor w (Step.Fire i)))
 follows w (Step.CloseWrite g k) s = stays w (Step.CloseWrite g k) s (closewrite_peers w g k) (λ a m. refl)
 
--- the other end of a socket in the notebook is the one in the machine
+-- a socket's other end, computed from the notices, is the one in the world
 pub peer_is : (r : Recording) (s n : ℕ) → peer r s n ≡ option_map peer_of (slice_get (world_at r n).sockets s)
 peer_is r s zero = refl
 peer_is r s (suc n) = go (moves r n) (peer_is r s n)

@@ -1,4 +1,4 @@
--- An event makes its sides ready, and only three kinds of steps take readiness.
+-- An event makes its sides ready, and only three kinds of steps consume the readiness notification.
 use Rattle.std.proofs.Common.{◌≡◌, ℕ, length, Bool, true, false, not, ◌&&◌, ◌||◌, List, [], ◌∷◌, ◌++◌, ◌⊎◌, inl, inr, Option, Some, None, Ok, refl, sym, ap, subst, ◌∙◌, true≢false}
 use Rattle.std.specs.Prelude.{◌==◌, if◌then◌else◌, nat_lt, remove, slice_get, slice_set, option_map, ℤ, negsuc}
 use Rattle.std.specs.Ordering.{int_eq}
@@ -112,7 +112,7 @@ evict_keeps d =
     let reading : Descriptor = (unblocked false Read stopped).descriptor in
     ComesTo-ok (λ side ready. unblocked_keeps false Write reading side (unblocked_keeps false Read stopped side ready))
 
--- a change of the timers that leaves words and deadlines unchanged
+-- a change to the timers that leaves words and deadlines unchanged
 abbrev pub FollowsQuietly : Descriptor → Change → Type 0
 FollowsQuietly d change = (change.descriptor.words ≡ d.words) × (change.descriptor.deadlines ≡ d.deadlines)
 
@@ -198,12 +198,12 @@ change_stays e d side row change w at kept = record {
 
 -- ---- steps
 
--- a step takes the readiness of a side of descriptor d by reopening the descriptor or by consuming
+-- a step ends the readiness of a side of descriptor d by reopening the descriptor or by consuming
 -- the word
 abbrev Opens : Step → Answer × World → ℕ → Type 0
 Opens step left d = (g s : ℕ) × (step ≡ Step.PollOpen g s) × (left.0 ≡ answers.Number d)
 
--- the kind is one of the three that take readiness
+-- the kind is one of the three that consume the readiness notification
 abbrev IsTaker : Kind → Type 0
 IsTaker kind = (kind ≡ Kind.PollReset) ⊎ (kind ≡ Kind.BlockArm) ⊎ (kind ≡ Kind.BlockSwap)
 
@@ -211,11 +211,12 @@ abbrev TakesUp : World → Step → Answer × World → ℕ → Side → Type 0
 TakesUp w step left d side =
     (v : Visit) × (notice w step left.0 left.1 ≡ visiting w left.1 left.0 (Some v)) × (v.descriptor ≡ d) × (v.side ≡ side) × IsTaker (kind_of step)
 
--- a side that is ready remains ready, unless its readiness is taken
+-- a side that is ready remains ready until the descriptor is reopened or the notification is
+-- consumed
 abbrev KeepsOrTakes : World → Step → ℕ → Side → Answer × World → Type 0
 KeepsOrTakes w step d side left = IsReady w d side → IsReady left.1 d side ⊎ Opens step left d ⊎ TakesUp w step left d side
 
--- changing one word of a row keeps every other side ready
+-- after one wait word changes, every other side that was ready is still ready
 word_or_kept : (rows : List DescriptorRow) (e d : ℕ) (s side : Side) (row : DescriptorRow) (word : WaitWord) → slice_get rows e ≡ Some row → HasWaitWord rows d side Ready
     → HasWaitWord (slice_set rows e (record row { descriptor = with_wait_word s word row.descriptor })) d side Ready ⊎ ((e ≡ d) × (s ≡ side))
 word_or_kept rows e d s side row word at ready =
@@ -435,7 +436,7 @@ keeps_or_takes w Step.Pop d side = untouched w Step.Pop d side refl refl
 keeps_or_takes w (Step.Fire i) d side = keeps w (Step.Fire i) d side (fire_stays w i d side)
 keeps_or_takes w (Step.CloseWrite g k) d side = untouched w (Step.CloseWrite g k) d side refl refl
 
--- only these three kinds of steps, and reopening the descriptor, take readiness
+-- only these three kinds of steps, and reopening the descriptor, end the readiness of a side
 pub taken_by_three : (w next : World) (step : Step) (answer : Answer) (d : ℕ) (side : Side) → outcome w step ≡ Ok (answer, next) → is_ready w d side ≡ true → is_ready next d side ≡ false
     → IsTakenBy w step answer next d side
 taken_by_three w next step answer d side is before after =

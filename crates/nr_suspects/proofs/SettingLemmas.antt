@@ -83,7 +83,7 @@ after_set_if : (n g : ℕ) (mode : Mode) (side : Side) (y : Account) (b : Bool) 
 after_set_if n g mode side y true = after_set n g mode side y.deadlines
 after_set_if n g mode side y false = refl
 
--- the setting of a side after a notice, from the descriptor's account
+-- `next_setting` computes the setting that the descriptor's account has after a notice
 next_of_setting : (n d : ℕ) (side : Side) (x : Notice) (y : Account) → side_setting side (account_after n d x (Some y)) ≡ next_setting n d side x (set_of side y.deadlines)
 next_of_setting n d side (notices.Opened e s) y = after_opening side (d == e) s y
 next_of_setting n d side (notices.Event e mode) y = by_bool side (d == e) (with_event n mode y) y (set_of side y.deadlines) refl refl
@@ -99,16 +99,18 @@ next_of_setting n d side (notices.SocketOpened sock room) y = refl
 next_of_setting n d side (notices.PeerClosed sock) y = refl
 next_of_setting n d side notices.Nothing y = refl
 
--- ---- the origin of a setting
+-- ---- the source of a setting
 
--- the move of an earlier setting after a notice: the first move is kept
+-- Either the notice leaves the recorded move unchanged and sets no deadline of descriptor d; or it
+-- sets only the other side's deadline, and becomes the recorded move unless there is an earlier
+-- one.
 abbrev pub MoveFrom : ℕ → ℕ → Side → Notice → Option StepBy → Option StepBy → Type 0
 MoveFrom n d side x old new =
     ((new ≡ old) × ((g : ℕ) (mode : Mode) → x ≢ notices.SetDeadline g d mode))
     ⊎ ((g : ℕ) × (mode : Mode) × (x ≡ notices.SetDeadline g d mode) × (names_side mode side ≡ false) × (new ≡ Some (option_map_or (λ first. first) old (record { step = n; goroutine = g }))))
 
--- The origin of a setting: this step set the deadline; or the setting existed before, and only its
--- move may be new.
+-- The source of a setting: either this step set the deadline, or an earlier step did, and this step
+-- changed at most the recorded move.
 pub data SettingFrom (n d : ℕ) (side : Side) (x : Notice) (a : Option Account) (setting : Setting) : Type 0 where
   Fresh : (g : ℕ) (mode : Mode) → x ≡ notices.SetDeadline g d mode → names_side mode side ≡ true → setting.by ≡ record { step = n; goroutine = g } → setting.mode ≡ mode → setting.moved ≡ None → SettingFrom n d side x a setting
   Old : (old : Setting) → side_setting side a ≡ Some old → setting.by ≡ old.by → setting.mode ≡ old.mode → ((g : ℕ) (mode : Mode) → x ≡ notices.SetDeadline g d mode → names_side mode side ≡ true → ⊥)
@@ -223,7 +225,7 @@ set_on n d side x (Some y) set unopened =
     let next = next_is_set n d side x (set_of side y.deadlines) unopened set in
     (next.0, next_of_setting n d side x y ∙ next.1)
 
--- a step that sets the deadline of a side leaves the side with a setting
+-- after a step sets the deadline of a side, the side has a setting
 pub set_now : (n d g : ℕ) (mode : Mode) (side : Side) (y : Account) → names_side mode side ≡ true → IsSet side (account_after n d (notices.SetDeadline g d mode) (Some y))
 set_now n d g mode side y names = by (d == d) (names_side mode side) refl names
   where

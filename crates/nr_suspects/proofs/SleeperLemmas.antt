@@ -1,4 +1,5 @@
--- The list of sleepers grows descriptor by descriptor, is exact, and follows from the notebook too.
+-- The list of sleepers grows descriptor by descriptor, is exact, and can also be computed from the
+-- notebook.
 use Rattle.std.proofs.Common.{◌≡◌, inl, inr, ℕ, zero, suc, ◌+◌, ◌-◌, ◌<◌, ◌/◌, ◌%◌, ◌&&◌, Bool, true, false, List, [], ◌∷◌, ◌++◌, length, Option, Some, None, refl, ap, subst, sym, ◌∙◌, add-one, arith}
 use Rattle.std.specs.Prelude.{Contains, ◌==◌, if◌then◌else◌, nat_lt, option_map, option_and_then, slice_get}
 use Rattle.std.specs.Option.{option_or}
@@ -159,7 +160,7 @@ code_by closing passed error = if closing then 1 else (if passed then 2 else (if
 some_none : {A : Type 0} (why : Reason) → Some why ≡ None → A
 some_none why e = absurd (none-some _ (sym e))
 
--- if a check is no reason to end a wait, its code is 0
+-- if the code of a check gives no reason to end a wait, the code is 0
 code_is_none : (closing passed error : Bool) → reason_of_code (code_by closing passed error) ≡ None → code_by closing passed error ≡ 0
 code_is_none true passed error e = some_none why.Closing e
 code_is_none false true error e = some_none why.Deadline e
@@ -198,7 +199,7 @@ none_if_none r n g d side row fits none parked at =
       λ socket there. has_nothing side socket (sym (ap (option_and_then (reason_of_socket side)) there) ∙ both.1),
     )
 
--- ---- the reasons, from the notebook
+-- ---- the reasons, computed from cells and accounts
 
 closing_of_info : (x : Descriptor) → (summary x % 2 == 1) ≡ x.closing
 closing_of_info x =
@@ -240,8 +241,8 @@ sockets_show : (w : World) (s : ℕ) (side : Side) (o : Option Socket) → slice
 sockets_show w s side None at = refl
 sockets_show w s side (Some socket) at = socket_shows w s side socket at
 
--- the reason computed from a descriptor's account and the sockets' other ends is the reason
--- computed from its row
+-- Two computations of the reason to wake a goroutine agree: one uses the descriptor's account and
+-- the sockets' other ends, the other the descriptor's row.
 account_shows : (w : World) (d : ℕ) (side : Side) (peers : ℕ → Option Peer) (a : Option Account) (o : Option DescriptorRow) → slice_get w.descriptors d ≡ o → ((s : ℕ) → peers s ≡ option_map peer_of (slice_get w.sockets s))
     → option_map (λ (y : Account). y.socket) a ≡ option_map (λ (row : DescriptorRow). row.descriptor.socket) o → option_and_then (reason_of_account w d side peers) a ≡ option_and_then (reason_of_row w side) o
 account_shows w d side peers None None at ends same = refl
@@ -261,7 +262,7 @@ pub kept_shows : (w : World) (kept : ℕ → Option Account) (peers : ℕ → Op
     → option_map (λ (y : Account). y.socket) (kept d) ≡ option_map (λ (row : DescriptorRow). row.descriptor.socket) (slice_get w.descriptors d) → reason_kept w kept peers d side ≡ reason w d side
 kept_shows w kept peers d side ends same = account_shows w d side peers (kept d) (slice_get w.descriptors d) refl ends same
 
--- equal reasons make equal lists
+-- if the reasons at each side are equal, so are the lists of sleepers
 pub sleepers_same : (n : ℕ) (w : World) (f g : ℕ → Side → Option Reason) (k : ℕ) → ((d : ℕ) (side : Side) → d < k → f d side ≡ g d side) → sleepers_below n w f k ≡ sleepers_below n w g k
 sleepers_same n w f g zero same = refl
 sleepers_same n w f g (suc k) same =

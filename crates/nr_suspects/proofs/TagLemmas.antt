@@ -164,7 +164,8 @@ closed_tag x =
     at_most : {n : ℕ} → n ≡ x.fdseq + 1 → x.fdseq + 1 ≤ n
     at_most is = omega (arith, is)
 
--- replacing a row by one with a tag that isn't lower keeps tags at least t
+-- if a descriptor's tag is at least t, it still is after a row is replaced by one with an equal or
+-- higher tag
 row_rises : (t d e : ℕ) (w : World) (row new : DescriptorRow) → slice_get w.descriptors e ≡ Some row → row.descriptor.fdseq ≤ new.descriptor.fdseq → AtLeast t d w
     → (y : DescriptorRow) × (slice_get (slice_set w.descriptors e new) d ≡ Some y) × (t ≤ y.descriptor.fdseq)
 row_rises t d e w row new at more was =

@@ -1,5 +1,5 @@
--- Each lost wake-up names the step that took its readiness, because readiness remains until a step
--- takes it.
+-- Each lost wake-up names the step that consumed its readiness notification, because the
+-- notification remains until a step consumes it.
 use Rattle.std.proofs.Common.{◌≡◌, ◌≢◌, ℕ, zero, suc, Bool, true, false, ◌⊎◌, inl, inr, Option, Some, None, Ok, refl, sym, ap, subst, ◌∙◌, arith, true≢false}
 use Rattle.std.specs.Prelude.{Contains, ◌==◌, if◌then◌else◌, option_map}
 use Rattle.std.proofs.lemmas.Bool.{eqb-false, eqb-true}
@@ -39,8 +39,9 @@ use Rattle.nr_suspects.proofs.ReadinessLemmas.{event_makes_ready, taken_by_three
 abbrev IsAt : Visit → ℕ → Side → Type 0
 IsAt v d side = (v.descriptor ≡ d) × (v.side ≡ side)
 
--- The origin of a debt after a notice: its event came with this notice; or this notice took its
--- readiness; or the debt existed before, and this notice didn't take its readiness.
+-- The source of a debt after a notice. `Fresh`: the notice is the debt's event. `TakenNow`: the
+-- debt existed before, and the notice says that a goroutine consumed the readiness notification of
+-- its side. `Old`: the debt existed before, and the notice says no such thing.
 data DebtFrom (n d : ℕ) (side : Side) (x : Notice) (a : Option Account) (b : Debt) : Type 0 where
   Fresh : Comes d side x → b ≡ record { event = n; taken = None } → DebtFrom n d side x a b
   TakenNow : (v : Visit) (old : Debt) → x ≡ notices.TookReadiness v → IsAt v d side → debt_of side a ≡ Some old → b ≡ taken_by n v.goroutine old → DebtFrom n d side x a b
@@ -164,7 +165,7 @@ debt_from n d side notices.Nothing None b at = cc
 -- ---- over a recording
 
 module _ (r : Recording) (d : ℕ) (side : Side) where
-  -- readiness remains until a step takes it
+  -- the readiness notification remains until a step consumes it
   ready_on : (w next : World) (step : Step) (answer : Answer) (n : ℕ) → outcome w step ≡ Ok (answer, next) → is_ready w d side ≡ true
       → ((v : Visit) → notice w step answer next ≡ notices.TookReadiness v → ¬ IsAt v d side) → ((s : ℕ) → notice w step answer next ≢ notices.Opened d s) → is_ready next d side ≡ true
   ready_on w next step answer n is ready untaken unopened = by (is_ready next d side) refl
@@ -194,7 +195,7 @@ module _ (r : Recording) (d : ℕ) (side : Side) where
           ∙ ready_on w next step answer n came (before there none) (λ v took. untaken v (noticed ∙ took)) (λ s opened. unopened s (noticed ∙ opened))
       go (Old there untaken unopened) before (Stays same quiet) = ap (λ x. is_ready x d side) same ∙ before there none
 
-  -- the step that a debt names took the readiness
+  -- the step that a debt names consumed the readiness notification
   taking_is : (n : ℕ) (b : Debt) (t : StepBy) → debt r d side n ≡ Some b → b.taken ≡ Some t → IsTaking r n d side b.event t
   taking_is zero b t is some = cc
   taking_is (suc n) b t is some = go (debt_from (suc n) d side (notice_at r n) (account r d n) b is) (taking_is n b t)
@@ -220,7 +221,7 @@ module _ (r : Recording) (d : ℕ) (side : Side) where
           }
       go (Old there untaken unopened) before = on (before there some)
 
--- each lost wake-up names the step that took its readiness
+-- each lost wake-up names the step that consumed its readiness notification
 pub names_taking : (r : Recording) (n : ℕ) (lost : LostWakeUp) → WellFormed (world_at r n) → Contains (lost_wake_ups r n) lost
     → (taken : StepBy) × (lost.taken ≡ Some taken) × IsTaking r n lost.descriptor lost.side lost.event taken
 names_taking r n lost fits at = by is.owed.0.taken refl

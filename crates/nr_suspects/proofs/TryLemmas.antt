@@ -23,7 +23,7 @@ positive n some = grind (arith, some)
 none_some : {A : Type 0} (why : Reason) → Some why ≡ None → A
 none_some why e = absurd (none-some _ (sym e))
 
--- the answer to a read, and the reason to wake a reader, by the number of bytes that can be read
+-- a read is answered `Again` if and only if there is no reason to wake a reader
 got_or_again : (k bytes : ℕ) (a b closed : Bool) → nat_lt 0 k ≡ a → nat_lt 0 bytes ≡ b → a ≡ b → (read_answer k closed ≡ answers.Again) ↔ (reason_to_read bytes closed ≡ None)
 got_or_again k bytes true true closed got there same = (
   λ e. absurd (differ (sym (ap (λ x. if x then answers.Got k else (if closed then answers.Eof else answers.Again)) got) ∙ e)),
@@ -65,8 +65,7 @@ pub read_again : (w : World) (g s n : ℕ) (socket : Socket) (answer : Answer) (
     → (answer ≡ answers.Again) ↔ (reason_of_socket Read socket ≡ None)
 read_again w g s n socket answer next there is = (read_answers w g s n socket there).value (answer, next) is
 
--- the answer to a write, and the reason to wake a writer, by the number of bytes that can be
--- written
+-- a write is answered `Again` if and only if there is no reason to wake a writer
 put_or_again : (k room : ℕ) (a b shut : Bool) → nat_lt 0 k ≡ a → nat_lt 0 room ≡ b → (shut ≡ false → a ≡ b) → (write_answer k shut ≡ answers.Again) ↔ (reason_to_write shut room ≡ None)
 put_or_again k room a b true put there same = (λ e. cc, λ e. none_some why.Shut e)
 put_or_again k room true true false put there same = (

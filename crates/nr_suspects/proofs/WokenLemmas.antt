@@ -1,5 +1,5 @@
--- A goroutine that a deadline woke is recorded together with the setting of that deadline, so each
--- deadline that is set again too soon is listed.
+-- If a goroutine is recorded as woken by a deadline, the step that set the deadline is recorded
+-- too. So each deadline that is set again too soon is listed.
 use Rattle.std.proofs.Common.{◌≡◌, ◌≢◌, ℕ, zero, suc, ◌<◌, ◌++◌, [], Bool, true, false, ◌⊎◌, inl, inr, Option, Some, None, refl, sym, ap, subst, ◌∙◌}
 use Rattle.std.specs.Prelude.{Contains, ◌==◌, if◌then◌else◌}
 use Rattle.std.specs.Option.{option_map_or}
@@ -63,8 +63,8 @@ from_set : (n g : ℕ) (mode : Mode) (side : Side) (deadlines : Sides Deadline) 
 from_set n g mode Read deadlines h e = set_cases _ _ deadlines.read h (names_side mode Read) e
 from_set n g mode Write deadlines h e = set_cases _ _ deadlines.write h (names_side mode Write) e
 
--- The origin of the goroutine recorded as woken after a notice: the deadline passed with this
--- notice, or a goroutine was recorded before.
+-- Why a goroutine is recorded as woken after a notice: either the notice says that the deadline
+-- passed, or a goroutine was already recorded.
 data WokenFrom (d : ℕ) (side : Side) (x : Notice) (a : Option Account) : Type 0 where
   Now : (passings : Sides (Option Passing)) (p : Passing) → x ≡ notices.PassedDeadline d passings → of_side side passings ≡ Some p → WokenFrom d side x a
   Before : (h : ℕ) → woken_of side a ≡ Some h → ((s : ℕ) → x ≢ notices.Opened d s) → WokenFrom d side x a
@@ -130,7 +130,7 @@ woken_from n d side (notices.SocketOpened sock room) None h at = absurd (none-so
 woken_from n d side (notices.PeerClosed sock) None h at = absurd (none-some _ at)
 woken_from n d side notices.Nothing None h at = absurd (none-some _ at)
 
--- a goroutine is recorded as woken only together with the setting of its deadline
+-- if a goroutine is recorded as woken, the step that set the deadline is recorded too
 pub woken_is_set : (r : Recording) (d : ℕ) (side : Side) (n h : ℕ) → woken_of side (account r d n) ≡ Some h → IsSet side (account r d n)
 woken_is_set r d side zero h at = absurd (none-some _ at)
 woken_is_set r d side (suc n) h at = go (woken_from (suc n) d side (notice_at r n) (account r d n) h at) (woken_is_set r d side n)
@@ -143,7 +143,8 @@ woken_is_set r d side (suc n) h at = go (woken_from (suc n) d side (notice_at r 
         differ s f = cc
     go (Before k was unopened) kept = set_on (suc n) d side (notice_at r n) (account r d n) (kept k was) unopened
 
--- a deadline that is set again before the goroutine that it woke has checked its side is listed
+-- the findings list each deadline that woke a goroutine and was set again before that goroutine
+-- checked its side
 pub taken_back_is_listed : (r : Recording) (n k d g : ℕ) (side : Side) → k < n → d < r.limits.descriptors → Comes r k d side (TakenBack g)
     → (found : DeadlineFinding) × Contains (deadline_findings r n) found × IsOf k d side (TakenBack g) found
 taken_back_is_listed r n k d g side below few comes = (

@@ -24,7 +24,7 @@ pub record IsNotedAt (d n : ℕ) (notice : Notice) (old new : List (Option Accou
       → slice_get new d ≡ Some (account_after n d notice a)
   pub elsewhere : (e : ℕ) → e ≢ d → slice_get new e ≡ slice_get old e
 
--- each place was updated with a try of socket s, made at a side and answered `Again`
+-- each place was updated with the notice that a read or a write of socket s was answered `Again`
 pub record IsTryNoted (s : ℕ) (side : Side) (old new : List (Option Account)) : Type 0 where
   pub places : length new ≡ length old
   pub each : (d : ℕ) (a : Option Account) → slice_get old d ≡ Some a

@@ -1,5 +1,5 @@
--- What happened to deadlines: a deadline passed, it ended a call, or it was set again before the
--- goroutine that it woke had checked its side.
+-- What happened to a deadline: it passed; it ended a call; or it woke a goroutine and was set again
+-- before that goroutine checked its side.
 use Rattle.std.specs.Prelude.{◌≡◌, ◌≢◌, ℕ, zero, suc, ◌<◌, ◌==◌, nat_lt, if◌then◌else◌, List, [], ◌∷◌, ◌++◌, Option, Some, None, option_and_then, option_map, IsTrue, false, codes, decimal}
 use Rattle.std.specs.Option.{option_map_or}
 use Rattle.nr_rev.specs.declared.sides.Mode.{Mode}
@@ -48,13 +48,13 @@ finding n d side consequence a =
       setting = setting;
     } ∷ []) (side_setting side a) []
 
--- the finding that the deadline passed, if the notice has a passing for this side
+-- the finding that this side's deadline passed, if it did
 abbrev pub passed_at : ℕ → ℕ → Side → Option Passing → Option Account → List DeadlineFinding
 passed_at n d side None a = []
 passed_at n d side (Some passing) a = finding n d side Passed a
 
--- the finding that the deadline was set again before the goroutine that it woke had checked its
--- side
+-- the finding that the deadline woke a goroutine and was set again before that goroutine checked
+-- its side, if this happened
 abbrev pub taken_back_at : ℕ → ℕ → Mode → Side → Option Account → List DeadlineFinding
 taken_back_at n d mode side a =
     if names_side mode side
@@ -85,13 +85,13 @@ deadline_findings r (suc n) =
 
 -- ---- in words
 
--- the step after position n is one of goroutine g and sets the deadline of a side of descriptor d
+-- in the step after position n, goroutine g sets the deadline of a side of descriptor d
 abbrev pub IsSetting : Recording → ℕ → Side → ℕ → ℕ → Mode → Type 0
 IsSetting r d side n g mode =
     (notice_at r n ≡ SetDeadline g d mode) × IsTrue (names_side mode side)
 
--- the step after position n is one of goroutine g and sets only the deadline of the other side of
--- descriptor d
+-- in the step after position n, goroutine g sets a deadline of descriptor d, but only that of the
+-- other side
 abbrev pub IsMove : Recording → ℕ → Side → ℕ → ℕ → Type 0
 IsMove r d side n g =
     (mode : Mode) × (notice_at r n ≡ SetDeadline g d mode) × (names_side mode side ≡ false)
@@ -115,10 +115,10 @@ pub record IsSetBy (r : Recording) (n d : ℕ) (side : Side) (setting : Setting)
   pub unopened : (k s : ℕ) → at < k → k < n → notice_at r k ≢ Opened d s
   pub moved : IsFirstMove r at n d side setting.moved
 
--- The step after position n has this consequence for the deadline of a side of descriptor d: a
--- timer ran and the deadline passed; a call checked the side and got the code for a deadline that
--- has passed; or the deadline was set again before the goroutine that it had woken checked its
--- side.
+-- The step after position n has this consequence for the deadline of a side of descriptor d.
+-- `Passed`: a timer ran, and the deadline passed. `EndedCall`: a call checked the side and got the
+-- code for a passed deadline. `TakenBack`: the deadline had woken a goroutine, and was set again
+-- before that goroutine checked its side.
 abbrev pub Comes : Recording → ℕ → ℕ → Side → Consequence → Type 0
 Comes r n d side Passed =
     (passings : Sides (Option Passing)) × (passing : Passing)
@@ -129,8 +129,8 @@ Comes r n d side (TakenBack woken) =
     (g : ℕ) × (mode : Mode) × IsSetting r d side n g mode
     × (woken_of side (account r d n) ≡ Some woken)
 
--- A finding is correct: its step had that consequence for the deadline, and the step that it names
--- had set the deadline.
+-- A finding is correct: the step at its position had its consequence for the deadline, and the step
+-- in `setting` had set that deadline.
 pub record IsFinding (r : Recording) (n : ℕ) (found : DeadlineFinding) : Type 0 where
   pub at : ℕ
   pub before : at < n

@@ -1,4 +1,5 @@
--- The debt of an event: the goroutine that waits at its side must try the socket before it sleeps.
+-- Debts: after an event for a side, a read or a write of the socket must be answered `Again` before
+-- a goroutine sleeps at that side. Until then, the side has a debt.
 use Rattle.std.specs.Prelude.{◌≡◌, ◌⊎◌, ℕ, zero, suc, ◌<◌, ◌==◌, if◌then◌else◌, Option, Some, None, option_map, option_and_then, IsTrue}
 use Rattle.nr_rev.specs.declared.sides.Mode.{Mode}
 use Rattle.nr_rev.specs.declared.sides.Side.{Side}
@@ -32,11 +33,11 @@ with_event n mode a = record a {
   };
 }
 
--- the debt after goroutine g took the event's readiness in step n
+-- the debt after goroutine g consumed the event's readiness notification in step n
 abbrev pub taken_by : ℕ → ℕ → Debt → Debt
 taken_by n g debt = record debt { taken = Some (record { step = n; goroutine = g }) }
 
--- the account after the visiting goroutine took the readiness of its side in step n
+-- the account after the visiting goroutine consumed its side's readiness notification in step n
 abbrev pub with_taking : ℕ → Visit → Account → Account
 with_taking n v a =
     let debt : Option Debt = option_map (taken_by n v.goroutine) (of_side v.side a.debts) in
@@ -72,8 +73,8 @@ abbrev pub account : Recording → ℕ → ℕ → Option Account
 account r d zero = None
 account r d (suc n) = account_after (suc n) d (notice_at r n) (account r d n)
 
--- the debt of a side of descriptor d at position n: the step of the event, and the step that took
--- the readiness
+-- the debt of a side of descriptor d at position n: the step of the event, and the step that
+-- consumed the readiness notification
 abbrev pub debt : Recording → ℕ → Side → ℕ → Option Debt
 debt r d side n = option_and_then (λ (a : Account). of_side side a.debts) (account r d n)
 
@@ -95,8 +96,8 @@ IsPayment r d side n =
     ((s : ℕ) × (notice_at r n ≡ Opened d s))
     ⊎ ((s : ℕ) × (notice_at r n ≡ Tried s side) × (socket_at r d n ≡ Some s))
 
--- A side of descriptor d owes a try at position n: an event came for the side, and no step has
--- settled the debt since.
+-- A side of descriptor d has a debt at position n: an event came for the side, and no later step
+-- has settled the debt (`IsPayment`).
 pub record Owed (r : Recording) (n d : ℕ) (side : Side) : Type 0 where
   pub event : ℕ
   pub before : event < n

@@ -36,14 +36,15 @@ held_of_one n s g status h =
       is_gone = is_gone status;
     } ∷ [] else []
 
--- the references to socket s that the goroutines below k hold, from the holding of each goroutine
+-- the references to socket s that the goroutines below k hold; `held` gives the counts of each
+-- goroutine
 abbrev pub held_of_goroutines : ℕ → World → ℕ → (ℕ → Holding) → ℕ → List HeldReference
 held_of_goroutines n w s held zero = []
 held_of_goroutines n w s held (suc k) =
     held_of_goroutines n w s held k ++ held_of_one n s k (cell w (Cell.Goroutine k)) (held k)
 
--- the held references to the sockets below k that are closed and not freed, among this many
--- goroutines
+-- the references that the first `goroutines` goroutines hold to closed sockets below k that aren't
+-- freed
 abbrev pub held_of_sockets : ℕ → World → (ℕ → ℕ → Holding) → ℕ → ℕ → List HeldReference
 held_of_sockets n w held goroutines zero = []
 held_of_sockets n w held goroutines (suc k) =

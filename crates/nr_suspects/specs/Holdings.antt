@@ -7,19 +7,19 @@ use Rattle.nr_suspects.specs.declared.notice.Notice.{Notice}
 use Rattle.nr_suspects.specs.declared.notice.Notice.TheVariants.{TookReference, GaveReference}
 use Rattle.nr_suspects.specs.Notices.{notice_at}
 
--- the holding of a goroutine that took and returned nothing
+-- the counts of a goroutine that took and returned no references
 abbrev pub none_held : Holding
 none_held = record { taken = 0; given = 0; since = 0 }
 
--- the holding after the step with this number took another reference
+-- the counts after one more reference was taken, in the step with this number
 abbrev pub one_taken : ℕ → Holding → Holding
 one_taken n h = record h { taken = h.taken + 1; since = n }
 
--- the holding after another reference was returned
+-- the counts after one more reference was returned
 abbrev pub one_given : Holding → Holding
 one_given h = record h { given = h.given + 1 }
 
--- the holding of goroutine g at socket s after the step with this number
+-- the counts of goroutine g for socket s after the step with this number
 abbrev pub holding_after : ℕ → ℕ → ℕ → Notice → Holding → Holding
 holding_after n g s (TookReference h k) held =
     if (g == h) && (s == k) then one_taken n held else held
@@ -35,11 +35,11 @@ holding r g s (suc n) = holding_after (suc n) g s (notice_at r n) (holding r g s
 
 -- ---- the ledger
 
--- the holding of goroutine g at socket s, if the ledger has a place for it
+-- the counts of goroutine g for socket s, if the ledger has a place for them
 abbrev pub place : List (List Holding) → ℕ → ℕ → Option Holding
 place rows s g = option_and_then (λ row. slice_get row g) (slice_get rows s)
 
--- the holding of goroutine g at socket s, which is empty if the ledger has no place for it
+-- the counts of goroutine g for socket s, or zero counts if the ledger has no place for them
 abbrev pub holding_of : List (List Holding) → ℕ → ℕ → Holding
 holding_of rows s g = option_map_or (λ h. h) (place rows s g) none_held
 
@@ -70,7 +70,8 @@ abbrev pub AreHeld : ℕ → Notice → List (List Holding) → List (List Holdi
 AreHeld n notice old new =
     (s g : ℕ) → place new s g ≡ option_map (holding_after n g s notice) (place old s g)
 
--- each socket and goroutine has a place, with its holding at position n of a recording
+-- for each socket and goroutine, the ledger has a place with their counts at position n of a
+-- recording
 pub record AreHoldings (r : Recording) (n : ℕ) (rows : List (List Holding)) : Type 0 where
   pub there : (s g : ℕ) → s < r.limits.sockets → g < r.limits.goroutines
       → place rows s g ≡ Some (holding r g s n)

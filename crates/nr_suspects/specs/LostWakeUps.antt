@@ -1,4 +1,5 @@
--- Lost wake-ups: a goroutine sleeps at a side that owes a try.
+-- Lost wake-ups: a goroutine is parked at a side although an event came for the side, and no read
+-- or write since then was answered `Again`.
 use Rattle.std.specs.Prelude.{◌≡◌, ◌⊎◌, ℕ, zero, suc, ◌<◌, List, [], ◌∷◌, ◌++◌, Option, Some, None, option_and_then, codes, decimal}
 use Rattle.nr_rev.specs.declared.answer.Answer.{Answer}
 use Rattle.nr_rev.specs.declared.cell_value.CellValue.{CellValue}
@@ -23,13 +24,13 @@ use Rattle.nr_suspects.specs.declared.notice.Notice.TheVariants.{Opened, TookRea
 use Rattle.nr_suspects.specs.Notices.{notice, notice_at, word_cell}
 
 -- Goroutine g has lost a wake-up at position n: it is parked at a side of descriptor d, and the
--- side owes a try.
+-- side has a debt.
 pub record HasLost (r : Recording) (n g d : ℕ) (side : Side) : Type 0 where
   pub parked : HasView parked_of (world_at r n).goroutines g (d, side)
   pub owed : Owed r n d side
 
--- A step took the readiness of a side of descriptor d, or reopened the descriptor. The steps that
--- take readiness are a reset and the two steps of a wait that consume the word.
+-- A step consumed the readiness notification of a side of descriptor d, or reopened the descriptor.
+-- Three kinds of steps consume it: a reset, and the two steps of a wait that consume the word.
 pub data IsTakenBy (w : World) (step : Step) (answer : Answer) (next : World) (d : ℕ)
     (side : Side) : Type 0 where
   Anew : (s : ℕ) → notice w step answer next ≡ Opened d s → IsTakenBy w step answer next d side
@@ -40,7 +41,8 @@ pub data IsTakenBy (w : World) (step : Step) (answer : Answer) (next : World) (d
       ⊎ (kind_of step ≡ Kind.BlockSwap)
       → IsTakenBy w step answer next d side
 
--- This step took the readiness of a side of descriptor d after an event and before position n.
+-- This step consumed the readiness notification of a side of descriptor d after an event and before
+-- position n.
 pub record IsTaking (r : Recording) (n d : ℕ) (side : Side) (event : ℕ) (taken : StepBy) :
     Type 0 where
   pub at : ℕ
@@ -52,8 +54,8 @@ pub record IsTaking (r : Recording) (n d : ℕ) (side : Side) (event : ℕ) (tak
 
 -- ---- all lost wake-ups
 
--- the lost wake-up of the goroutine that a word with this value holds, if it holds one and the side
--- has a debt
+-- the lost wake-up of the goroutine in the word, if the word holds a goroutine and the side has a
+-- debt
 abbrev pub lost_by : ℕ → ℕ → Side → CellValue → Option Debt → List LostWakeUp
 lost_by n d side (CellValue.WaitWord (Held g)) (Some debt) =
     record {
@@ -66,7 +68,7 @@ lost_by n d side (CellValue.WaitWord (Held g)) (Some debt) =
     } ∷ []
 lost_by n d side word debt = []
 
--- the lost wake-up at a side of descriptor d, which has this account
+-- the lost wake-up, if any, at a side of descriptor d; `a` is the descriptor's account
 abbrev pub lost_at : ℕ → World → ℕ → Option Account → Side → List LostWakeUp
 lost_at n w d a side =
     lost_by n d side (cell w (word_cell d side))
@@ -97,7 +99,7 @@ event_text lost =
     ++ (codes " desc " ++ (decimal lost.descriptor ++ (side_letter lost.side
     ++ (codes " event " ++ decimal lost.event)))))))
 
--- the text ` taken 66 by 2`, or no text if no step took the readiness
+-- the text ` taken 66 by 2`, or no text if no step consumed the readiness notification
 abbrev pub taken_text : Option StepBy → List ℕ
 taken_text None = []
 taken_text (Some taken) =

@@ -1,4 +1,4 @@
--- Notices: the effects of a step that the hunts use.
+-- Notices: the effects of a step from which suspects are found.
 use Rattle.std.specs.Prelude.{ℕ, Bool, true, false, ◌&&◌, not, if◌then◌else◌, Option, Some, None, option_map, slice_get, Ok, Err}
 use Rattle.std.specs.Option.{option_map_or}
 use Rattle.nr_rev.specs.contracts.answer.AnswerPartialEq.TheImpl as answer_eq
@@ -21,7 +21,7 @@ use Rattle.nr_suspects.specs.declared.notice.Notice.TheVariants.{Opened, Event, 
 use Rattle.nr_suspects.specs.declared.notice.Passing.{Passing}
 use Rattle.nr_suspects.specs.declared.notice.Visit.{Visit}
 
--- the cell of the wait word of a side of descriptor d
+-- the cell that holds the wait word for this side of descriptor d
 abbrev pub word_cell : ℕ → Side → Cell
 word_cell d Read = Cell.ReadWord d
 word_cell d Write = Cell.WriteWord d
@@ -41,11 +41,11 @@ abbrev pub wait_place : CellValue → Option (ℕ × Side)
 wait_place (CellValue.Status status) = wait_of status
 wait_place _ = None
 
--- the visit of goroutine g to this side
+-- goroutine g with the descriptor and side at this place, if any
 abbrev pub visit_at : ℕ → Option (ℕ × Side) → Option Visit
 visit_at g = option_map (λ place. record { goroutine = g; descriptor = place.0; side = place.1 })
 
--- the visit of goroutine g to the side at which it waits, if it waits
+-- goroutine g with the descriptor and side at which it waits, if it waits
 abbrev pub visit_of : World → ℕ → Option Visit
 visit_of w g = visit_at g (wait_place (cell w (Cell.Goroutine g)))
 
@@ -60,22 +60,23 @@ visit w (Step.BlockSwap g) = visit_of w g
 visit w (Step.WaitCheck g) = visit_of w g
 visit w _ = None
 
--- true if the step took the readiness of a visited side: the word was `ready` before the step, and
--- isn't after it
+-- true if the step consumed the readiness notification of the visited side: the word was `ready`
+-- before the step, and isn't after it
 abbrev pub is_taken : World → World → Visit → Bool
 is_taken w next v = is_ready w v.descriptor v.side && not (is_ready next v.descriptor v.side)
 
--- the notice of a check of a visited side, if the answer is a code
+-- the notice that the visiting goroutine checked its side and got a code, if the answer is a code
 abbrev pub checking : Visit → Answer → Notice
 checking v (Code code) = Checked v code
 checking v _ = Nothing
 
--- the notice of a step that visits a side: it took the readiness or checked the side
+-- the notice of a step that visits a side: it consumed the readiness notification or checked the
+-- side
 abbrev pub visiting : World → World → Answer → Option Visit → Notice
 visiting w next answer None = Nothing
 visiting w next answer (Some v) = if is_taken w next v then TookReadiness v else checking v answer
 
--- the cell of the deadline of a side of descriptor d
+-- the cell that holds the deadline for this side of descriptor d
 abbrev pub deadline_cell : ℕ → Side → Cell
 deadline_cell d Read = Cell.ReadDeadline d
 deadline_cell d Write = Cell.WriteDeadline d
@@ -94,8 +95,8 @@ abbrev pub held_goroutine : CellValue → Option ℕ
 held_goroutine (CellValue.WaitWord (Held g)) = Some g
 held_goroutine _ = None
 
--- the passing of a side's deadline, if it hadn't passed before the step and has passed after it;
--- the goroutine in the word is woken
+-- If the deadline of a side passed in this step, the goroutine that the passing wakes: the one that
+-- the side's word held before the step, if any. `None` if the deadline didn't pass in this step.
 abbrev pub passing : World → World → ℕ → Side → Option Passing
 passing w next d side =
     if not (has_passed w d side) && has_passed next d side

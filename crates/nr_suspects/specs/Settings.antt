@@ -15,7 +15,8 @@ use Rattle.nr_suspects.specs.declared.setting.StepBy.{StepBy}
 abbrev pub never_set : Deadline
 never_set = record { setting = None; woken = None }
 
--- the setting after a step set only the other side's deadline; the first such step is recorded
+-- the setting, updated for a later step that set only the other side's deadline; only the first
+-- such step is recorded
 abbrev pub moved_since : StepBy → Setting → Setting
 moved_since by setting =
     record setting { moved = Some (option_map_or (λ first. first) setting.moved by) }
@@ -35,12 +36,12 @@ after_setting n g mode old =
     let by : StepBy = record { step = n; goroutine = g } in
     record { read = set_by by mode Read old.read; write = set_by by mode Write old.write }
 
--- the deadline of a side after this passing, if any, with the goroutine that it woke
+-- the deadline of a side, updated if it passed: it then records which goroutine was woken
 abbrev pub passed_with : Option Passing → Deadline → Deadline
 passed_with None old = old
 passed_with (Some passing) old = record old { woken = passing.woken }
 
--- the deadlines of both sides after these passings
+-- the deadlines of both sides, updated for those that passed
 abbrev pub after_passing : Sides (Option Passing) → Sides Deadline → Sides Deadline
 after_passing passings old =
     record {

@@ -58,8 +58,8 @@ reason_of_row w side row =
 abbrev pub reason : World → ℕ → Side → Option Reason
 reason w d side = option_and_then (reason_of_row w side) (slice_get w.descriptors d)
 
--- Goroutine g sleeps on: it is parked at a side of descriptor d although it should have been woken,
--- for this reason.
+-- Goroutine g is parked at a side of descriptor d although it should have been woken; `why` is the
+-- reason to wake it.
 pub record SleepsOn (w : World) (g d : ℕ) (side : Side) (why : Reason) : Type 0 where
   pub parked : HasView parked_of w.goroutines g (d, side)
   pub has_reason : reason w d side ≡ Some why
@@ -71,8 +71,8 @@ HasNothing Write socket = (socket.shut ≡ false) × (room_of socket.buffers.wri
 
 -- ---- all sleepers
 
--- the sleeper entry of the goroutine that a word with this value holds, if there is a reason to
--- wake it
+-- the entry for the goroutine in the word, if the word holds a goroutine and a reason to wake that
+-- goroutine exists
 abbrev pub sleeper_by : ℕ → ℕ → Side → CellValue → Option Reason → List Sleeper
 sleeper_by n d side (CellValue.WaitWord (Held g)) (Some why) =
     record {
@@ -99,29 +99,30 @@ sleepers_below n w reasons (suc k) =
 abbrev pub sleepers : Recording → ℕ → List Sleeper
 sleepers r n = sleepers_below n (world_at r n) (reason (world_at r n)) r.limits.descriptors
 
--- ---- the reasons, from cells and from the notebook
+-- ---- the reasons, computed from cells and accounts
 
 -- the number in a cell's value; 0 if it isn't a number
 abbrev pub number_or_zero : CellValue → ℕ
 number_or_zero (CellValue.Number n) = n
 number_or_zero _ = 0
 
--- the code of a check, from the summary of the descriptor and whether the deadline has passed
+-- the code that a check of a side gets, computed from the descriptor's summary and whether the
+-- deadline has passed
 abbrev pub code_of_info : Side → ℕ → Bool → ℕ
 code_of_info side info passed =
     if info % 2 == 1 then 1 else (if passed then 2
     else (if is_read side && (info / 2 % 2 == 1) then 3 else 0))
 
--- why a goroutine that waits at this side of socket s should stop waiting, from the socket's cells
--- and its other end
+-- the reason why a goroutine should stop waiting at this side of socket s, computed from the
+-- socket's cells and its other end
 abbrev pub reason_by_cells : World → ℕ → Side → Peer → Option Reason
 reason_by_cells w s Read p = reason_to_read (number_or_zero (cell w (Cell.Input s))) p.is_closed
 reason_by_cells w s Write p =
     reason_to_write (number_or_zero (cell w (Cell.Shut s)) == 1)
     (p.capacity - number_or_zero (cell w (Cell.Output s)))
 
--- why a goroutine at a side of descriptor d should be woken, from cells, the descriptor's account
--- and the sockets' other ends
+-- the reason why a goroutine at a side of descriptor d should be woken, computed from cells, the
+-- descriptor's account and the sockets' other ends
 abbrev pub reason_of_account : World → ℕ → Side → (ℕ → Option Peer) → Account → Option Reason
 reason_of_account w d side peers a =
     option_or

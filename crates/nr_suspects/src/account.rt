@@ -13,7 +13,7 @@ use nr_rev::{Mode, Side, Sides};
 pub struct Debt {
     /// The number of the event's step, counted from 1.
     pub event: usize,
-    /// The step that took the event's readiness.
+    /// The step that consumed the event's readiness notification, if a step did.
     pub taken: Option<StepBy>,
 }
 
@@ -76,7 +76,8 @@ impl Account {
         }
     }
 
-    // Returns the account after the visiting goroutine took the readiness of its side in the step.
+    // Returns the account after the visiting goroutine consumed its side's readiness notification
+    // in the step.
     fn with_taking(self, step: usize, visit: Visit) -> Account
         ensures { result ≡ with_taking step visit self }
     {
@@ -134,7 +135,8 @@ fn owed_by_event(step: usize, mode: Mode, side: Side, debt: Option<Debt>) -> Opt
     }
 }
 
-// Returns the debt, if any, after the goroutine took the event's readiness in the step.
+// Returns the debt, if any, after the goroutine consumed the event's readiness notification in the
+// step.
 fn taken_by(step: usize, goroutine: u32, debt: Option<Debt>) -> Option<Debt>
     ensures { result ≡ option_map (taken_by step goroutine) debt }
 {

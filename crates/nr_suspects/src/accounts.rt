@@ -75,7 +75,8 @@ impl Accounts {
         }
     }
 
-    // Updates each account with a try of the socket, made at this side and answered `Again`.
+    // Updates each account with the notice that a read or a write of the socket was answered
+    // `Again`.
     fn note_try(&mut self, socket: u32, side: Side)
         ensures { IsTryNoted socket side self.old self.new }
     {

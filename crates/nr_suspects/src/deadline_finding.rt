@@ -1,5 +1,5 @@
-//! What happened to deadlines: a deadline passed, it ended a call, or it was set again before the
-//! goroutine that it woke had checked its side.
+//! What happened to a deadline: it passed; it ended a call; or it woke a goroutine and was set
+//! again before that goroutine checked its side.
 
 ghost use Rattle.std.specs.Prelude.{◌≡◌, ◌++◌, IfOk};
 ghost use Rattle.nr_text.specs.Buffered.{Writes};
@@ -22,7 +22,8 @@ pub enum Consequence {
     Passed,
     /// The deadline ended a call of this goroutine.
     EndedCall(u32),
-    /// The deadline was set again before this goroutine, which it had woken, checked its side.
+    /// The deadline had woken this goroutine, and was set again before the goroutine checked its
+    /// side.
     TakenBack(u32),
 }
 
@@ -37,7 +38,7 @@ pub struct DeadlineFinding {
     pub side: Side,
     /// What happened to the deadline.
     pub consequence: Consequence,
-    /// The setting of the deadline.
+    /// The step that had set the deadline.
     pub setting: Setting,
 }
 
@@ -184,7 +185,7 @@ fn add(
     Ok(())
 }
 
-// Appends the finding that the deadline passed, if the notice has a passing for this side.
+// Appends the finding that this side's deadline passed, if it did.
 fn add_passed(
     step: usize,
     descriptor: u32,
@@ -201,8 +202,7 @@ fn add_passed(
     }
 }
 
-// Appends the finding that the deadline was set again before the goroutine that it woke had checked its side, if that
-// happened.
+// If the deadline woke a goroutine and is set again before that goroutine checked its side, appends this finding.
 fn add_taken_back(
     step: usize,
     descriptor: u32,

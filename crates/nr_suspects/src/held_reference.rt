@@ -103,7 +103,7 @@ fn add_held<W: Worlds>(
     Ok(())
 }
 
-// Appends the references to a socket that the goroutines below this number hold.
+// Appends an entry for each goroutine below this number that holds references to the socket.
 fn add_holders<W: Worlds>(
     world: &W,
     position: usize,
@@ -123,9 +123,9 @@ fn add_holders<W: Worlds>(
     Ok(())
 }
 
-/// Appends the held references to closed sockets in a world at this position, among this many
-/// sockets and goroutines, sorted by socket and then by goroutine. Fails with `Memory` if memory
-/// runs out.
+/// Appends the references that goroutines hold to closed sockets in a world at this position,
+/// sorted by socket and then by goroutine. Looks at the first `sockets` sockets and the first
+/// `goroutines` goroutines. Fails with `Memory` if memory runs out.
 pub fn list_held_references<W: Worlds>(
     world: &W,
     position: usize,

@@ -5,7 +5,7 @@ ghost use Rattle.nr_suspects.specs.Holdings.{holding_after, none_held};
 
 use crate::notice::Notice;
 
-/// The references to a socket that a goroutine took and returned.
+/// How many references to a socket a goroutine took and returned.
 #[derive(Clone, Copy, Debug, PartialEq, Eq)]
 pub struct Holding {
     /// The number of references taken.
@@ -18,7 +18,7 @@ pub struct Holding {
 }
 
 impl Holding {
-    /// The holding of a goroutine that took and returned nothing.
+    /// The counts of a goroutine that took and returned no references.
     pub const NONE: Holding = Holding {
         taken: 0,
         given: 0,
@@ -26,7 +26,7 @@ impl Holding {
     };
 }
 
-// Returns the goroutine's holding of the socket after the step.
+// Returns the goroutine's counts for the socket after the step.
 pub(crate) fn holding_after(
     step: usize,
     goroutine: u32,

@@ -62,15 +62,16 @@ pub fn if_none_is_listed_each_event_was_tried()
         → (k : ℕ) × (event < k) × (k < n) × IsPayment r d side k }
 {}
 
-/// Only a reset and the two steps of a wait that consume the word take readiness; apart from these, only reopening the
-/// descriptor clears it.
+/// Only a reset and the two steps of a wait that consume the word consume a readiness notification. Apart from these,
+/// only reopening the descriptor clears it.
 pub fn three_kinds_take_readiness()
     ensures { (w next : World) (step : Step) (answer : Answer) (d : ℕ) (side : Side)
         → outcome w step ≡ Ok (answer, next) → is_ready w d side ≡ true → is_ready next d side ≡ false
         → IsTakenBy w step answer next d side }
 {}
 
-/// Each listed lost wake-up names the step that took its readiness, which came after the event.
+/// Each listed lost wake-up names the step that consumed its readiness notification. That step came
+/// after the event.
 pub fn each_lost_wake_up_names_its_taking()
     ensures { (r : Recording) (n : ℕ) (lost : LostWakeUp) → WellFormed (world_at r n)
         → Contains (lost_wake_ups r n) lost
@@ -137,9 +138,9 @@ pub fn deadlines_pass_in_time()
 {}
 
 /// The list of findings about deadlines is exact. Each finding is correct about its deadline, its
-/// step, and the step that had set the deadline. The list has each deadline that passes, each call
-/// that a deadline ends (so each timeout), and each deadline that is set again before the goroutine
-/// that it woke has checked its side.
+/// step, and the step that had set the deadline. The list has an entry for each deadline that
+/// passes, and for each call that a deadline ends, which is each timeout. It also has an entry for
+/// each deadline that wakes a goroutine and is set again before that goroutine checks its side.
 pub fn just_what_came_of_deadlines_is_listed()
     ensures listed { (r : Recording) (n : ℕ) (found : DeadlineFinding)
         → Contains (deadline_findings r n) found → IsFinding r n found }

@@ -9,7 +9,8 @@ use nr_rev::Memory;
 use std::alloc::Global;
 use std::marker::Model;
 
-/// The references to each socket that each goroutine took and returned.
+/// For each socket and goroutine: how many references to the socket the goroutine took and
+/// returned.
 #[derive(Drop)]
 pub struct Ledger {
     rows: Vec<Vec<Holding>>,
@@ -37,8 +38,8 @@ impl Ledger {
         Ok(Ledger { rows })
     }
 
-    /// Returns the goroutine's holding of the socket, which is empty if the ledger has no place for
-    /// it.
+    /// Returns the goroutine's counts for the socket, or zero counts if the ledger has no place for
+    /// them.
     pub fn holding_of(&self, socket: u32, goroutine: u32) -> Holding
         ensures { result ≡ holding_of self.now socket goroutine }
     {

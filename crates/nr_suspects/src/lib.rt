@@ -1,4 +1,4 @@
-//! The hunts: lost wake-ups, stale deadlines and leaked references, found from the effects of a recording's steps.
+//! Finds suspects from the effects of a recording's steps: lost wake-ups, stale deadlines and leaked references.
 #![tactic(auto)]
 
 mod account;

@@ -1,4 +1,5 @@
-//! Lost wake-ups: a goroutine sleeps at a side that owes a try.
+//! Lost wake-ups: a goroutine is parked at a side although an event came for the side, and no read
+//! or write since then was answered `Again`.
 
 ghost use Rattle.std.specs.Prelude.{◌≡◌, ◌++◌, ◌≤◌, ◌<◌, ◌+◌, length, option_and_then};
 ghost use Rattle.nr_rev.specs.Sides.{of_side};
@@ -32,7 +33,7 @@ pub struct LostWakeUp {
     pub side: Side,
     /// The number of the event's step, counted from 1.
     pub event: usize,
-    /// The step that took the event's readiness.
+    /// The step that consumed the event's readiness notification, if a step did.
     pub taken: Option<StepBy>,
 }
 
@@ -60,7 +61,7 @@ pub(crate) fn side_name(side: Side) -> &'static [u8]
     }
 }
 
-// Writes which step took the readiness, if a step took it.
+// Writes which step consumed the readiness notification, if a step did.
 fn send_taken<W: Write>(taken: Option<StepBy>, w: &mut Buffered<W>) -> Result<(), WriteFailed>
     ensures { Writes w.old w.new (taken_text taken) result }
 {
@@ -114,7 +115,8 @@ impl Text for LostWakeUp {
 /// A list of lost wake-ups that allocates no memory.
 pub type LostWakeUps = ArrayVec<LostWakeUp, MOST_LOST>;
 
-// Appends the lost wake-up at the side of the descriptor, which has this account, if there is one.
+// Appends the lost wake-up at the side of the descriptor, if there is one. `account` is the
+// descriptor's account.
 fn add_lost<W: Worlds>(
     world: &W,
     position: usize,

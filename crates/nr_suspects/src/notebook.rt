@@ -1,4 +1,4 @@
-//! The notes that the hunts take while the steps of a recording are applied, and the findings at
+//! The notebook takes notes while the steps of a recording are applied, and lists the suspects at
 //! the recording's end.
 
 ghost use Rattle.std.specs.Prelude.{◌≡◌, ◌++◌, ◌≤◌, [], IfOk, OnOk, length, replicate, None};

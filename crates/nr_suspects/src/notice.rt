@@ -1,4 +1,4 @@
-//! Notices: the effects of a step that the hunts use.
+//! Notices: the effects of a step from which suspects are found.
 
 ghost use Rattle.std.specs.Prelude.{◌≡◌, Ok, Err, IfOk, IfErr, OnErr, Some, None, not, ◌&&◌, if◌then◌else◌};
 ghost use Rattle.nr_rev.specs.Cell.{cell};
@@ -20,14 +20,14 @@ pub struct Visit {
     pub side: Side,
 }
 
-/// The passing of a deadline.
+/// Says that a deadline passed.
 #[derive(Clone, Copy, Debug, PartialEq, Eq)]
 pub struct Passing {
     /// The goroutine that was parked at the side and is woken.
     pub woken: Option<u32>,
 }
 
-/// The part of a step's effect that the hunts use.
+/// The part of a step's effect from which suspects are found.
 #[derive(Clone, Copy, Debug, PartialEq, Eq)]
 pub enum Notice {
     /// The descriptor was opened for the socket.
@@ -45,7 +45,7 @@ pub enum Notice {
         socket: u32,
         side: Side,
     },
-    /// The side's word was `ready`, and the goroutine took the readiness.
+    /// The side's word was `ready`, and the goroutine consumed this notification.
     TookReadiness(Visit),
     /// The goroutine checked the side and got this code.
     Checked {
@@ -228,7 +228,8 @@ fn notice_of_socket(capacity: u32, answer: Answer) -> Notice
     }
 }
 
-// Returns the notice of a check of a visited side, if the answer is a code.
+// If the answer is a code, returns the notice that the visiting goroutine checked its side and got
+// this code.
 fn checking(visit: Visit, answer: Answer) -> Notice
     ensures { result ≡ checking visit answer }
 {
@@ -260,8 +261,8 @@ impl SideBefore {
         }
     }
 
-    // Returns the passing of the side's deadline, if it has passed in this world and hadn't before
-    // the step.
+    // Returns which goroutine is woken if the side's deadline passed in this step: it has passed in
+    // this world, and hadn't before the step. Otherwise returns `None`.
     fn passing<W: Worlds>(self, world: &W, descriptor: u32, side: Side) -> Option<Passing>
         requires { W.is_well_formed world.now }
         ensures { result ≡ (if not self.has_passed && has_passed (W.world world.now) descriptor side

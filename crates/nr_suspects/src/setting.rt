@@ -15,7 +15,7 @@ pub struct StepBy {
     pub goroutine: u32,
 }
 
-/// The setting of a deadline.
+/// Which step set a deadline.
 #[derive(Clone, Copy, Debug, PartialEq, Eq)]
 pub struct Setting {
     /// The step that set the deadline.
@@ -29,7 +29,7 @@ pub struct Setting {
 /// The deadline of a side.
 #[derive(Clone, Copy, Debug, PartialEq, Eq)]
 pub struct Deadline {
-    /// The setting of the deadline, if it was set.
+    /// Which step set the deadline, if it was set.
     pub setting: Option<Setting>,
     /// The goroutine that was woken when the deadline passed, if it hasn't checked its side yet.
     pub woken: Option<u32>,
@@ -66,7 +66,7 @@ impl Deadline {
         }
     }
 
-    // Returns the deadline after this passing, or the deadline unchanged if there is no passing.
+    // Returns the deadline, updated if it passed: it then records which goroutine was woken.
     fn passed_with(self, passing: Option<Passing>) -> Deadline
         ensures { result ≡ passed_with passing self }
     {
@@ -81,7 +81,8 @@ impl Deadline {
 }
 
 impl Setting {
-    // Returns the setting after this step set only the other side's deadline.
+    // Returns the setting, updated for a later step that set only the other side's deadline. Only
+    // the first such step is recorded.
     fn moved_since(self, by: StepBy) -> Setting
         ensures { result ≡ moved_since by self }
     {
@@ -104,8 +105,8 @@ fn woken_but(goroutine: u32, woken: Option<u32>) -> Option<u32>
     }
 }
 
-/// Returns both sides' deadlines after the goroutine set those that the mode names, in the step
-/// with this number.
+/// Returns both sides' deadlines after the step with this number, in which the goroutine set the
+/// deadlines that the mode names.
 pub(crate) fn after_setting(
     step: usize,
     goroutine: u32,
@@ -121,7 +122,7 @@ pub(crate) fn after_setting(
     }
 }
 
-/// Returns both sides' deadlines after these passings.
+/// Returns both sides' deadlines, updated for those that passed.
 pub(crate) fn after_passing(
     passings: Sides<Option<Passing>>,
     deadlines: Sides<Deadline>,

@@ -120,7 +120,7 @@ fn number_or_zero(value: CellValue) -> u64
     }
 }
 
-// Returns the code of a check of the side.
+// Returns the code that a check of this side gets.
 fn code_of<W: Worlds>(world: &W, descriptor: u32, side: Side) -> u32
     requires { W.is_well_formed world.now }
     ensures { result ≡ code_of_info side (number_or_zero (cell (W.world world.now) (CellNames.Info descriptor)))
@@ -176,8 +176,8 @@ fn reason_to_write(is_shut: bool, room: u64) -> Option<Reason>
     }
 }
 
-// Returns why a goroutine that waits at this side of the socket, which has this other end, should
-// stop waiting.
+// Returns the reason why a goroutine should stop waiting at this side of the socket. `peer` is the
+// socket's other end.
 fn reason_of_socket<W: Worlds>(world: &W, socket: u32, side: Side, peer: Peer) -> Option<Reason>
     requires { W.is_well_formed world.now }
     ensures { result ≡ reason_by_cells (W.world world.now) socket side peer }

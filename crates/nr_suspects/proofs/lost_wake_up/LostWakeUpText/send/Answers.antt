@@ -3,13 +3,13 @@ use Rattle.nr_text.proofs.BufferedLemmas.{writes_cut, writes_then}
 use Rattle.nr_suspects.specs.LostWakeUps.{event_text, taken_text}
 use Rattle.nr_suspects.proofs.lost_wake_up.LostWakeUpText.send.Goals as goal
 
--- writing the part before the step that took the readiness failed
+-- the write of the line's first part, up to the event, failed
 pub returns-in_err-send_event : goal.returns-in_err-send_event
 returns-in_err-send_event g c =
     let lost = c.args.self.now in
     writes_cut c.args.w.now c.send_event.new.w (event_text lost) (taken_text lost.taken ++ codes "\n") c.in_err-send_event.field-0.0 c.from_residual.result c.from_residual.ensures.0 c.in_err-send_event.ensures
 
--- writing that step failed
+-- the write of the part ` taken ..` failed
 pub returns-in_err-send_taken : goal.returns-in_err-send_taken
 returns-in_err-send_taken g c =
     let lost = c.args.self.now in

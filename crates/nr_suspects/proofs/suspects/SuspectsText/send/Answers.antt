@@ -11,7 +11,7 @@ use Rattle.nr_suspects.specs.declared.lost_wake_up.LostWakeUp.{LostWakeUp}
 use Rattle.nr_suspects.specs.declared.sleeper.Sleeper.{Sleeper}
 use Rattle.nr_suspects.proofs.suspects.SuspectsText.send.Goals as goal
 
--- a part of the lines about deadlines was written
+-- the write of the lines about deadlines failed
 pub returns-in_err-send : goal.returns-in_err-send
 returns-in_err-send g c =
     let found = c.args.self.now in
@@ -20,7 +20,7 @@ returns-in_err-send g c =
     (writes_cut c.args.w.now c.send.new.w (deadline_lines c.as_slice.result.now) later c.in_err-send.field-0.0 c.from_residual.result c.from_residual.ensures.0
     c.in_err-send.ensures)
 
--- then a part of the lost wake-ups was written
+-- the write of the lines about lost wake-ups failed
 pub returns-in_err-send-2 : goal.returns-in_err-send-2
 returns-in_err-send-2 g c =
     let found = c.args.self.now in
@@ -31,7 +31,7 @@ returns-in_err-send-2 g c =
     (writes_then c.args.w.now c.send.new.w c.send-2.new.w (deadline_lines c.as_slice.result.now) (lost_lines c.as_slice-2.result.now ++ later) result c.in_ok-send.ensures
     (writes_cut c.send.new.w c.send-2.new.w (lost_lines c.as_slice-2.result.now) later c.in_err-send-2.field-0.0 result c.from_residual-in_err-send-2.ensures.0 c.in_err-send-2.ensures)))
 
--- then a part of the sleepers was written
+-- the write of the lines about sleepers failed
 pub returns-in_err-send-3 : goal.returns-in_err-send-3
 returns-in_err-send-3 g c =
     let found = c.args.self.now in
