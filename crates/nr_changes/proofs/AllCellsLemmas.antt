@@ -225,7 +225,7 @@ module _ (w next : World) where
   pub differing_in_order : IsStrictlySortedBy listing_order (differing_cells w next)
   differing_in_order = IsStrictlySortedBy-filter listing_order (λ c. not (same_value (cell next c) (cell w c))) (all_cells w next) all_in_order
 
--- the cells that a step changed are all cells that differ
+-- after a step, `changed_cells` and `differing_cells` are the same list
 pub changed_differing : (w : World) (step : Step) (answer : Answer) (next : World) → outcome w step ≡ Ok (answer, next) → changed_cells w step next ≡ differing_cells w next
 changed_differing w step answer next is =
     same_list (changed_cells w step next) (differing_cells w next) (changed_in_order w step next) (differing_in_order w next) λ c. (

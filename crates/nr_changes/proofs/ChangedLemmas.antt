@@ -1,4 +1,4 @@
--- The changed cells include exactly those that differ.
+-- The changed cells are exactly those that differ.
 use Rattle.std.proofs.Common.{◌≡◌, ◌≢◌, ◌↔◌, Bool, true, false, not, List, Ok, rules, refl, sym, ap, subst, ◌∙◌, true≢false}
 use Rattle.std.specs.Prelude.{Contains, filter}
 use Rattle.std.specs.List.{list_any}

@@ -124,7 +124,7 @@ waitcheck_touches w g =
     ComesTo-bind (ComesTo-any (row_of place.0 w)) λ row _.
     ComesTo-ok (goroutine_set _ w g _ _ (here g []))
 
--- ---- changes to a descriptor with its timers
+-- ---- changes to a descriptor and its timers
 
 change_keeps : (t : Touched) (d : ℕ) (row : DescriptorRow) (change : Change) (w : World) → t.descriptor ≡ Some d → ((h : ℕ) → Contains change.woken h → Contains t.goroutines h)
     → ComesTo (Keeps t w) (after_change d row change w)
@@ -132,7 +132,7 @@ change_keeps t d row change w at among =
     ComesTo-bind (ComesTo-any (after_orders change.orders (row.timers, w.next_arming))) λ left _.
     ComesTo-ok (Keeps-then (row_set t w d _ at) (Keeps-then (rest_set t _ _ refl refl refl) (wakes_keep t change.woken _ among)))
 
--- a goroutine that a word of the row holds is held at the descriptor
+-- if a word of descriptor d's row holds a goroutine, `held_at` contains that goroutine
 held_there : (w : World) (d : ℕ) (row : DescriptorRow) (h : ℕ) → slice_get w.descriptors d ≡ Some row → Contains (held_of row.descriptor) h → Contains (held_at d w) h
 held_there w d row h at held =
     subst (λ gs. Contains gs h) (sym (ap (λ o. option_map_or (λ (x : DescriptorRow). held_of x.descriptor) o []) at)) held

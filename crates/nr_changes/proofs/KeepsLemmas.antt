@@ -1,4 +1,4 @@
--- A change to a world affects only the things that it touches.
+-- A step changes only the things that it touches.
 use Rattle.std.proofs.Common.{◌≡◌, ◌≢◌, ℕ, zero, suc, List, [], ◌∷◌, ◌++◌, length, Option, Some, refl, sym, ap, subst, ◌∙◌, Bool, true, false, Result}
 use Rattle.std.specs.Prelude.{Contains, slice_get, slice_set, option_map, if◌then◌else◌}
 use Rattle.nr_rev.specs.declared.answer.Answer.{Answer}
@@ -43,7 +43,7 @@ push_elsewhere [] x (suc j) other = refl
 push_elsewhere (y ∷ xs) x zero other = refl
 push_elsewhere (y ∷ xs) x (suc j) other = push_elsewhere xs x j (λ e. other (ap suc e))
 
--- a number that isn't touched differs from the touched one
+-- if i is touched and j isn't, they differ
 differs : {d : Option ℕ} (i j : ℕ) → d ≡ Some i → d ≢ Some j → j ≢ i
 differs i j at other e = other (at ∙ ap Some (sym e))
 

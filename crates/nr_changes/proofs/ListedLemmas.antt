@@ -1,4 +1,4 @@
--- A list with the cells of several sorts, one sort after another, is sorted and complete.
+-- Cells that are listed by kind and then by number are sorted and complete.
 use Rattle.std.proofs.Common.{◌≡◌, ℕ, Bool, true, false, zero, suc, ◌+◌, ◌<◌, ◌≤◌, List, [], ◌∷◌, ◌++◌, map, length, refl, sym, ap, subst, ◌∙◌, inl, inr, arith}
 use Rattle.std.specs.Prelude.{Contains, ◌==◌, ⊤}
 use Rattle.std.proofs.lemmas.Bool.{eqb-false, eqb-true}
@@ -17,16 +17,16 @@ use Rattle.nr_changes.specs.Changes.{numbered_cells}
 use Rattle.nr_changes.proofs.MemberLemmas.{here, later, nowhere, here_or_later}
 use Rattle.nr_changes.proofs.OrderLemmas.{Before}
 
--- the sort of each cell has at least this number
+-- true if the number of each cell's kind is at least k
 abbrev pub AtLeast : ℕ → List Cell → Type 0
 AtLeast k cells = AllByRecursion (λ c. k ≤ cell_number c) cells
 
--- true if the sort has number k, and its cell for thing i has the number i
+-- true if, for each i, `sort i` is the cell with number i of the kind with number k
 pub record IsSort (k : ℕ) (sort : ℕ → Cell) : Type 0 where
   pub shows : (i : ℕ) → cell_number (sort i) ≡ k
   pub numbered : (i : ℕ) → number_or_0 (sort i) ≡ i
 
--- true if these sorts have the numbers k, k + 1 and so on
+-- true if these kinds of cells have the numbers k, k + 1 and so on
 abbrev pub AreSorts : ℕ → List (ℕ → Cell) → Type 0
 AreSorts k [] = ⊤
 AreSorts k (sort ∷ sorts) = IsSort k sort × AreSorts (k + 1) sorts
@@ -36,7 +36,7 @@ AreSorts k (sort ∷ sorts) = IsSort k sort × AreSorts (k + 1) sorts
 less_by : (c d : Cell) (o : Ordering) → o ≡ nat_cmp (cell_number c) (cell_number d) → ordering_then o (nat_cmp (number_or_0 c) (number_or_0 d)) ≡ Less → listing_order c d ≡ Less
 less_by c d o is e = ap (λ x. ordering_then x (nat_cmp (number_or_0 c) (number_or_0 d))) (sym is) ∙ e
 
--- the cell whose sort has the lower number comes first
+-- the cell whose kind has the lower number comes first
 pub lower_first : (c d : Cell) → cell_number c < cell_number d → listing_order c d ≡ Less
 lower_first c d below = less_by c d Less (nat_cmp_is (cell_number c) (cell_number d) Less below) refl
 
@@ -48,7 +48,7 @@ before_higher c k (d ∷ cells) below so =
     (lower_first c d lower, before_higher c k cells below so.1)
 
 module _ (k : ℕ) (sort : ℕ → Cell) (is : IsSort k sort) where
-  -- within a sort, the cell with the lower number comes first
+  -- within a kind, the cell with the lower number comes first
   same_sort : (a b : ℕ) → a < b → listing_order (sort a) (sort b) ≡ Less
   same_sort a b below =
       let equal : Equal ≡ nat_cmp (cell_number (sort a)) (cell_number (sort b)) = nat_cmp_is (cell_number (sort a)) (cell_number (sort b)) Equal (is.shows a ∙ sym (is.shows b)) in
@@ -86,12 +86,12 @@ module _ (k : ℕ) (sort : ℕ → Cell) (is : IsSort k sort) where
       let le : k ≤ cell_number (sort a) = omega (arith, shows) in
       (le, sort_at_least (a + 1) n rest so)
 
--- true if the cells are sorted, and their sorts have at least this number
+-- true if the cells are sorted, and the number of each cell's kind is at least k
 pub record Listed (k : ℕ) (cells : List Cell) : Type 0 where
   pub in_order : IsStrictlySortedBy listing_order cells
   pub least : AtLeast k cells
 
--- the cells of some sorts, followed by the cells of later sorts
+-- the cells of some kinds, followed by the cells of later kinds
 pub sorts_listed : (n k : ℕ) (sorts : List (ℕ → Cell)) (rest : List Cell) → AreSorts k sorts → Listed (k + length sorts) rest → Listed k (numbered_cells n sorts ++ rest)
 sorts_listed n k [] rest are listed = subst (λ m. Listed m rest) (omega arith) listed
 sorts_listed n k (sort ∷ sorts) rest are listed =

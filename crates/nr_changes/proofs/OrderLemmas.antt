@@ -58,7 +58,7 @@ ordered (n ∷ ns) = inserted n (in_order ns) (ordered ns)
 
 -- ---- cells in order
 
--- a cell that comes before the goroutines' cells also comes before the cells that follow them
+-- if a cell precedes all goroutine cells and the rest of a list, it precedes the whole list
 before_goroutines : (c : Cell) (gs : List ℕ) (rest : List Cell) → ((g : ℕ) → listing_order c (Cell.Goroutine g) ≡ Less) → Before listing_order c rest → Before listing_order c (map Cell.Goroutine gs ++ rest)
 before_goroutines c [] rest first so = so
 before_goroutines c (g ∷ gs) rest first so = (first g, before_goroutines c gs rest first so)
@@ -73,7 +73,7 @@ unfolding IsStrictlySortedBy
 goroutines_first [] rest rise before so = so
 goroutines_first (g ∷ gs) rest rise before so = (among_goroutines g gs rest rise.0 (before g), goroutines_first gs rest rise.1 before so)
 
--- a cell before two lists comes before their concatenation
+-- if a cell precedes all cells of two lists, it precedes all of their concatenation
 pub before_both : (c : Cell) (cs ds : List Cell) → Before listing_order c cs → Before listing_order c ds → Before listing_order c (cs ++ ds)
 before_both c [] ds so also = also
 before_both c (x ∷ cs) ds so also = (so.0, before_both c cs ds so.1 also)
@@ -83,7 +83,7 @@ unfolding IsStrictlySortedBy
 joined [] ds so before also = also
 joined (c ∷ cs) ds so before also = (before_both c cs ds so.0 before.0, joined cs ds so.1 before.1 also)
 
--- true if the sorts of these cells have ascending numbers greater than n
+-- true if the numbers of the cells' kinds are strictly ascending and all greater than n
 abbrev rise_above : ℕ → List Cell → Bool
 rise_above n [] = true
 rise_above n (c ∷ cs) = nat_lt n (cell_number c) && rise_above (cell_number c) cs
@@ -110,8 +110,8 @@ rising n (c ∷ cs) e =
     let same : cell_number c ≤ cell_number c = omega arith in
     (before_above c (cell_number c) cs same both.1, rising (cell_number c) cs both.1)
 
--- the cells without a number, the cells of sorted goroutines and sorted later cells, listed in this
--- order, are sorted
+-- a list is sorted if it consists of the cells without a number, then the cells of sorted
+-- goroutines, and then sorted cells of later kinds
 all_in_order : (gs : List ℕ) (cs : List Cell) → IsStrictlySortedBy nat_cmp gs → rise_above 6 cs ≡ true → IsStrictlySortedBy listing_order (cells_at None ++ (map Cell.Goroutine gs ++ cs))
 all_in_order gs cs so e =
     joined (cells_at None) (map Cell.Goroutine gs ++ cs) (rising 0 (cells_at None) refl) (

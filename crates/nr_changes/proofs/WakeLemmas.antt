@@ -17,8 +17,8 @@ use Rattle.nr_laws.proofs.AspectLemmas.{ComesTo, ComesTo-ok, ComesTo-any, ComesT
 use Rattle.nr_changes.specs.Touched.{held_by, held_of}
 use Rattle.nr_changes.proofs.MemberLemmas.{nowhere}
 
--- true if a change wakes only goroutines that the words held before it, and after it the words hold
--- only goroutines that they held before it
+-- true if the goroutines that a change wakes, and those that the words hold after it, were all held
+-- before it
 pub record Wakes (old : Descriptor) (change : Change) : Type 0 where
   pub woken : (g : ℕ) → Contains change.woken g → Contains (held_of old) g
   pub held : (g : ℕ) → Contains (held_of change.descriptor) g → Contains (held_of old) g

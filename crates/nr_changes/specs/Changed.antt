@@ -18,7 +18,7 @@ use Rattle.nr_changes.specs.Touched.{Touched, touched}
 abbrev pub number_or_0 : Cell → ℕ
 number_or_0 c = option_map_or (λ i. i) (cell_index c) 0
 
--- the order of cells in lists: by sort, and then by number
+-- the order of cells in lists: by kind, and then by number
 abbrev pub listing_order : Cell → Cell → Ordering
 listing_order =
     then_cmp (λ a b. nat_cmp (cell_number a) (cell_number b))

@@ -7,15 +7,15 @@ use Rattle.nr_rev.specs.CellName.{cells_at}
 use Rattle.nr_rev.specs.World.{World}
 use Rattle.nr_changes.specs.declared.changing.CellWithValue.{CellWithValue}
 
--- the cells of these sorts with a number below n: one sort after another, each in ascending order
+-- the cells of these kinds with a number below n, by kind and then by number
 abbrev pub numbered_cells : ℕ → List (ℕ → Cell) → List Cell
 numbered_cells n sorts = flat_map (λ sort. map sort (range_with_len 0 n)) sorts
 
--- the number of these things in the world that has more of them
+-- the larger of the two worlds' counts of these things
 abbrev pub most_of : {X : Type 0} → (World → List X) → World → World → ℕ
 most_of things w next = max (length (things w)) (length (things next))
 
--- All cells of the things that exist in either world, by sort and then by number, as COMMANDS.md
+-- All cells of the things that exist in either world, by kind and then by number, as COMMANDS.md
 -- lists them.
 abbrev pub all_cells : World → World → List Cell
 all_cells w next =

@@ -48,7 +48,8 @@ abbrev pub descriptor_at : ℕ → World → Option ℕ
 descriptor_at g w =
     option_map (λ place. place.0) (option_and_then wait_of (slice_get w.goroutines g))
 
--- the first goroutine in the queue of the semaphore that a goroutine with this status releases next
+-- for a goroutine that owes releases: the first goroutine in the queue of the next semaphore, if
+-- any
 abbrev pub front_for : Status → World → Option ℕ
 front_for (Owing s reads writes) w =
     let side : Side = if nat_lt 0 reads then Read else Write in

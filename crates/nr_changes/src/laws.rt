@@ -31,7 +31,7 @@ pub fn what_differs_was_touched()
         → outcome w step ≡ Ok (answer, next) → changed_cells w step next ≡ differing_cells w next }
 {}
 
-/// Lists of cells are ordered by sort and then by number, and contain each cell once.
+/// Lists of cells are ordered by kind and then by number, and contain each cell once.
 pub fn cells_are_listed_in_order()
     ensures touched { (w : World) (step : Step)
         → IsStrictlySortedBy listing_order (touched_cells w step) }

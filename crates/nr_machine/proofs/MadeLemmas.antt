@@ -21,7 +21,7 @@ pub made_step : {Place : Type 0} (keeps : Bool) (holds : Place → WorldUndo →
 made_step {Place} keeps holds place step old answer undo new held made =
     (made.0, λ _. (undo, held, made.1))
 
--- a kind that takes no memory
+-- a kind that allocates no memory
 pub makes_step : {Place : Type 0} (keeps : Bool) (holds : Place → WorldUndo → Type 0) (place : Place) (step : Step) (old new : WorldParts) (r : Result Answer Refusal)
     → Makes holds place (outcome (meant old) step) (asked_of old step) old r new → MakesStep keeps holds place step old r new
 makes_step {Place} keeps holds place step old new (Ok answer) some =

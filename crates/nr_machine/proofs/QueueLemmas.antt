@@ -69,7 +69,7 @@ module _ (m : WorldParts) (s : ℕ) (side : Side) where
     bytes_here sock at =
         bytes_seen ∙ ap (λ (o : Option OpenSock). Some (viewed_bytes side o)) (sock_at m.core.goroutines.semaphores m.socks s sock at)
 
-    -- if copying a buffer takes memory, the buffer isn't empty
+    -- if copying a buffer allocates memory, the buffer isn't empty
     pub bytes_some : (sock : SockParts) → slice_get m.socks s ≡ Some sock → 0 < length (viewed_bytes side sock.opened) → HasItems (bytes_of (meant m) s side)
     bytes_some sock at some = subst (λ (o : Option (List ℕ)). HasItems o) (sym (bytes_here sock at)) some
 
@@ -168,7 +168,7 @@ module _ (m : WorldParts) (s : ℕ) (side : Side) where
       ∙ ap (λ (both : Sides Semaphore). Some (of_side side both).queue) (sym (unwrap_or-slice_get m.core.goroutines.semaphores s (twice new_semaphore)))
       ∙ ap (λ (q : List ℕ). Some q) (queue_known side (slice_get m.core.goroutines.semaphores s))
 
-  -- if copying a semaphore's queue takes memory, a goroutine is queued
+  -- if copying a semaphore's queue allocates memory, a goroutine is queued
   pub queue_some : s < length m.core.locks.items → 0 < length (queue_at s side m.core.goroutines) → HasItems (queue_of (meant m) s side)
   queue_some below some = subst (λ (o : Option (List ℕ)). HasItems o) (sym (queue_here below)) some
 

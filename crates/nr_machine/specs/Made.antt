@@ -10,6 +10,6 @@ use Rattle.nr_machine.specs.World.{WorldParts, meant}
 abbrev pub parts_reason : WorldParts → Step → Option Refusal
 parts_reason m step = refusal_of (outcome (meant m) step)
 
--- true if a step takes memory because bytes leave a buffer
+-- true if a step allocates memory because bytes leave a buffer
 abbrev pub TakesMemory : WorldParts → Step → Type 0
 TakesMemory m step = LosesBytes (meant m) step

@@ -20,7 +20,7 @@ pub reasons_are : (old : WorldParts) (step : Step)
     → parts_reason old step ≡ refusal_of (outcome (meant old) step)
 reasons_are old step = λ _. parts_reason old step
 
--- if a step takes memory, bytes leave a buffer
+-- if a step allocates memory, bytes leave a buffer
 pub memory_is_for_bytes : (old : WorldParts) (step : Step) → TakesMemory old step
     → LosesBytes (meant old) step
 memory_is_for_bytes old step loses = loses

@@ -54,8 +54,8 @@ impl World {
         Some(descriptor)
     }
 
-    // A goroutine with this status may owe a semaphore a release. Returns the first goroutine in
-    // the queue of the semaphore that it releases next.
+    // Returns, for a goroutine that owes releases, the first goroutine in the queue of the next
+    // semaphore, if any.
     fn front_for(&self, status: Status) -> Option<u32>
         requires { IsWorld self.now }
         ensures { result ≡ front_for status (meant self.now) }

@@ -22,7 +22,7 @@ pub struct Recording {
     version: Version,
     limits: Limits,
     steps: Vec<Step>,
-    // one answer for each step; in version 1 the list is empty and takes no memory
+    // one answer for each step; in version 1 the list is empty and allocates no memory
     answers: Vec<Answer>,
 }
 

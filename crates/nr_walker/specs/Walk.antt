@@ -59,9 +59,9 @@ module _ {State : Type 0} where
     pub loses : LosesBytesAt from.film.recording stopped.position
     pub there : stopped ≡ forwards from stopped.position
 
-  -- True if a walk to n that runs out of memory can leave the walker like this. Going back takes no
-  -- memory. A walk forward stops before n. A walk from a copy also stops before n, or doesn't move
-  -- the walker at all.
+  -- True if a walk to n that runs out of memory can leave the walker like this. Going back
+  -- allocates no memory. A walk forward stops before n. A walk from a copy also stops before n, or
+  -- doesn't move the walker at all.
   abbrev pub IsRefusedBy : Route → Walk State → ℕ → Walk State → Type 0
   IsRefusedBy Back old n new = ⊥
   IsRefusedBy Forward old n new = StopsShort old n new

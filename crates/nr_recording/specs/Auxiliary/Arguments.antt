@@ -6,12 +6,12 @@ use Rattle.serde_json.specs.Find.{as_str}
 use Rattle.nr_recording.specs.declared.fault.Fault.{Fault}
 use Rattle.nr_recording.specs.Arguments.{most_digits}
 
--- true if reading the bytes of a text takes memory because it has an even number of digits, within
--- the maximum
+-- true if reading the bytes of a text allocates memory because it has an even number of digits,
+-- within the maximum
 abbrev pub digits_take_memory : List ℕ → Bool
 digits_take_memory text = not (nat_lt most_digits (length text)) && (length text % 2 == 0)
 
--- true if the argument is a text and reading its bytes takes memory
+-- true if the argument is a text and reading its bytes allocates memory
 abbrev pub argument_takes_memory : Data → Bool
 argument_takes_memory d = option_map_or digits_take_memory (as_str d) false
 
@@ -20,14 +20,14 @@ abbrev pub with_rest : {A : Type 0} → Items → Result A Fault → Result (A �
 with_rest ds (Ok x) = Ok (x, ds)
 with_rest ds (Err f) = Err f
 
--- ---- reading that takes memory
+-- ---- reading that allocates memory
 
--- true if reading the first argument takes memory
+-- true if reading the first argument allocates memory
 abbrev pub first_takes_memory : Items → Bool
 first_takes_memory no_items = false
 first_takes_memory (item d ds) = argument_takes_memory d
 
--- true if reading the argument after these takes memory
+-- true if reading the argument after these allocates memory
 abbrev pub next_takes_memory : {A : Type 0} → Result (A × Items) Fault → Bool
 next_takes_memory (Ok found) = first_takes_memory found.1
 next_takes_memory (Err f) = false

@@ -31,13 +31,13 @@ pub record IsSeen (seen : Seen) : Type 0 where
   pub few : length seen.steps ≤ MOST_STEPS
   pub writable : AreOfHeader seen.header seen.steps
 
--- true if reading the next value takes memory, for a step's bytes or to store a valid step
+-- true if reading the next value allocates memory, for a step's bytes or to store a valid step
 abbrev pub value_takes_memory : Seen → Option Header → Data → Bool
 value_takes_memory seen None d = false
 value_takes_memory seen (Some header) d = not (length seen.steps == MOST_STEPS)
     && (step_takes_memory header.version d || is_ok (step_of header.version d))
 
--- true if reading a line takes memory because it is neither too long nor blank
+-- true if reading a line allocates memory because it is neither too long nor blank
 abbrev pub line_takes_memory : List ℕ → Bool
 line_takes_memory line = not (nat_lt MOST_LINE_BYTES (length line)) && not (is_blank line)
 
@@ -61,6 +61,6 @@ abbrev pub IsUnlessMemory : {X : Type 0} → Result X ReadFault → Result X Rea
 IsUnlessMemory (Ok x) read = read ≡ Ok x
 IsUnlessMemory (Err e) read = IsFaultOf e read
 
--- true if reading any of the lines takes memory
+-- true if reading any of the lines allocates memory
 abbrev pub text_takes_memory : List ℕ → Bool
 text_takes_memory bytes = list_any line_takes_memory (lines bytes)

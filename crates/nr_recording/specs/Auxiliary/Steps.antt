@@ -49,7 +49,7 @@ arguments_of Step.Pop = []
 arguments_of (Step.Fire i) = numeral i ∷ []
 arguments_of (Step.CloseWrite g s) = numeral g ∷ numeral s ∷ []
 
--- true if reading the arguments of this kind takes memory, which only arguments with bytes do
+-- true if reading the arguments of this kind allocates memory, which only arguments with bytes do
 abbrev pub kind_takes_memory : Kind → Items → Bool
 kind_takes_memory Kind.Arrive ds = next_takes_memory (number ds)
 kind_takes_memory Kind.SysWrite ds = next_takes_memory ((number and number) ds)
@@ -73,12 +73,12 @@ spelling_of recorded = (
   arguments_of recorded.step ++ answer_arguments recorded.answer,
 )
 
--- true if reading a line with this name and these arguments takes memory
+-- true if reading a line with this name and these arguments allocates memory
 abbrev pub named_takes_memory : Version → List ℕ → Items → Bool
 named_takes_memory version name ds =
     option_map_or (λ kind. kind_takes_memory kind ds) (kind_in version name) false
 
--- true if reading the value of a line takes memory
+-- true if reading the value of a line allocates memory
 unfoldable pub step_takes_memory : Version → Data → Bool
 step_takes_memory version d =
     option_map_or (λ parts. option_map_or (λ name. named_takes_memory version name parts.1)
