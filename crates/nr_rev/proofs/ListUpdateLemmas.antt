@@ -5,7 +5,7 @@ use Rattle.std.proofs.lemmas.Option.{same_Some, slice_get-get_or}
 use Rattle.std.specs.Prelude.{IfSome}
 use Rattle.std.specs.List.{slice_get}
 
--- a push doesn't change a view that is the same for the pushed element as for a missing one
+-- if f has the same value for x as for a missing element, pushing x doesn't change f at any index
 pub slice_get-push_unseen : {X B : Type 0} (f : Option X → B) (xs : List X) (x : X) (i : ℕ) → f None ≡ f (Some x) → f (slice_get (xs ++ x ∷ []) i) ≡ f (slice_get xs i)
 slice_get-push_unseen f [] x zero e = sym e
 slice_get-push_unseen f [] x (suc i) e = refl
@@ -68,8 +68,8 @@ pub slice_get-push_all : {X : Type 0} (P : X → Type 0) (xs : List X) (new : X)
     → P x
 slice_get-push_all P xs new p all j x is = elim (slice_get-push_cases xs new x j is) [ inl old ↦ all j x old | inr here ↦ subst P here.1 p ]
 
--- if a place had an element with a property, it still has one after a write whose new element has
--- the property if the old one had it
+-- A write at i keeps a property of the element at j. If i is j and the old element has the
+-- property, the new one must have it too.
 pub slice_get-set_found : {X : Type 0} (P : X → Type 0) (xs : List X) (i : ℕ) (old new : X) (j : ℕ) (x : X) → slice_get xs i ≡ Some old → (j ≡ i → P old → P new) → slice_get xs j ≡ Some x → P x
     → (y : X) × (slice_get (set xs i new) j ≡ Some y) × P y
 slice_get-set_found P xs i old new j x at next is p =
@@ -82,6 +82,6 @@ slice_get-set_found P xs i old new j x at next is p =
 pub set_read_back : {X : Type 0} (xs : List X) (i : ℕ) (x y : X) → x ≡ get_or xs i x → set (set xs i y) i x ≡ xs
 set_read_back xs i x y read = set-set xs i y x ∙ ap (set xs i) read ∙ set-get_or xs i x
 
--- the element that was read at an existing place is at that place
+-- at an index within the list, `get_or` and `slice_get` return the same element
 pub read_is_there : {X : Type 0} (xs : List X) (i : ℕ) (x : X) → i < length xs → x ≡ get_or xs i x → IfSome (slice_get xs i) (λ y. y ≡ x)
 read_is_there xs i x within read = rw (slice_get-get_or xs i x within) (sym read)

@@ -67,7 +67,7 @@ pub kind_placed : (kind : Kind) → slice_get kinds (kind_number kind - 1) ≡ S
 kind_placed Kind.Spawn = refl
 kind_placed _ = refl
 
--- the name at a kind's place in the list is its name
+-- the list of kinds, counted from 1, has each kind's name at the kind's number
 pub name_placed : (kind : Kind) (n : ℕ) → n ≡ kind_number kind → slice_index_or (map (λ (row : Kind × List ℕ). row.1) spelled_kinds) (n - 1) [] ≡ kind_name kind
 name_placed kind n e = subst (λ k. slice_index_or (map (λ (row : Kind × List ℕ). row.1) spelled_kinds) (k - 1) [] ≡ kind_name kind) (sym e) (is_at kind)
   where

@@ -22,7 +22,8 @@ is_never_given Refusal.CorruptedDescriptor = true
 is_never_given (Refusal.Memory _) = true
 is_never_given _ = false
 
--- true if a value has this property, and a reason is one that may occur in a well-formed world
+-- true if the result is a value with this property, or a reason that can occur in a well-formed
+-- world
 pub record Ends {A : Type 0} (P : A → Type 0) (m : Result A Refusal) : Type 0 where
   pub value : (a : A) → m ≡ Ok a → P a
   pub given : (reason : Refusal) → m ≡ Err reason → is_never_given reason ≡ false

@@ -28,7 +28,7 @@ slice_get-take (y ∷ xs) (suc n) (suc k) x e =
     let rest = slice_get-take xs n k x e in
     (omega (arith, rest.0), rest.1)
 
--- if the step after position n applies, so does the step after a position equal to n
+-- if k equals n, and the step after position n applies, then the step after position k applies
 same-place : (r : Recording) (n k : ℕ) (step : Step) → AppliesAt r n → k ≡ n → slice_get r.steps k ≡ Some step → IsOk (outcome (world_at r k) step)
 same-place r n k step here same read =
     let both : Some here.step ≡ Some step = sym here.next ∙ ap (slice_get r.steps) (sym same) ∙ read in
@@ -68,7 +68,7 @@ world_after-push : (w : World) (steps : List Step) (step : Step) → world_after
 world_after-push w [] step = refl
 world_after-push w (first ∷ steps) step = world_after-push (next_of w (outcome w first)) steps step
 
--- the world after a step that applies is the next position
+-- if the step after position n applies, it leads to the world at position n + 1
 world_at-next : (r : Recording) (n : ℕ) (step : Step) (answer : Answer) (next : World) → slice_get r.steps n ≡ Some step → outcome (world_at r n) step ≡ Ok (answer, next) → world_at r (n + 1) ≡ next
 world_at-next r n step answer next read applies =
     ap (world_after _) (take-next r.steps n step read) ∙ world_after-push _ (take n r.steps) step ∙ ap (next_of (world_at r n)) applies

@@ -83,7 +83,7 @@ pub record Change : Type 0 where
   pub orders : List TimerOrder
   pub woken : List ℕ
 
--- a change that gives no orders and wakes no goroutine
+-- a change without timer orders that wakes no goroutine
 abbrev pub quiet : Descriptor → Change
 quiet d = record { descriptor = d; orders = []; woken = [] }
 
@@ -107,7 +107,7 @@ unblocked ioready side d =
     let new : WaitWord × List ℕ = unblock (of_side side d.words) ioready in
     record { descriptor = with_wait_word side new.0 d; orders = []; woken = new.1 }
 
--- both sequences incremented, reading first; refused for reason 18 if one is at its maximum
+-- both sequences incremented, the read side's first; refused for reason 18 if one is at its maximum
 abbrev pub both_raised : Sides ℕ → Result (Sides ℕ) Refusal
 both_raised sequences = do
   read ← raised_sequence sequences.read
@@ -174,7 +174,7 @@ timer_reset side d =
       woken = [];
     }
 
--- adjusts a side's timer after the deadlines of `old` became those of d
+-- adjusts a side's timer to the deadlines of d; `old` is the descriptor before they were set
 abbrev pub timer_follows : Side → Descriptor → Descriptor → Result Change Refusal
 timer_follows side old d =
     if not (of_side side d.running) then Ok (if wants_timer side d then timer_reset side d
@@ -186,7 +186,7 @@ timer_follows side old d =
       sequence ← raised_sequence (of_side side d.sequences)
       Ok (timer_reset side (record d { sequences = with_side side sequence d.sequences }))))
 
--- unblocks the sides whose deadline is past, reading first
+-- unblocks each side whose deadline is past, the read side first
 abbrev pub expired_unblocked : Change → Change
 expired_unblocked change =
     then_if (then_if change (is_expired Read change.descriptor) (unblocked false Read))
@@ -206,8 +206,8 @@ abbrev pub stop_if : Bool → Side → List TimerOrder
 stop_if true side = Stop side ∷ []
 stop_if false side = []
 
--- evict: the descriptor is closing, its sequences are incremented, its timers stop, and both sides
--- are unblocked, reading first
+-- evict: marks the descriptor as closing, increments its sequences, stops its timers, and unblocks
+-- both sides, the read side first
 abbrev pub change_by_evict : Descriptor → Result Change Refusal
 change_by_evict d = do
   refused_if d.closing Refusal.AlreadyClosing
@@ -228,8 +228,8 @@ expire side d =
 abbrev pub is_current : TimerFunction → ℕ → Descriptor → Bool
 is_current function sequence d = sequence == of_side (side_of_function function) d.sequences
 
--- true if each side that the function covers has a future deadline and its timer runs; for both
--- sides, the read timer
+-- True if each side that the function covers has a future deadline, and the function's timer runs.
+-- If the function covers both sides, that is the read timer.
 abbrev pub is_timed : TimerFunction → Descriptor → Bool
 is_timed TimerFunction.Read d = is_positive d.deadlines.read && d.running.read
 is_timed TimerFunction.Write d = is_positive d.deadlines.write && d.running.write
@@ -244,8 +244,8 @@ change_by_firing function sequence d =
       Ok (Some (then_if (then_if (quiet d) (covers_side function Read) (expire Read))
           (covers_side function Write) (expire Write))))
 
--- pollevent: sets the event error as reported, and makes the sides that the mode names ready,
--- reading first
+-- pollevent: stores the reported event error, and makes the sides that the mode names ready, the
+-- read side first
 abbrev pub change_by_event : Mode → Bool → Descriptor → Change
 change_by_event mode error d =
     then_if (then_if (quiet (record d { event_error = error })) (names_side mode Read)

@@ -45,7 +45,8 @@ covers_side TimerFunction.Write Write = true
 covers_side TimerFunction.Both side = true
 covers_side _ _ = false
 
--- the side whose sequence and running flag a function uses: reading, if the function covers it
+-- the side whose sequence and running flag a timer function uses: the read side if the function
+-- covers it, or else the write side
 abbrev pub side_of_function : TimerFunction → Side
 side_of_function TimerFunction.Write = Write
 side_of_function _ = Read

@@ -336,7 +336,7 @@ abbrev pub after_wake : Status → Status
 after_wake (Parked d side) = Swapping d side
 after_wake status = status
 
--- wakes the goroutines that wait words held
+-- wakes these goroutines, each of which was parked in a wait word
 abbrev pub after_wakes : List ℕ → World → World
 after_wakes [] w = w
 after_wakes (g ∷ gs) w =
@@ -345,7 +345,7 @@ after_wakes (g ∷ gs) w =
       waiters = w.waiters - 1;
     })
 
--- the world after a change of descriptor d
+-- the world after this change to descriptor d
 abbrev pub after_change : ℕ → DescriptorRow → Change → World → Result World Refusal
 after_change d row change w = do
   (timers, number) ← after_orders change.orders (row.timers, w.next_arming)
@@ -393,7 +393,7 @@ waitbegin g d side w = do
   refused_if (code == 0 && is_waited d side w.goroutines) DoubleWait
   Ok (Code code, if code == 0 then with_status g (Entering d side) w else w)
 
--- the wait of a goroutine that is about to announce it; refused for reason 2 (wrong state)
+-- the wait of a goroutine that is about to set the wait word; refused for reason 2 (wrong state)
 -- otherwise
 abbrev pub entering_of : Status → Result (ℕ × Side) Refusal
 entering_of (Entering d side) = Ok (d, side)
@@ -454,8 +454,8 @@ blockcheck g w = do
   let code : ℕ = check side row.descriptor
   Ok (Code code, with_status g (if code == 0 then Parking d side else Swapping d side) w)
 
--- the result of parkcommit by the word that it finds: wait becomes held by g, and g parks; for any
--- other word, g goes on to consume it
+-- The result of parkcommit, given the wait word that it finds. If the word is wait, it becomes held
+-- by g, and g parks. If it is any other word, g goes on to consume it.
 abbrev pub committed_by : ℕ → ℕ → Side → WaitWord → DescriptorRow → World → Answer × World
 committed_by g d side WaitWord.Wait row w = (
   Yes,
@@ -525,8 +525,8 @@ pop w = do
       with_row entry.descriptor (record row { timers = with_side entry.side None row.timers }) w
   Ok (Done, record next { firings = w.firings ++ entry ∷ [] })
 
--- runs a firing that was taken off the list: a stale one does nothing, any other applies the change
--- of descriptor d
+-- Runs a firing that was taken off the list. A stale firing does nothing. Any other applies its
+-- change to descriptor d.
 abbrev pub fired_with : ℕ → DescriptorRow → Option Change → World → Outcome
 fired_with d row None w = Ok (Stale, w)
 fired_with d row (Some change) w = do

@@ -20,7 +20,7 @@ LeadsBack back [] new old = new ≡ old
 LeadsBack {State} back (delta ∷ deltas) new old =
     (mid : State) × LeadsBack back deltas new mid × back delta mid old
 
--- true if this is the reason why the first operation that doesn't apply is refused
+-- true if the first operation that doesn't apply is refused for this reason
 abbrev pub FirstRefused : {State Op Answer Reason : Type 0} → (State → Op → Answer → State → Type 0)
     → (State → Op → Reason → Type 0) → State → List Op → Reason → Type 0
 FirstRefused steps refuses old [] reason = ⊥

@@ -30,7 +30,8 @@ abbrev pub parked_of : Status → Option (ℕ × Side)
 parked_of (Parked d side) = Some (d, side)
 parked_of _ = None
 
--- the descriptor and side whose word may be wait because a goroutine with this status waits there
+-- the descriptor and side at which a goroutine with this status waits, if the wait word there may
+-- be wait
 abbrev pub awaiting_of : Status → Option (ℕ × Side)
 awaiting_of (Armed d side) = Some (d, side)
 awaiting_of (Parking d side) = Some (d, side)
@@ -96,8 +97,9 @@ pub record IsDueFor (d : Descriptor) (firing : Entry) : Type 0 where
   pub running : of_side firing.side d.running ≡ true
   pub function : firing.timer.function ≡ timer_function firing.side d
 
--- a firing of d is at the side of its function, with a sequence no later than the current one; if
--- it is current, its deadline is still in the future
+-- A firing of descriptor d has the side that its timer function uses, and a sequence no later than
+-- that side's current one. If the sequences are equal, each side that the function covers still has
+-- the deadline for which the timer was armed.
 pub record FiringFits (d : Descriptor) (firing : Entry) : Type 0 where
   pub side : firing.side ≡ side_of_function firing.timer.function
   pub sequence : firing.timer.sequence ≤ of_side firing.side d.sequences

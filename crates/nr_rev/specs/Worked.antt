@@ -103,7 +103,8 @@ an_event_before_the_parking =
     ∷ PollEvent 0 1 Mode.Read false ∷ ParkCommit 0 ∷ BlockSwap 0 ∷ []
     )
 
--- an error is reported for writing while a reader waits
+-- an error event for the write side, a goroutine that then tries to wait for reading, and a stale
+-- event
 abbrev pub an_error_while_reading_waits : Recording
 an_error_while_reading_waits =
     recording (
@@ -129,7 +130,8 @@ a_deadline_past_the_greatest_time =
     recording (SockOpen 1 1 ∷ PollOpen 0 0 ∷ Tick (pos 5)
     ∷ SetDeadline 0 0 Mode.Read (pos 9223372036854775807) ∷ [])
 
--- an event from before the closing comes after the opening
+-- after a descriptor is closed and opened again, a stale event arrives with the descriptor's
+-- earlier tag
 abbrev pub a_descriptor_opened_again : Recording
 a_descriptor_opened_again =
     recording (
@@ -160,7 +162,7 @@ a_shut_write_side =
           ∷ [];
     }
 
--- a reader has the lock; two more readers wait, and a writer
+-- a reader has the lock, and two more readers and a writer wait for it
 abbrev pub a_lock_with_three_waiters : Lock
 a_lock_with_three_waiters =
     record {

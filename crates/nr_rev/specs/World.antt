@@ -24,9 +24,10 @@ pub record World : Type 0 where
   pub sockets : List Socket
   -- the descriptors and the timers armed for them, by number, from 0; closed ones stay
   pub descriptors : List DescriptorRow
-  -- timers that went off and haven't been run yet, by number, from 0, the first to go off first
+  -- the firings: timers that went off and haven't been run yet, in the order in which they went
+  -- off; the number of a firing is its index
   pub firings : List Entry
-  -- the numbers of closed descriptors, the last closed first, which is opened again first
+  -- the numbers of closed descriptors, in the order in which they are reused: the last closed first
   pub free : List ℕ
   -- the current time, in nanoseconds from the beginning of the recording
   pub clock : ℤ
@@ -78,7 +79,7 @@ abbrev pub is_wait_at : ℕ → Side → Option (ℕ × Side) → Bool
 is_wait_at d side None = false
 is_wait_at d side (Some place) = (d == place.0) && same_side side place.1
 
--- true if a goroutine is inside a wait of the descriptor and side
+-- true if a goroutine is inside a wait at this side of the descriptor
 abbrev pub is_waited : ℕ → Side → List Status → Bool
 is_waited d side goroutines = list_any (λ status. is_wait_at d side (wait_of status)) goroutines
 

@@ -17,7 +17,7 @@ pub enum Answer {
     /// The goroutine got the reference, the lock, the semaphore or the event that it asked for, or
     /// it parked.
     Yes,
-    /// The goroutine didn't get what it asked for; a lock answers this if it is closed.
+    /// The goroutine didn't get what it asked for; if it asked for a lock, the lock is closed.
     No,
     /// The goroutine has to wait.
     Wait,

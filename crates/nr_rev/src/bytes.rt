@@ -2,7 +2,7 @@
 
 use std::marker::Model;
 
-/// Bytes; contracts see them as a list. Converting them from a `Vec` or back takes no memory.
+/// Bytes; in contracts, a list. Conversion from or to a `Vec` allocates no memory.
 #[derive(Drop)]
 pub struct Bytes {
     items: Vec<u8>,

@@ -43,7 +43,8 @@ pub enum Cell {
     ReadSequence(u32),
     /// The sequence of a descriptor's write timer: `wseq`.
     WriteSequence(u32),
-    /// The tag by which an event from before a descriptor's closing is recognized: `fdseq` of `pollDesc`.
+    /// The tag of a descriptor: `fdseq` of `pollDesc`. An event with an earlier tag is from before the descriptor was
+    /// closed, and is stale.
     DescriptorSequence(u32),
     /// The summary of a descriptor, as in `pollInfo`: the sum of 1 if it is closing, 2 for an error event, 4 if the
     /// read deadline has expired, and 8 if the write deadline has.
@@ -52,7 +53,7 @@ pub enum Cell {
     Shut(u32),
 }
 
-// The cells that exist once.
+// The cells that belong to no goroutine, socket or descriptor.
 const CELLS: [Cell; 5] = [
     Cell::Clock,
     Cell::Waiters,
@@ -100,7 +101,8 @@ fn first_numbered(cells: &[Cell], number: u8) -> Option<Cell>
 }
 
 impl Cell {
-    /// The number of cells: those that exist once, and those of one goroutine, one socket and one descriptor.
+    /// The number of cells: those of one goroutine, one socket and one descriptor, and those that belong to none of
+    /// these.
     pub const COUNT: usize = 20;
 
     /// Returns whether two cells are the same.
@@ -167,7 +169,8 @@ impl Cell {
         }
     }
 
-    /// Returns the number of the cell's goroutine, socket or descriptor, or `None` if the cell exists once.
+    /// Returns the number of the cell's goroutine, socket or descriptor, or `None` if the cell belongs to none of
+    /// these.
     pub fn index(self) -> Option<u32>
         ensures { result ≡ cell_index self }
     {
@@ -191,8 +194,8 @@ impl Cell {
         }
     }
 
-    /// Returns the cell with this name and this index, if there is one. The index is the number of
-    /// a goroutine, a socket or a descriptor; a cell that exists once has none.
+    /// Returns the cell with this name and this index, if there is one. The index is the number of a goroutine, a
+    /// socket or a descriptor; a cell that belongs to none of these has no index.
     pub fn named(name: &[u8], index: Option<u32>) -> Option<Cell>
         ensures { result ≡ cell_named name.now index }
     {
@@ -202,9 +205,8 @@ impl Cell {
         }
     }
 
-    /// Returns the cell with this index whose sort has this number, counted from 1, if there is
-    /// one. The index is the number of a goroutine, a socket or a descriptor; a cell that exists
-    /// once has none.
+    /// Returns the cell with this index whose sort has this number, counted from 1, if there is one. The index is the
+    /// number of a goroutine, a socket or a descriptor; a cell that belongs to none of these has no index.
     pub fn numbered(number: u8, index: Option<u32>) -> Option<Cell>
         ensures { result ≡ cell_numbered number index }
     {

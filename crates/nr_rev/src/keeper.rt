@@ -7,8 +7,7 @@ use std::mem;
 /// A place for an operation's undo. It keeps the undo, or drops it if the operation is never
 /// undone. So a machine's operation is written once and compiled in two versions.
 pub trait Keeper<Undo> {
-    /// Whether the place keeps the undo. If it doesn't keep the undo, the operation needs no memory
-    /// for it.
+    /// Whether the place keeps the undo. If not, the operation needs no memory for the undo.
     const KEEPS: bool;
 
     ghost KEEPS: { Bool };
@@ -21,8 +20,8 @@ pub trait Keeper<Undo> {
         ensures { holds self.new undo };
 }
 
-/// A place that keeps nothing. No memory is taken for the undo, so the place needn't free it, and
-/// the compiler needn't build it at all.
+/// A place that discards the undo. The undo has no allocated memory that the place would have to
+/// free, so the compiler needn't build the undo at all.
 #[derive(Clone, Copy, Debug, Default, PartialEq, Eq)]
 pub struct NoWayBack;
 

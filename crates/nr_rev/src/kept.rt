@@ -4,8 +4,8 @@ use crate::Memory;
 use std::alloc::Global;
 use std::marker::Model;
 
-/// Bytes that are kept so that a step can be undone; contracts see them as a list. They have no
-/// spare room: the capacity is the number of bytes.
+/// Bytes that are kept so that a step can be undone; in contracts, a list. They have no spare room:
+/// the capacity is the number of bytes.
 #[derive(Drop)]
 pub struct KeptBytes {
     items: Vec<u8>,
@@ -24,7 +24,7 @@ impl Model for KeptBytes {
 impl KeptBytes {
     ghost use Rattle.std.specs.Prelude.{◌≡◌, ◌<◌, [], length, IfOk, OnErr};
 
-    /// Makes an empty list of bytes. It takes no memory.
+    /// Makes an empty list of bytes. Allocates no memory.
     #[inline(always)]
     pub fn none(alloc: Global) -> KeptBytes
         ensures { result ≡ [] }

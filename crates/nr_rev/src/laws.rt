@@ -1,4 +1,4 @@
-//! Laws about the definitions: the names and numbers of kinds and cells, the weights, and the greatest limits.
+//! Laws about the definitions: the names and numbers of kinds and cells, the weights, and the maximum limits.
 
 ghost use Rattle.std.specs.Prelude.{◌≡◌, ℕ, slice_get, Option, None, Some, ◌+◌, ◌-◌, List, length};
 ghost use Rattle.nr_rev.specs.declared.sides.Sides.{Sides};
@@ -42,8 +42,7 @@ pub fn cells_are_read_as_spelled()
     ensures constant { CELL_COUNT ≡ 20 }
 {}
 
-/// The weights of what is kept for undoing count everything: each weighed type consists of the
-/// counted parts alone, so nothing can be kept uncounted.
+/// The weight of a delta counts every part of it: each type in a delta has only the fields that its weight counts.
 pub fn weights_count_every_part()
     ensures sides { (both : Sides ℕ) → both ≡ record { read = both.read; write = both.write } }
     ensures lock { (lock : Lock) → lock ≡ record {
@@ -80,7 +79,7 @@ pub fn weights_count_every_part()
     ensures kept { (bytes : Kept) → bytes ≡ record { items = bytes.items } }
 {}
 
-/// The greatest limits of a recording: 4,096 goroutines, 256 sockets, 256 descriptors, and buffers of 1,048,576 bytes.
+/// The maximum limits of a recording: 4,096 goroutines, 256 sockets, 256 descriptors, and buffers of 1,048,576 bytes.
 pub fn the_numbers()
     ensures goroutines { MOST_GOROUTINES ≡ 4096 }
     ensures sockets { MOST_SOCKETS ≡ 256 }

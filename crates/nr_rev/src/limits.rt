@@ -12,7 +12,7 @@ pub const MOST_SOCKETS: u32 = 256;
 /// The maximum number of descriptors that may be open at once.
 pub const MOST_DESCRIPTORS: u32 = 256;
 
-/// The greatest capacity of a buffer, in bytes.
+/// The maximum capacity of a buffer, in bytes.
 pub const MOST_BUFFER: u32 = 1_048_576;
 
 /// The limits of a recording: the numbers of goroutines, sockets and descriptors, and the size of a buffer in bytes.
@@ -26,8 +26,7 @@ pub struct Limits {
     /// The maximum number of descriptors that may be open at once; 1 to 256. At most twice this
     /// number of firings may wait to be run.
     pub descriptors: u32,
-    /// The greatest capacity of a socket's input or output, and the greatest size of one read, in bytes; 1 to
-    /// 1,048,576.
+    /// The maximum capacity of a socket's input or output, and the maximum size of one read, in bytes; 1 to 1,048,576.
     pub buffer: u32,
 }
 

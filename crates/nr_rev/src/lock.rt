@@ -1,4 +1,4 @@
-//! The lock of a socket, after `internal/poll/fd_mutex.go`.
+//! The lock of a socket, modelled on `internal/poll/fd_mutex.go`.
 
 use crate::answer::Answer;
 use crate::sides::Sides;

@@ -2,8 +2,8 @@
 
 use std::marker::Model;
 
-/// The numbers of the goroutines queued at a semaphore, front first; contracts see them as a list.
-/// Converting them from a `Vec` or back takes no memory.
+/// The numbers of the goroutines queued at a semaphore, front first; in contracts, a list.
+/// Conversion from or to a `Vec` allocates no memory.
 #[derive(Drop)]
 pub struct Queue {
     items: Vec<u32>,

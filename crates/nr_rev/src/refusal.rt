@@ -10,7 +10,7 @@ use crate::Memory;
 /// and `runtime/netpoll.go`; the others are rules of this machine.
 #[derive(Clone, Copy, Debug, PartialEq, Eq)]
 pub enum Refusal {
-    /// Memory ran out. No state of the machine has this reason.
+    /// Memory ran out. The machine's definition never refuses a step for this reason.
     Memory(Memory),
     /// No goroutine with this number was made, or it has ended.
     NoSuchGoroutine,
@@ -91,7 +91,7 @@ impl Refusal {
     }
 }
 
-/// Turns the error of running out of memory into the reason `Memory`.
+/// Turns an out-of-memory error into the reason `Memory`.
 impl From<Memory> for Refusal {
     ghost from_gives = { λ _ reason. reason ≡ out_of_memory };
 

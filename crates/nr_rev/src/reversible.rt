@@ -21,8 +21,8 @@ pub trait Reversible {
     type Delta;
 
     /// The maximum number of words in a delta, not counting the bytes that left a buffer. A number
-    /// counts as one word for each 64 bits or part of them, a truth value or a choice as one word,
-    /// and bytes as one word for each eight bytes or part of them.
+    /// counts as one word for each 64 bits, rounded up. A truth value and the tag of a variant
+    /// count as one word each. Bytes count as one word for each eight bytes, rounded up.
     const WORDS: u32;
 
     ghost WORDS: { ℕ };
@@ -36,7 +36,8 @@ pub trait Reversible {
     /// The reason why the operation does not apply in the state, other than running out of memory.
     ghost reason: { Self → Self.Op → Option Refusal };
 
-    /// True of the operations that take memory in the state, and so may fail for lack of it.
+    /// True if the operation allocates memory in this state, and so may fail because memory ran
+    /// out.
     ghost takes_memory: { Self → Self.Op → Type 0 };
 
     /// True if undoing the delta turns the new state back into the old one.
@@ -84,6 +85,6 @@ pub trait Reversible {
     ghost steps_unique: { (old : Self) (op : Self.Op) (a b : Self.Answer) (new other : Self)
         → steps old op a new → steps old op b other → (a ≡ b) × (new ≡ other) };
 
-    /// The allowance of each operation is at most the greatest allowance.
+    /// The allowance of each operation is at most the maximum, `WORDS`.
     ghost allowance_is_within: { (op : Self.Op) → allowance op ≤ WORDS };
 }

@@ -1,4 +1,4 @@
-//! A list with a fixed capacity, which grows without taking memory.
+//! A list with a fixed capacity. It never allocates memory to grow.
 
 ghost use Rattle.std.specs.Prelude.{◌≡◌, ◌+◌, ◌-◌, ◌<◌, ◌≤◌, ◌∷◌, ◌++◌, [], length, take, drop, insert, remove, slice_get, slice_set, Some, IfOk, IfSome};
 
@@ -6,9 +6,9 @@ use crate::Memory;
 use std::alloc::Global;
 use std::marker::Model;
 
-/// A list of at most `room` items; contracts see the items and the room. The constructor takes all
-/// its memory. No other method takes memory for this list, so undoing a step can't run out of
-/// memory; `try_copy` takes memory for the copy.
+/// A list of at most `room` items; in contracts, the items and the room. The constructor allocates
+/// all its memory. No other method allocates memory for this list, so undoing a step can't run out
+/// of memory; `try_copy` allocates the copy.
 #[derive(Drop)]
 pub struct RoomedList<T> {
     items: Vec<T>,
@@ -142,7 +142,7 @@ impl<T: Copy + Drop> RoomedList<T> {
         Ok(copy)
     }
 
-    /// Copies the items of another list, which has no more room than this one. Takes no memory.
+    /// Copies the items of another list, which has no more room than this one. Allocates no memory.
     pub fn copy_from(&mut self, other: &RoomedList<T>)
         requires { other.now.room ≤ self.old.room }
         ensures { self.new ≡ record self.old { items = other.now.items } }

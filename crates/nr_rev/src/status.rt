@@ -3,8 +3,8 @@
 use crate::answer::Answer;
 use crate::sides::{Side, Sides};
 
-/// The status of a goroutine. From `Entering` to `Checking`, the goroutine is inside a wait of a descriptor and side,
-/// that is, in `runtime_pollWait` of `runtime/netpoll.go`.
+/// The status of a goroutine. From `Entering` to `Checking`, the goroutine is inside a wait at one side of a
+/// descriptor, that is, in `runtime_pollWait` of `runtime/netpoll.go`.
 #[derive(Clone, Copy, Debug, PartialEq, Eq)]
 pub enum Status {
     /// The goroutine isn't inside a call that takes several steps.
@@ -30,7 +30,7 @@ pub enum Status {
         reads: u32,
         writes: u32,
     },
-    /// The goroutine will announce that it waits: `netpollblock` begins.
+    /// The goroutine will set the wait word to wait: `netpollblock` begins.
     Entering {
         descriptor: u32,
         side: Side,

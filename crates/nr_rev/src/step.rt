@@ -121,7 +121,7 @@ pub enum Step {
     BlockCheck {
         goroutine: u32,
     },
-    /// `netpollblockcommit`: the goroutine parks if the word still is wait. Answers `Yes` or `No`.
+    /// `netpollblockcommit`: the goroutine parks if the word is still wait. Answers `Yes` or `No`.
     ParkCommit {
         goroutine: u32,
     },

@@ -2,7 +2,7 @@
 
 use crate::sides::Side;
 
-/// The function that a timer runs when it fires, after `runtime/netpoll.go`.
+/// The function that a timer runs when it fires, modelled on `runtime/netpoll.go`.
 #[derive(Clone, Copy, Debug, PartialEq, Eq)]
 pub enum TimerFunction {
     /// The read deadline expires: `netpollReadDeadline`.
@@ -58,7 +58,8 @@ impl Timer {
     ghost use Rattle.std.specs.Prelude.{◌≡◌};
     ghost use Rattle.nr_rev.specs.Timer.{is_before};
 
-    /// Returns whether this timer goes off before another: by due time, and at the same time by arming number.
+    /// Returns whether this timer goes off before another. The timer with the earlier due time does. If the due times
+    /// are equal, the timer with the lower arming number does.
     pub fn is_before(&self, other: &Timer) -> bool
         ensures { result ≡ is_before self.now other.now }
     {

@@ -9,8 +9,8 @@ use crate::refusal::Refusal;
 use crate::reversible::Reversible;
 use arrayvec::ArrayVec;
 
-/// Undoes the deltas from the last to the first, and empties the list. Takes no memory and can't
-/// fail.
+/// Undoes the deltas from the last to the first, and empties the list. Allocates no memory and
+/// can't fail.
 pub fn undo_all<S: Reversible>(state: &mut S, deltas: &mut ArrayVec<S::Delta, 8>)
 where
     S::Delta: Default + Drop,

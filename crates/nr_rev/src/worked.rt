@@ -159,7 +159,7 @@ pub fn shut_write_side_recording_holds()
     ensures all_apply { first_refused_of a_shut_write_side ≡ None }
 {}
 
-/// Deadlines that share a timer and then differ: a firing that is no longer current expires nothing.
+/// Two deadlines share a timer and then differ. The firing of the shared timer is then stale, and no deadline expires.
 pub fn deadline_recording_holds()
     ensures firings_at_six { cell_after a_stale_firing_of_both_deadlines 6 Cell.Firings
         ≡ CellValue.Number 1 }
@@ -190,9 +190,8 @@ pub fn deadline_recording_holds()
     ensures all_apply { first_refused_of a_stale_firing_of_both_deadlines ≡ None }
 {}
 
-/// The greatest time replaces a later deadline. A descriptor that is opened again has new numbers,
-/// so an event from before is stale. No timer goes off while the number of waiting firings is twice
-/// the limit of descriptors.
+/// The greatest time replaces a later deadline. A descriptor that is opened again has new numbers, so an event with an
+/// earlier number is stale. No timer goes off while the number of waiting firings is twice the limit of descriptors.
 pub fn deadline_limits_hold()
     ensures greatest_time { cell_after a_deadline_past_the_greatest_time 4 (Cell.ReadDeadline 0)
         ≡ CellValue.Time (pos 9223372036854775807) }

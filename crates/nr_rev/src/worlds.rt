@@ -37,9 +37,8 @@ pub trait Worlds: Reversible<Op = Step, Answer = Answer> + Sized {
     /// The state that a snapshot stores.
     ghost kept: { Self.Snapshot → Self };
 
-    /// Makes the world before the first step: goroutine 0 is idle, and nothing else exists. Takes
-    /// all the memory that the limits allow the world, so a later step takes memory only if its
-    /// delta keeps bytes.
+    /// Makes the world before the first step: goroutine 0 is idle, and nothing else exists. Allocates all the memory
+    /// that a world within these limits can need, so a later step allocates memory only if its delta keeps bytes.
     fn fresh(alloc: Global, limits: Limits) -> Result<Self, Memory>
         requires { AreInRange limits }
         ensures well_formed { IfOk result (λ w. Self.is_well_formed w) }
@@ -49,9 +48,8 @@ pub trait Worlds: Reversible<Op = Step, Answer = Answer> + Sized {
     fn try_copy(&self) -> Result<Self, Memory>
         ensures { IfOk result (λ w. w ≡ self.now) };
 
-    /// Returns a snapshot of the world. Parts that are the same in the snapshot `last` may be
-    /// shared with it. Takes memory for the contents, and none for the spare room that the limits
-    /// allow.
+    /// Returns a snapshot of the world. Parts that are the same in the snapshot `last` may be shared with it. Allocates
+    /// memory for the contents, but not for the spare room that the limits allow.
     fn snapshot(&self, last: Option<&Self::Snapshot>) -> Result<Self::Snapshot, Memory>
         ensures { IfOk result (λ snapshot. kept snapshot ≡ self.now) };
 
@@ -59,8 +57,8 @@ pub trait Worlds: Reversible<Op = Step, Answer = Answer> + Sized {
     fn restored(snapshot: &Self::Snapshot) -> Result<Self, Memory>
         ensures { IfOk result (λ w. w ≡ kept snapshot.now) };
 
-    /// Becomes the world that the snapshot stores. If both have the same limits, this world reuses
-    /// its room, and the call takes no memory and can't fail.
+    /// Becomes the world that the snapshot stores. If both have the same limits, the call reuses this world's memory,
+    /// allocates none and can't fail.
     fn restore(&mut self, snapshot: &Self::Snapshot) -> Result<(), Memory>
         requires well_formed { Self.is_well_formed self.old }
         requires kept { Self.is_well_formed (kept snapshot.now) }
@@ -87,7 +85,7 @@ pub trait Worlds: Reversible<Op = Step, Answer = Answer> + Sized {
         requires { (old : Self) × Self.back delta.old self.old old }
         ensures { Self.back delta.old self.old self.new };
 
-    /// Applies the step as `apply` does, without a delta. Takes no memory.
+    /// Applies the step as `apply` does, without a delta. Allocates no memory.
     fn advance(&mut self, step: &Step) -> Result<Answer, Refusal>
         requires { Self.is_well_formed self.old }
         ensures step { IfOk result (λ answer. Self.steps self.old step.now answer self.new) }
@@ -101,30 +99,30 @@ pub trait Worlds: Reversible<Op = Step, Answer = Answer> + Sized {
         ensures { result ≡ cell (world self.now) what };
 
     /// Returns the bytes in a socket's buffer, the input for the read side, or `None` if the socket doesn't exist.
-    /// Takes memory only for these bytes, so it can't fail if there are none.
+    /// Allocates memory only for these bytes, so it can't fail if there are none.
     fn bytes(&self, socket: u32, side: Side) -> Result<Option<Bytes>, Memory>
         ensures ok { IfOk result (λ bytes. bytes ≡ bytes_of (world self.now) socket side) }
         ensures some { OnErr result (HasItems (bytes_of (world self.now) socket side)) };
 
-    /// Returns the goroutines queued at a socket's semaphore, front first, or `None` if the socket doesn't exist. Takes
-    /// memory only for their numbers, so it can't fail if the queue is empty.
+    /// Returns the goroutines queued at a socket's semaphore, front first, or `None` if the socket doesn't exist.
+    /// Allocates memory only for their numbers, so it can't fail if the queue is empty.
     fn queue(&self, socket: u32, side: Side) -> Result<Option<Queue>, Memory>
         ensures ok { IfOk result (λ queue. queue ≡ queue_of (world self.now) socket side) }
         ensures some { OnErr result (HasItems (queue_of (world self.now) socket side)) };
 
-    /// Each step of the type is the step in the machine's definition.
+    /// A step of this type gives the answer and the world that the machine's definition gives.
     ghost steps_are: { (old : Self) (step : Step) (answer : Answer) (new : Self)
         → Self.steps old step answer new → outcome (world old) step ≡ Ok (answer, world new) };
 
-    /// The type refuses a step for the reason in the machine's definition.
+    /// This type refuses a step for the same reason as the machine's definition.
     ghost reasons_are: { (old : Self) (step : Step) → Self.reason old step
         ≡ refusal_of (outcome (world old) step) };
 
-    /// A step takes memory only if bytes leave a buffer, since undoing needs them.
+    /// A step allocates memory only if bytes leave a buffer, since undoing needs these bytes.
     ghost memory_is_for_bytes: { (old : Self) (step : Step) → Self.takes_memory old step
         → LosesBytes (world old) step };
 
-    /// The extra weight that a delta is allowed counts the bytes that leave a buffer.
+    /// The bytes for which a delta may have extra words are the bytes that leave a buffer.
     ghost bytes_out_are: { (step : Step) (answer : Answer) → Self.bytes_out step answer
         ≡ bytes_left step answer };
 

@@ -6,7 +6,8 @@ use Rattle.nr_rev.specs.Refusing.{◌>>=◌}
 use Rattle.nr_rev.specs.declared.descriptor.Descriptor.{Descriptor}
 use Rattle.nr_rev.specs.Descriptor.{Change, and_then, timer_follows}
 
--- adjusts both sides' timers, reading first, after the deadlines of `old` became those of d
+-- adjusts both sides' timers, the read side's first, to the deadlines of d; `old` is the descriptor
+-- before they were set
 abbrev pub both_follow : Descriptor → Descriptor → Result Change Refusal
 both_follow old d = do
   read ← timer_follows Read old d

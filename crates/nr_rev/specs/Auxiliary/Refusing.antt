@@ -1,7 +1,7 @@
 -- Helper definitions for `Refusing`. The laws in THEOREM.md don't use them.
 use Rattle.std.specs.Prelude.{◌≡◌, Result, Ok, Err}
 
--- true if the result, after the view maps its value, equals the result of the definition
+-- true if the definition gives the view of the result's value, or the same error as the result
 abbrev pub Gives : {X Y E : Type 0} → (X → Y) → Result X E → Result Y E → Type 0
 Gives view (Ok x) defined = defined ≡ Ok (view x)
 Gives view (Err e) defined = defined ≡ Err e

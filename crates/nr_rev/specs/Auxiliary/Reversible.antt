@@ -1,8 +1,8 @@
 -- Helper definitions for `Reversible`. The laws in THEOREM.md don't use them.
 use Rattle.std.specs.Prelude.{◌≡◌, ℕ, ◌+◌, ◌/◌, ◌≤◌, Bool, true}
 
--- true if a delta weighs at most its operation's allowance, plus one word for each eight bytes, or
--- part of them, that left a buffer
+-- true if a delta has at most as many words as its operation's allowance, plus one word for each
+-- eight bytes that left a buffer, rounded up
 abbrev pub IsLight : {Op Answer Delta : Type 0} → (Delta → ℕ) → (Op → ℕ) → (Op → Answer → ℕ) → Op
     → Answer → Delta → Type 0
 IsLight weight allowance bytes_out op answer delta =

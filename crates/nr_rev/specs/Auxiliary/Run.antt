@@ -19,7 +19,7 @@ pub record AppliesAt (r : Recording) (n : ℕ) : Type 0 where
   pub next : slice_get r.steps n ≡ Some step
   pub applies : IsOk (outcome (world_at r n) step)
 
--- true if bytes leave a buffer at the step after position n, so that keeping them takes memory
+-- true if bytes leave a buffer at the step after position n; an undo needs memory for them
 pub record LosesBytesAt (r : Recording) (n : ℕ) : Type 0 where
   pub step : Step
   pub next : slice_get r.steps n ≡ Some step
