@@ -163,7 +163,7 @@ socket_set aspects w s old new at kept = record { each = each }
     each (Cell.Shut k) e = of_value (λ x. Number (bit x.shut)) k (ap (λ shut. Number (bit shut)) (kept.shut e))
     each c e = refl
 
--- true if these aspects include those of all cells of sockets
+-- true if these aspects include every aspect that a socket's cells have
 pub record AreSockets (aspects : List Aspect) : Type 0 where
   pub locks : is_among aspects Locks ≡ true
   pub semaphores : is_among aspects Semaphores ≡ true
@@ -226,7 +226,7 @@ no_entries_more : (k : ℕ) (rows : List DescriptorRow) → entries_from k (map 
 no_entries_more k [] = refl
 no_entries_more k (row ∷ rows) = ap (λ es. entries_at k row.timers ++ es) (no_entries_more (k + 1) rows)
 
--- true if these aspects include those of all cells of descriptors
+-- true if these aspects include every aspect that a descriptor's cells have
 pub record AreDescriptors (aspects : List Aspect) : Type 0 where
   pub words : is_among aspects WaitWords ≡ true
   pub deadlines : is_among aspects Deadlines ≡ true

@@ -43,7 +43,7 @@ woken_append : (gs hs : List ℕ) (w : World) → after_wakes (gs ++ hs) w ≡ a
 woken_append [] hs w = refl
 woken_append (g ∷ gs) hs w = woken_append gs hs (after_wakes (g ∷ []) w)
 
--- the world after a change of descriptor d that leaves it with these timers
+-- the world after this change to descriptor d, which then has these timers
 abbrev changed_world : ℕ → Sides (Option Timer) → Change → World → World
 changed_world d timers change w = after_wakes change.woken (with_row d (record { descriptor = change.descriptor; timers = timers }) w)
 

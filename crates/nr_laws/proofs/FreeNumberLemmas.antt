@@ -17,7 +17,7 @@ use Rattle.nr_rev.proofs.NumberLemmas.{count_front, number_same, same_number}
 swap_equal : (a b : ℕ) → (a == b) ≡ (b == a)
 swap_equal a b = grind arith
 
--- the free list contains a number that isn't free zero times
+-- a number that isn't free doesn't occur in the free list
 pub uncounted : (d : ℕ) (free : List ℕ) → is_free_number d free ≡ false → count_by (λ f. f == d) free ≡ 0
 uncounted d [] e = refl
 uncounted d (f ∷ free) e =

@@ -98,8 +98,8 @@ Ends-update side old new before n (TimerUpdate.Stopped raised halted) =
 Ends-updated_by : (side : Side) (old new : Descriptor) (before : Sides (Option Timer)) (n : ℕ) (orders : List TimerOrder) → UpdatedBy side old new orders → OrdersEnd side old new before n orders
 Ends-updated_by side old new before n orders (update, is) = subst (OrdersEnd side old new before n) (sym is) (Ends-update side old new before n update)
 
--- if a side has a timer after an update, it is the old timer, or the update gives the same timer to
--- a side without one
+-- If an update leaves a side with timer t, then t is the old timer, or the update also leaves t if
+-- the side had no timer.
 old_or_new : (side : Side) (old new : Descriptor) (before : Option Timer) (n : ℕ) (update : TimerUpdate side old new) (t : Timer) → timer_left side old new before n update ≡ Some t
     → (before ≡ Some t) ⊎ (timer_left side old new None n update ≡ Some t)
 old_or_new side old new before n (TimerUpdate.Kept sequence running same) t is = inl is

@@ -1,4 +1,4 @@
--- If the statuses of goroutines look the same to words and queues, WordsFit and QueuesFit still hold.
+-- `WaitWordsFit` and `QueuesFit` depend on statuses only through `parked_of`, `awaiting_of` and `is_queued`.
 use Rattle.std.proofs.Common.{◌≡◌, ℕ, ◌≤◌, List, length, Option, sym, ap, ◌∙◌}
 use Rattle.std.specs.List.{slice_get}
 use Rattle.std.specs.Option.{option_and_then}
@@ -27,7 +27,7 @@ pub QueuesFit-same : (old new : List Status) (sockets : List Socket) → ((s : �
 QueuesFit-same old new sockets same h =
     record { queued = λ g s side socket at. h.queued g s side socket at ∙ sym (ap bit (same s side g)) }
 
--- statuses change, but look the same to words and queues
+-- statuses change, but `parked_of`, `awaiting_of` and `is_queued` have the same values as before
 pub unseen_set_keeps : (w : World) (gs : List Status) → WellFormed w → GoroutinesFit gs w.sockets w.descriptors w.free → SameView (option_and_then parked_of) w.goroutines gs
     → SameView (option_and_then awaiting_of) w.goroutines gs → ((s : ℕ) (side : Side) → SameView (is_queued s side) w.goroutines gs) → length gs ≤ w.limits.goroutines
     → WellFormed (record w { goroutines = gs })

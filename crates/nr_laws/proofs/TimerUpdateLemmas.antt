@@ -107,14 +107,13 @@ covered TimerFunction.Read Write side e c = cc
 covered TimerFunction.Write Read side e c = cc
 covered TimerFunction.Write Write side e c = inl (sym e)
 
--- a function covers the side that belongs to it
+-- a timer function covers the side that `side_of_function` returns for it
 pub own_side : (f : TimerFunction) (side : Side) → side ≡ side_of_function f → covers_side f side ≡ true
 own_side TimerFunction.Read side e = ap (covers_side TimerFunction.Read) e
 own_side TimerFunction.Write side e = ap (covers_side TimerFunction.Write) e
 own_side TimerFunction.Both side e = refl
 
--- if t is the deadline of the side that a timer's function belongs to, each side that the function
--- covers has the deadline t
+-- if t is the deadline of `side_of_function f`, every side that f covers has the deadline t
 pub due_of_each : (t : ℤ) (f : TimerFunction) (s side : Side) (d : Descriptor) → t ≡ of_side side d.deadlines → side ≡ side_of_function f → covers_side f s ≡ true
     → (f ≡ TimerFunction.Both → is_combo d ≡ true) → t ≡ of_side s d.deadlines
 due_of_each t f s side d is same covers combo =

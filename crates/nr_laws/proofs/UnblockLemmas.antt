@@ -95,7 +95,7 @@ unblocked_keeps w d row side ioready h at is_open = go (of_side side row.descrip
     go WaitWord.Wait is = unblocked_quietly w d row side WaitWord.Wait _ h at is_open is refl (if_clear ioready)
     go (Held g) is = unblocked_waking w d g row side _ h at is_open is (if_clear ioready)
 
--- clearing a word that holds no goroutine and isn't at wait
+-- clearing a word that is nil or ready
 pub cleared : (w : World) (d : ℕ) (side : Side) (row : DescriptorRow) → WellFormed w → slice_get w.descriptors d ≡ Some row → is_free_number d w.free ≡ false
     → (of_side side row.descriptor.words ≡ Nil) ⊎ (of_side side row.descriptor.words ≡ Ready) → WellFormed (with_row d (with_words row (with_side side Nil row.descriptor.words)) w)
 cleared w d side row h row_at is_open either =

@@ -17,7 +17,7 @@ use Rattle.nr_rev.proofs.ListUpdateLemmas.{slice_get-set_cases, slice_get-set_he
 abbrev pub with_words : DescriptorRow → Sides WaitWord → DescriptorRow
 with_words row words = record row { descriptor = record row.descriptor { words = words } }
 
--- the row with other words and flags
+-- the row with these wait words, this event error and this fdseq
 abbrev pub with_marks : DescriptorRow → Sides WaitWord → Bool → ℕ → DescriptorRow
 with_marks row words error fdseq = record row { descriptor = record row.descriptor { words = words; event_error = error; fdseq = fdseq } }
 
@@ -97,7 +97,7 @@ word_at_cases rows d row side new k s word at has =
       | inr there ↦ inr ((λ both. there.0 both.0), there.1)
     ]
 
--- after one word changes, each word that differs from its old value is as before
+-- if the word that changes isn't `word`, each place that has `word` keeps it
 pub word_kept : (rows : List DescriptorRow) (d : ℕ) (row : DescriptorRow) (side : Side) (new : WaitWord) (k : ℕ) (s : Side) (word : WaitWord) → slice_get rows d ≡ Some row
     → of_side side row.descriptor.words ≢ word → HasWaitWord rows k s word → HasWaitWord (with_word_at rows d row side new) k s word
 word_kept rows d row side new k s word at other has =

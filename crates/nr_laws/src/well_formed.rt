@@ -40,8 +40,7 @@ pub fn positions_are_well_formed()
         → WellFormed (world_at r n) }
 {}
 
-/// The words that a goroutine finds in a wait: nil or ready at blockarm, and no word that holds a goroutine at
-/// blockswap.
+/// At blockarm, a goroutine finds its wait word nil or ready. At blockswap, it finds a word that holds no goroutine.
 pub fn words_where_taken_up()
     ensures arm { (w : World) (g d : ℕ) (side : Side) (word : WaitWord) → WellFormed w
         → slice_get w.goroutines g ≡ Some (Entering d side)
