@@ -20,6 +20,6 @@ spelled_from : (word : List ℕ) (i : ℕ) (xs : List ℕ) → AreAt word i xs �
 spelled_from word i [] at = drop_all i word at
 spelled_from word i (x ∷ xs) at = drop_more word i 0 at.0 ∙ ap₂ (λ y ys. y ∷ ys) at.1 (spelled_from word (i + 1) xs at.2)
 
--- a word that has certain bytes from index 0 on equals them
+-- if the bytes of a word from index 0 on are xs, the word is xs
 pub spelled : (word xs : List ℕ) → AreAt word 0 xs → word ≡ xs
 spelled word xs at = spelled_from word 0 xs at

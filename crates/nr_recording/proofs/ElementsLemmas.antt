@@ -1,5 +1,5 @@
--- A step is determined by the elements of its JSON value, because a value that isn't an array has
--- no elements.
+-- A step depends only on the elements of its JSON value. A value that isn't an array has no
+-- elements.
 use Rattle.std.proofs.Common.{◌≡◌, Option, Some, refl}
 use Rattle.serde_json.specs.Data.{Data, null, boolean, number, string, array, object}
 use Rattle.nr_recording.specs.declared.reading.Header.{Header}

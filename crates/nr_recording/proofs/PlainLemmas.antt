@@ -1,4 +1,4 @@
--- The tokens of items in the usual spelling are read as the parts that the items denote.
+-- Items in the usual spelling have the tokens of the parts that they denote.
 use Rattle.std.proofs.Common.{◌≡◌, ◌≤◌, ◌<◌, ◌^◌, ◌/◌, ◌%◌, ◌*◌, ◌+◌, ℕ, true, false, ◌==◌, List, [], ◌∷◌, ◌++◌, length, take, drop, ◌-◌, get_or, get_or-take, decimal, lit≤, Some, option_map, refl, sym, ap, ap₂, ◌∙◌, append_assoc, append-nil, inl, inr, ◌⊎◌, arith}
 use Rattle.std.proofs.lemmas.Bool.{eqb-true, ne_eqb, or_cases, false≢true, le-ltb}
 use Rattle.std.proofs.lemmas.Fmt.{decimal_digit, decimal_step}
@@ -40,7 +40,7 @@ pub item_ends : (text : List ℕ) → ends_item text ≡ true → (ends_word tex
 item_ends [] e = absurd (false≢true e)
 item_ends (x ∷ xs) e = ended x xs (either x (or_cases (x == 44) (x == 93) e))
 
--- a text that isn't followed by a colon is an item if an item may begin there
+-- a string that no colon follows is an item if it is at a place where an item may begin
 string_placed : (place : Place) (s : List ℕ) (ls : List Lexeme) → may_begin place ≡ true → begins_colon ls ≡ false
     → punctuate place (Lexeme.token (Token.string s) ∷ ls) ≡ Token.string s ∷ punctuate after_value ls
 unfolding punctuate

@@ -155,7 +155,7 @@ usual : {A : Type 0} (kind : Kind) (step : A → Step) (found : Items → Result
     → MakesFitting kind (λ ds. step_from step (found ds))
 usual kind step found kinded h = of_found kind step found kinded (λ ds p e. h p.0)
 
--- a step that is read is of its kind and fits in a line
+-- reading the arguments of a kind returns a step of that kind that fits in a line
 kind_made : (kind : Kind) → MakesFitting kind (step_in kind)
 kind_made Kind.Arrive = of_found _ _ _ (λ x. refl) (second_only AreFew number bytes few_bytes)
 kind_made Kind.SysWrite = of_found _ _ _ (λ x. refl) (second_only (λ p. AreFew p.1) number (number and bytes) (second_only AreFew number bytes few_bytes))

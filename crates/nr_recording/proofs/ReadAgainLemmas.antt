@@ -1,4 +1,4 @@
--- The written form of a step is read as that step, and that of limits as those limits.
+-- Reading the written form of a step or of limits returns the same step or limits.
 use Rattle.std.proofs.Common.{◌≡◌, ◌≤◌, ◌<◌, ◌^◌, ℕ, ℤ, pos, negsuc, Bool, true, false, ◌&&◌, ltb, leb, List, [], ◌∷◌, ◌++◌, length, get_or, Option, Some, None, Ok, refl, arith}
 use Rattle.std.proofs.lemmas.Bool.{and_parts, lt-ltb, le-ltb, le-leb, leb-true}
 use Rattle.hex.specs.Hex.{encode_lower, lower_digits}

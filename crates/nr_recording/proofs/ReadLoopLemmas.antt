@@ -36,7 +36,7 @@ ends bytes seen i is so_far =
     let one : with_lines (suc i) seen [] ≡ Ok seen = refl in
     rw (sym so_far ∙ one, ← is) refl
 
--- if reading a line ran out of memory, the line allocates memory
+-- if memory ran out while a line was read, reading that line allocates memory
 pub wanted : (line : List ℕ) (rest : List (List ℕ)) (n : ℕ) (e : LineError) → (e ≡ errors.Memory refused_memory → line_takes_memory line ≡ true) → read_fault_at n e ≡ faults.Memory refused_memory
     → list_any line_takes_memory (line ∷ rest) ≡ true
 wanted line rest n (errors.Memory refused) h reported = list_any_at line_takes_memory (line ∷ rest) 0 line (omega arith) (h refl)

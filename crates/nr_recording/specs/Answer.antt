@@ -27,7 +27,7 @@ counted text n = if bytes_eq text (codes "number") then Some (answers.Number n)
     else (if bytes_eq text (codes "got") then Some (answers.Got n)
     else (if bytes_eq text (codes "put") then Some (answers.Put n) else None)))
 
--- the answer that two values, a word and a number of 32 bits, denote
+-- the answer that two values denote: a word and an unsigned 32-bit number
 abbrev pub counted_of : Items → Option Answer
 counted_of (item word (item count no_items)) =
     option_and_then (λ text. option_and_then (counted text) (u32_of count)) (as_str word)

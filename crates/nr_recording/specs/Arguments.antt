@@ -19,7 +19,7 @@ use Rattle.nr_rev.specs.declared.sides.Mode.TheVariants as modes
 
 -- ---- one argument
 
--- an unsigned number of 64 bits
+-- an unsigned 64-bit number
 abbrev pub u64_of : Data → Option ℕ
 u64_of d = option_and_then as_u64 (as_number d)
 
@@ -31,7 +31,7 @@ bit_named n = if n == 0 then Some false else (if n == 1 then Some true else None
 abbrev pub bit_of : Data → Option Bool
 bit_of d = option_and_then bit_named (u64_of d)
 
--- a signed number of 64 bits
+-- a signed 64-bit number
 abbrev pub i64_of : Data → Option ℤ
 i64_of d = option_and_then as_i64 (as_number d)
 
@@ -85,11 +85,11 @@ first_by read (item d ds) = or_fault fault.Arguments (option_map (λ x. (x, ds))
 unfoldable pub none : Items → Result (⊤ × Items) Fault
 none ds = Ok (tt, ds)
 
--- a number of 32 bits
+-- an unsigned 32-bit number
 abbrev pub number : Items → Result (ℕ × Items) Fault
 number ds = first_by u32_of ds
 
--- a number of 64 bits
+-- an unsigned 64-bit number
 abbrev pub tag : Items → Result (ℕ × Items) Fault
 tag ds = first_by u64_of ds
 

@@ -4,8 +4,8 @@ use Rattle.nr_rev.specs.declared.answer.Answer.{Answer}
 use Rattle.nr_rev.specs.declared.sides.Side.{Side}
 use Rattle.nr_rev.specs.declared.sides.Mode.{Mode}
 
--- a part of a line after its name: a number of 32 bits, a tag of 64 bits, a signed time, a side, a
--- mode, a bit, bytes, or the answer
+-- a part of a line after its name: a 32-bit number, a 64-bit tag, a signed time, a side, a mode, a
+-- bit, bytes, or the answer
 pub data Argument : Type 0 where
   numeral : ℕ → Argument
   tag : ℕ → Argument

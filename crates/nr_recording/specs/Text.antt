@@ -31,7 +31,7 @@ IsHeaderLine version line limits = (d : Data) × IsValueLine line d × (version_
 abbrev pub IsStepLine : Version → List ℕ → RecordedStep → Type 0
 IsStepLine version line step = (d : Data) × IsValueLine line d × (step_of version d ≡ Ok step)
 
--- true if the lines are a line for each step, in order, and skipped lines
+-- true if the lines, except for skipped ones, are one line for each step, in order
 abbrev pub AreSteps : Version → List (List ℕ) → List RecordedStep → Type 0
 AreSteps version [] [] = ⊤
 AreSteps version [] (step ∷ steps) = ⊥

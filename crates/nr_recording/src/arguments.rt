@@ -79,14 +79,14 @@ fn mode_of(part: Part<'_>) -> Option<Mode>
     mode_named(part.as_bytes()?)
 }
 
-/// Reads a number of 32 bits.
+/// Reads an unsigned 32-bit number.
 pub(crate) fn number(arguments: &mut Parts<'_>) -> Result<u32, Fault>
     ensures { number_in (rest_of arguments.old) ≡ with_rest (rest_of arguments.new) result }
 {
     arguments.next().and_then(u32_of).ok_or(Fault::Arguments)
 }
 
-/// Reads a number of 64 bits.
+/// Reads an unsigned 64-bit number.
 pub(crate) fn tag(arguments: &mut Parts<'_>) -> Result<u64, Fault>
     ensures { tag_in (rest_of arguments.old) ≡ with_rest (rest_of arguments.new) result }
 {

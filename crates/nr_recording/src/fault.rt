@@ -1,4 +1,4 @@
-//! The errors of making, reading and writing a recording.
+//! The errors when a recording is made, read or written.
 
 ghost use Rattle.std.specs.Prelude.{◌≡◌, Some};
 ghost use Rattle.nr_rev.specs.Refusing.{refused_memory};
@@ -134,7 +134,7 @@ impl From<Fault> for LineError {
     }
 }
 
-/// Converts an error of reading hexadecimal digits: unless memory ran out, the argument is faulty.
+/// Converts an error from the hexadecimal decoder. Unless memory ran out, the argument is faulty.
 impl From<FromHexError> for LineError {
     ghost from_gives = { λ error e. e ≡ of_hex error };
 

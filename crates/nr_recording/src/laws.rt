@@ -12,9 +12,9 @@ ghost use Rattle.nr_recording.specs.Writing.{HasTypedArguments, text};
 ghost use Rattle.nr_recording.specs.declared.recording.TheConstants.{MOST_BYTES, MOST_STEPS};
 ghost use Rattle.nr_recording.specs.declared.reading.TheConstants.{MOST_LINE_BYTES};
 
-/// The text that `write` writes for a recording is in the grammar and is read as that recording.
-/// `HasTypedArguments` only says that each number in a step and its answer is in the range of its
-/// type.
+/// The text that `write` writes for a recording follows the grammar, and reading it returns the
+/// same recording. `HasTypedArguments` only says that each number in a step and its answer is in
+/// the range of its type.
 #[tactic(auto, using(crate::proofs::WrittenLemmas::text_is_text, crate::proofs::WrittenLemmas::text_read_again))]
 pub fn what_is_written_is_read_again()
     ensures text { (r : Recorded) → IsRecording r → All HasTypedArguments r.steps → IsTextOf (text r) r }
@@ -22,7 +22,7 @@ pub fn what_is_written_is_read_again()
         → reading (text r) ≡ Ok r }
 {}
 
-/// A text denotes at most one recording, which is the one that `read` returns.
+/// A text denotes at most one recording: the one that `read` returns.
 #[tactic(auto, using(crate::proofs::TextLaws::reading_found))]
 pub fn a_text_is_of_what_it_is_read_as()
     ensures found { (bytes : List ℕ) (r : Recorded) → reading bytes ≡ Ok r → IsTextOf bytes r }

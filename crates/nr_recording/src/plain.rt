@@ -65,7 +65,7 @@ fn ends_item(text: &[u8]) -> bool
     matches!(text.first(), Some(b',' | b']'))
 }
 
-// Returns an unsigned number that is an array item, and the rest of the text.
+// Reads an unsigned number that is an array item. Returns it and the rest of the text.
 #[inline(always)]
 fn number(text: &[u8]) -> Option<(u64, &[u8])>
     ensures begins { IfSome result (λ r. Begins text.now (number (decimal r.0) ∷ []) r.1.now) }
@@ -91,7 +91,8 @@ fn has_control(bytes: &[u8]) -> bool
     found
 }
 
-// Returns a text without escapes that is an array item, and the rest of the text.
+// Reads a JSON string without escapes that is an array item. Returns its contents and the rest of
+// the text.
 #[inline(always)]
 fn text(text: &[u8]) -> Option<(&[u8], &[u8])>
     ensures begins { IfSome result (λ r. Begins text.now (string r.0.now ∷ []) r.1.now) }

@@ -1,4 +1,5 @@
-//! Makes the JSON value of a line to write, a name and arguments, with one function for each shape.
+//! Makes the JSON value of a line to write. The value consists of a name and arguments; each shape
+//! has its own function.
 
 ghost use Rattle.std.specs.Prelude.{◌≡◌, IfOk, [], ◌∷◌};
 ghost use Rattle.serde_json.specs.View.{view};

@@ -57,9 +57,9 @@ fn write_line<W: Write>(alloc: Global, value: &Value, out: &mut Sink<W>) -> Resu
 
 /// Writes the text of a recording in its version: each value in compact form, with its keys in
 /// alphabetical order and hexadecimal digits in lower case, and a line feed after each line.
-/// `WriteFault` says what was written before an error. An interrupted write is retried. If no write
-/// on the sink has failed before, the call fails with `Device` exactly if a write fails or accepts
-/// no bytes.
+/// `WriteFault` says what was written before an error. An interrupted write is retried. If no
+/// earlier write to the sink failed, the call fails with `Device` if and only if a write fails or
+/// accepts no bytes.
 pub fn write<W: Write>(
     alloc: Global,
     recording: &Recording,
@@ -80,7 +80,8 @@ pub fn write<W: Write>(
     ensures device { result ≡ Err WriteFault.Device
         → SendsPart out.old out.new (text recording.now) }
 
-    // If no write failed before, a write of this call failed exactly if the result is `Device`.
+    // If no earlier write failed, a write in this call failed if and only if the result is
+    // `Device`.
     ensures failed { out.new.failed ≡ (out.old.failed || is_device_failure result) }
 {
     let header = header_value(alloc, recording.version(), recording.limits())?;

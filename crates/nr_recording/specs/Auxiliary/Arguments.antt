@@ -6,8 +6,8 @@ use Rattle.serde_json.specs.Find.{as_str}
 use Rattle.nr_recording.specs.declared.fault.Fault.{Fault}
 use Rattle.nr_recording.specs.Arguments.{most_digits}
 
--- true if reading the bytes of a text allocates memory because it has an even number of digits,
--- within the maximum
+-- true if decoding a text as hexadecimal digits allocates memory: its length is even and within the
+-- maximum
 abbrev pub digits_take_memory : List ℕ → Bool
 digits_take_memory text = not (nat_lt most_digits (length text)) && (length text % 2 == 0)
 
@@ -27,7 +27,7 @@ abbrev pub first_takes_memory : Items → Bool
 first_takes_memory no_items = false
 first_takes_memory (item d ds) = argument_takes_memory d
 
--- true if reading the argument after these allocates memory
+-- true if reading the next argument allocates memory, given the result of reading those before it
 abbrev pub next_takes_memory : {A : Type 0} → Result (A × Items) Fault → Bool
 next_takes_memory (Ok found) = first_takes_memory found.1
 next_takes_memory (Err f) = false

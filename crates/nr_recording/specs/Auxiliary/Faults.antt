@@ -19,7 +19,7 @@ abbrev pub of_hex : FromHexError → LineError
 of_hex OutOfMemory = errors.Memory refused_memory
 of_hex _ = errors.Fault fault.Arguments
 
--- the error for a JSON reader's error of this category
+-- the error for a line, given the category of the JSON reader's error
 abbrev pub of_category : Category → LineError
 of_category categories.Memory = errors.Memory refused_memory
 of_category _ = errors.Fault fault.NotJson
@@ -33,11 +33,11 @@ abbrev pub Fails : {Y : Type 0} → LineError → Result Y Fault → Type 0
 Fails (errors.Memory refused) read = Unit {0}
 Fails (errors.Fault f) read = read ≡ Err f
 
--- true if a function's result, mapped by `view`, is that of reading, or if memory ran out
+-- true if a function's result, mapped by `view`, equals `read`, or if memory ran out
 abbrev pub ReadsBy : {X Y : Type 0} → (X → Y) → Result X LineError → Result Y Fault → Type 0
 ReadsBy view (Ok x) read = read ≡ Ok (view x)
 ReadsBy view (Err e) read = Fails e read
 
--- true if a function's result is that of reading, or if memory ran out
+-- true if a function's result equals `read`, or if memory ran out
 abbrev pub Reads : {X : Type 0} → Result X LineError → Result X Fault → Type 0
 Reads result read = ReadsBy (λ x. x) result read

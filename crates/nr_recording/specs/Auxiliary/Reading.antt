@@ -31,7 +31,8 @@ pub record IsSeen (seen : Seen) : Type 0 where
   pub few : length seen.steps ≤ MOST_STEPS
   pub writable : AreOfHeader seen.header seen.steps
 
--- true if reading the next value allocates memory, for a step's bytes or to store a valid step
+-- true if reading the next value allocates memory, either to hold a step's bytes or to store a
+-- valid step
 abbrev pub value_takes_memory : Seen → Option Header → Data → Bool
 value_takes_memory seen None d = false
 value_takes_memory seen (Some header) d = not (length seen.steps == MOST_STEPS)
@@ -56,7 +57,7 @@ abbrev pub IsFaultOf : {Y : Type 0} → ReadFault → Result Y ReadFault → Typ
 IsFaultOf (errors.Memory refused) read = Unit {0}
 IsFaultOf (errors.Line n f) read = read ≡ Err (errors.Line n f)
 
--- true if the result is that of reading, or if memory ran out
+-- true if the result equals `read`, or if memory ran out
 abbrev pub IsUnlessMemory : {X : Type 0} → Result X ReadFault → Result X ReadFault → Type 0
 IsUnlessMemory (Ok x) read = read ≡ Ok x
 IsUnlessMemory (Err e) read = IsFaultOf e read

@@ -26,10 +26,11 @@ fits (Tick t) = int_le (pos 0) t
 fits _ = true
 
 -- true if the version has a line for the step: the version has the step's kind, and the step fits
+-- in a line
 abbrev pub has_line : Version → Step → Bool
 has_line version step = has_kind version (kind_of step) && fits step
 
--- true if the step has a line, and has an answer exactly if the version requires one
+-- true if the step has a line, and has an answer if and only if the version requires one
 abbrev pub is_writable : Version → RecordedStep → Bool
 is_writable version recorded = has_line version recorded.step && may_have version recorded.answer
 

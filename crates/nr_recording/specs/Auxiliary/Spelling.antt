@@ -42,7 +42,7 @@ abbrev pub arguments_data : List Argument → Items
 arguments_data [] = no_items
 arguments_data (a ∷ rest) = item (argument_data a) (arguments_data rest)
 
--- true if the number is a signed number of 64 bits
+-- true if the number is a signed 64-bit number
 abbrev pub IsMoment : ℤ → Type 0
 IsMoment (pos n) = n < 2 ^ 63
 IsMoment (negsuc n) = n < 2 ^ 63

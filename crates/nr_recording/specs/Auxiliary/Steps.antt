@@ -49,7 +49,7 @@ arguments_of Step.Pop = []
 arguments_of (Step.Fire i) = numeral i ∷ []
 arguments_of (Step.CloseWrite g s) = numeral g ∷ numeral s ∷ []
 
--- true if reading the arguments of this kind allocates memory, which only arguments with bytes do
+-- true if reading the arguments of this kind allocates memory; only bytes need memory
 abbrev pub kind_takes_memory : Kind → Items → Bool
 kind_takes_memory Kind.Arrive ds = next_takes_memory (number ds)
 kind_takes_memory Kind.SysWrite ds = next_takes_memory ((number and number) ds)
