@@ -1,5 +1,5 @@
--- If the lines of a front encounter no words of other fronts, the replies depend only on the lines'
--- supplies.
+-- If other fronts place no words before the lines of a front, the replies depend only on the memory
+-- and room that each line has.
 use Rattle.std.proofs.Common.{Option, None, Some, ◌≡◌, ℕ, ◌+◌, Bool, true, false, cond, List, [], ◌∷◌, map, Result, Ok, Err, refl, ap, ◌∙◌, subst, arith}
 use Rattle.std.specs.List.{All, concat}
 use Rattle.std.proofs.lemmas.List.Elements.{All-head, All-tail}
@@ -15,11 +15,11 @@ use Rattle.nr_lines.specs.Turn.{is_quit, text_or_none}
 use Rattle.nr_programs.specs.Among.{AllMayMeet, MayMeet, Met, answer_among, behind_others, calm, replies_among, texts_among}
 use Rattle.nr_programs.specs.Transcript.{AllMayHave, Answered, CommandMayHave, JournalSize, MayHave, SessionState, Supply, UnlessQuit, enough, line_answer, replies, texts}
 
--- the line encountered no words of other fronts
+-- other fronts placed no words before the line
 abbrev pub MeetsNoOther : Met → Type 0
 MeetsNoOther m = m.others ≡ []
 
--- the supplies of these lines
+-- the memory and room that each line has
 abbrev pub supplies_of : List Met → List Supply
 supplies_of met = map (λ m. m.supply) met
 
@@ -61,8 +61,8 @@ alone_may r journal (Some owed) (Ok lines.Quit) m s none may = enough_of m may
 alone_may r journal (Some owed) (Ok Empty) m s none may = enough_of m may
 alone_may r journal (Some owed) (Err fault) m s none may = enough_of m may
 
--- without words of other fronts, the first line's text and the texts after it follow from the
--- line's supply
+-- if other fronts placed no words before a line, `line_answer` gives the same texts as
+-- `answer_among`
 text_alone : (r : Recording) (line : List ℕ) (rest : Answered → List (List ℕ)) (m : Met) (s : SessionState) → MeetsNoOther m
     → text_or_none (answer_among r s.owed (meaning_of line) m s).0 ∷ rest (answer_among r s.owed (meaning_of line) m s)
     ≡ text_or_none (line_answer r s.owed (meaning_of line) m.supply s).0 ∷ rest (line_answer r s.owed (meaning_of line) m.supply s)

@@ -136,8 +136,8 @@ module _ (r : Recorded) where
       ap (first_fault (n + 1) w) (steps_there n s read)
       ∙ ap (λ f. fault_or f (first_fault (n + 1 + 1) (next_of w (outcome w s.step)) (drop (n + 1) r.steps))) is
 
-  -- if a step has no fault, the lines from its position on are its own lines and the lines from the
-  -- next position on
+  -- if the step at a position has no fault, the lines from this position on begin with the lines of
+  -- this step; the lines from the next position on follow
   lines_on : (n : ℕ) (w next : World) (s : RecordedStep) → slice_get r.steps n ≡ Some s → step_fault (n + 1) s.answer (outcome w s.step) ≡ None → next ≡ next_of w (outcome w s.step)
       → lines_from n w ≡ lines_of_changes (n + 1) (changes_between w next) ++ lines_from (n + 1) next
   lines_on n w next s read none leads =

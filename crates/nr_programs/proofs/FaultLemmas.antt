@@ -63,7 +63,8 @@ module _ (r : Recorded) where
       there None is e = absurd cc
       there (Some s) is e = (s, is, (let same : s.step ≡ step = cc in same), ap (option_and_then (λ (x : RecordedStep). x.answer)) is)
 
-  -- the first fault from a position on is the fault of the step there, or a later fault
+  -- the first fault at or after position n: the fault of the step at n, or the first later one if
+  -- that step has no fault
   pub fault_at : (n : ℕ) (s : RecordedStep) → slice_get r.steps n ≡ Some s
       → fault_from n ≡ fault_or (step_fault (n + 1) s.answer (outcome (world_at (run_of r) n) s.step)) (first_fault (n + 1 + 1) (next_of (world_at (run_of r) n) (outcome (world_at (run_of r) n) s.step)) (drop (n + 1) r.steps))
   fault_at n s read =
@@ -170,7 +171,7 @@ module _ (r : Recorded) where
 
 -- ---- the bytes
 
--- opening a good text yields its run
+-- if bytes are a good text of a run, opening the bytes gives this run
 pub opened_good : (bytes : List ℕ) (run : Recording) → IsGoodText bytes run → opened bytes ≡ Ok run
 opened_good bytes run is =
     let right = subst IsGood (sym is.run) is.good in

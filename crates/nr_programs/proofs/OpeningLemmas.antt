@@ -37,7 +37,7 @@ same_recorded bytes r s one other =
     let second = reading_again bytes s other in
     cc
 
--- bytes are a good text of at most one run
+-- if the same bytes are a good text of two runs, the runs are equal
 pub one_recording : (bytes : List ℕ) (r s : Recording) → IsGoodText bytes r → IsGoodText bytes s → r ≡ s
 one_recording bytes r s one other =
     sym one.run ∙ ap run_of (same_recorded bytes one.recorded other.recorded one.text other.text) ∙ other.run

@@ -233,7 +233,8 @@ texts_with r s d front line given text mid d' on last =
     none_behind true = refl
     none_behind false = refl
 
--- each line may encounter no words of other fronts, and have enough memory and room
+-- these circumstances are possible for any line: no words of other fronts come before it, and it
+-- has enough memory and room
 calm_one : (r : Recording) (journal : JournalSize) (s : SessionState) (owed : Option Command) (asked : Result Line LineFault) → MayMeet r journal owed asked calm s
 calm_one r journal s None (Ok (Run command)) = tt
 calm_one r journal s None (Ok (Look query)) = tt
@@ -257,7 +258,8 @@ calm_may r journal s [] = tt
 calm_may r journal s (line ∷ lines) =
     (calm_one r journal s s.owed (meaning_of line), unless_calm (is_quit (meaning_of line)) (calm_may r journal (answer_among r s.owed (meaning_of line) calm s).1 lines))
 
--- some lines and the next line encountered only what they may encounter
+-- if the circumstances of the first lines and of the next line are possible, so are those of all
+-- lines
 may_with : (r : Recording) (s : SessionState) (d : FrontState) (front : List (List ℕ)) (line : List ℕ) (given : List (List ℕ)) (text : List ℕ) (mid d' : FrontState) (on : GoOn r s d front given mid)
     → (last : Goes r on.after mid line text d') (later all : List (List ℕ)) → all ≡ front ++ line ∷ later
     → UnlessQuit (is_quit (meaning_of line)) (AllMayMeet r (size_of mid) last.after later []) → AllMayMeet r (size_of d) s all (on.met ++ last.met ∷ [])
@@ -425,7 +427,7 @@ quit_among [] line back quit = ap (λ q. q || has_quit back) quit
 quit_among (x ∷ front) line back quit =
     elim (is_quit (meaning_of x)) as (λ t. (t || has_quit (front ++ line ∷ back)) ≡ true) [ true ↦ refl | false ↦ quit_among front line back quit ]
 
--- the bytes that a session with one front read and wrote, by how the session ended
+-- the bytes that a session with one front read and wrote, for each way in which the session can end
 module _ (recording : List ℕ) (r : Recording) (opening : opened recording ≡ Ok r) (from left : Incoming) (old new : Outgoing) (d d' : FrontState) (here : IsInState r start d) (alone : d.pass_state.passes ≡ 1) (room : journal_room d.table ≡ 65536) where
   over : (ended : Bool) (commands : List ℕ) (supplies : List Supply) → transcript_by recording ended commands supplies ≡ replies r start ended commands supplies
   over ended commands supplies = ap (λ o. replies_over o ended commands supplies) opening

@@ -39,7 +39,7 @@ starts_long a b one = omega (arith, ap length one.1, length-append a one.0)
 
 -- ---- one caller
 
--- a front sees words only after those that it has seen
+-- serving a caller only appends to the words that the front has seen
 caller_grows : (c : Conversation) (d d' : FrontState) → ServesCaller c d d' → Grows d d'
 caller_grows c d d' h = lines_grow _ c.ending h.serves.ended d _ _ d' h.serves.ends
   where
@@ -135,7 +135,7 @@ module _ (r : Recording) (c : Conversation) (s : SessionState) (d d' : FrontStat
   complete_quit true at_end e good = inl (at_end refl)
   complete_quit false at_end e good = inr (ap (λ (bytes : List ℕ). has_quit (lines_of false bytes)) received ∙ ap has_quit e.split ∙ quit_among e.front e.line e.back e.quit)
 
-  -- the caller was answered, by the result of serving it
+  -- the caller was answered, for each result of serving it
   goes_by : (ending : Result End LineEnd) (ended : Bool) → c.ending ≡ ending → (ended ≡ true → IsOver c.input) → IsInState r s d → c.input.failed ≡ is_read_failure ending
       → c.output.failed ≡ is_write_failure ending → Ends (ArePrompt (unread known) (unwritten held) moments) ending ended d (lines_of ended read) out d' → Goes r c s d d'
   goes_by (Ok Closed) ended is at_end here reading writing e =

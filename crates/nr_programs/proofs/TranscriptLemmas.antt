@@ -45,8 +45,8 @@ size_of d = record { room = journal_room d.table; passes = d.pass_state.passes }
 pub same_size : (d d' : FrontState) → d'.table ≡ d.table → d'.pass_state.passes ≡ d.pass_state.passes → size_of d' ≡ size_of d
 same_size d d' table passes = let room : journal_room d'.table ≡ journal_room d.table = ap journal_room table in cc
 
--- a line may get this reply, given what it encounters; if the journal has one pass, it encounters
--- no words of other fronts
+-- A line can get this reply in these circumstances (`met`). If the journal has one pass, no words
+-- of other fronts come before the line.
 pub record MayGive (r : Recording) (owed : Option Command) (asked : Result Line LineFault) (s : SessionState) (d : FrontState) (reply : Option Reply) (d' : FrontState) : Type 0 where
   pub met : Met
   pub reply_is : (answer_among r owed asked met s).0 ≡ reply
@@ -65,7 +65,7 @@ due_command Nothing owed due a b = cc
 due_command (Others command) owed due a b = cc
 due_command (Own command) owed due a b = cc
 
--- the last of these words has one command, and the debugger before it is unique
+-- the debugger that has run all of these words but the last is unique
 one_behind : (r : Recording) (words : List ℕ) (command : Command) (a b : Debugger) → IsBehind r words command a → IsBehind r words command b → a ≡ b
 one_behind r words command a b one other =
     one.behind ∙ ap (after_words r opening) (same_from_push one.before other.before one.word other.word (sym one.last ∙ other.last)).0 ∙ sym other.behind
@@ -175,7 +175,7 @@ module _ (r : Recording) (s : SessionState) (d : FrontState) (here : IsInState r
         may = subst (Searches r command) (sym same) (subst (λ (x : Command). Searches r x left.wanted.debugger) due (subst (λ (x : Recording). Searches x left.wanted.command left.wanted.debugger) is left.wanted.searches));
       }
 
-  -- the front saw words of other fronts, and then memory or room was missing
+  -- the front saw words of other fronts, and then memory ran out or the journal was full
   refused : (asked : Result Line LineFault) (reply : Option Reply) (supply : Supply) (d' : FrontState) → (l : Learns d d') → own_word d.pass_state.tag None asked supply ≡ []
       → MayMeet r (size_of d) None asked (record { others = l.sees_others.0; supply = supply }) s
       → answer_among r None asked (record { others = l.sees_others.0; supply = supply }) s ≡ (reply, behind_others r l.sees_others.0 s) → MayGive r s.owed asked s d reply d'
@@ -292,7 +292,7 @@ module _ (r : Recording) (s : SessionState) (d : FrontState) (here : IsInState r
         may = (refl, tt);
       }
 
-  -- a command whose reply is still owed searches
+  -- if the reply to a command is still owed, the command searches
   searches_still : (d' : FrontState) (place : ℕ) → (h : IsStillOwed d d' place) → Searches r h.stays.command s.debugger
   searches_still d' place h =
       let command = h.stays.command in

@@ -19,7 +19,7 @@ use Rattle.nr_programs.specs.declared.run.ExitStatus.{ExitStatus}
 use Rattle.nr_programs.specs.declared.run.ExitStatus.TheVariants.{Done, StreamFailed}
 use Rattle.nr_programs.specs.declared.run.TheConstants.{DELTAS_KEPT, JOURNAL_ROOM}
 
--- the status of a session, by how serving its lines ended
+-- the exit status of a session, given the result of serving its lines
 abbrev pub status_behind : Result End StreamFailure → ExitStatus
 status_behind (Ok ending) = Done
 status_behind (Err failure) = StreamFailed

@@ -36,9 +36,9 @@ SharesAll r sharing before after history failed =
     (passed : List Passed) × Opens sharing.fronts passed before after
     × IsShared r sharing.journal sharing.fronts DELTAS_KEPT sharing.workers passed history failed
 
--- The number of commands that the fronts placed was printed, or lack of memory if the history
--- couldn't be collected. Or memory ran out before the recording was shared: this was printed, and
--- no port was opened.
+-- The number of commands that the fronts placed was printed, or `fault 108 memory` if memory ran
+-- out while the history was collected. If memory ran out before the recording was shared, `fault
+-- 108 memory` was printed, and no port was opened.
 abbrev pub Shares : Recording → Sharing → FrontsLog → FrontsLog → Outgoing → Outgoing → ExitStatus
     → Type 0
 Shares r sharing before after old new status =
@@ -48,8 +48,9 @@ Shares r sharing before after old new status =
     × PrintsHistory None failed old new status)
     ⊎ ((after ≡ before) × EndsPrinting memory_line Refused old new status)
 
--- Either the bytes are a recording whose steps all apply, and it was shared; or its first fault was
--- printed, and no port was opened.
+-- Either the bytes are a recording whose steps all apply and give their recorded answers, and the
+-- recording was shared; or the first fault of the bytes was printed, or `fault 108 memory`, and no
+-- port was opened.
 abbrev pub ServesAll : List ℕ → Sharing → FrontsLog → FrontsLog → Outgoing → Outgoing → ExitStatus
     → Type 0
 ServesAll bytes sharing before after old new status =

@@ -33,7 +33,7 @@ own_word tag owed asked supply = []
 abbrev pub words_with : ℕ → Option Command → Result Line LineFault → Met → List ℕ
 words_with tag owed asked m = m.others ++ own_word tag owed asked m.supply
 
--- the words that a front with this tag sees with these lines, up to the first `quit`
+-- the words that a front with this tag sees while it answers these lines, up to the first `quit`
 abbrev pub words_seen : ℕ → Recording → SessionState → List (List ℕ) → List Met → List ℕ
 words_seen tag r s [] met = []
 words_seen tag r s (line ∷ lines) met =
@@ -42,7 +42,7 @@ words_seen tag r s (line ∷ lines) met =
     words_with tag s.owed asked (next_met met)
     ++ (if is_quit asked then [] else words_seen tag r a.1 lines (drop 1 met))
 
--- none of the other fronts' words that a line encountered has the front's tag
+-- none of the words that other fronts placed before a line has this tag
 abbrev pub MeetsOthers : ℕ → Met → Type 0
 MeetsOthers tag m = All (IsOthers tag) m.others
 
@@ -64,10 +64,10 @@ pub record EndsWithin (texts : List (List ℕ)) (sent : List ℕ) : Type 0 where
 -- received, starting from the front's state, and is all of them unless a write failed. If a read
 -- failed, an unfinished last line isn't a command. Before each read, all whole lines had been
 -- answered. If no read and no write failed, a read reached the end of the caller's input, or a line
--- is `quit`. The lines that were run, `ran`, are the first lines, up to a line that is `quit` or
--- whose reply wasn't written, or else all lines. Only the texts of these lines were sent. If a
--- write failed, the last line of `ran` is the line whose text was cut. All lines encountered only
--- what lines may encounter with a journal of this size.
+-- is `quit`. `ran` has the lines that were run: all lines, or only the first lines, if one is
+-- `quit` or its reply couldn't be written. That line is then the last one of `ran`. Only the texts
+-- of these lines were sent. If a write failed, the last line of `ran` is the line whose text was
+-- cut. The circumstances of all lines are possible with a journal of this size.
 pub record IsAnswered (r : Recording) (journal : JournalSize) (tag : ℕ) (c : Conversation)
     (s : SessionState) : Type 0 where
   pub met : List Met
@@ -93,10 +93,10 @@ pub record HasRun (r : Recording) (history seen : List ℕ) (s : SessionState) :
   pub at : IsAt r seen s.owed s.debugger
 
 -- The callers of a front were answered, one after the other, after the front had seen these words.
--- With each caller, the front runs a longer prefix of the history. The added words are those
--- that the front saw with the caller's lines: the words of other fronts before each line, and the
--- own word of each placed command, once. After the last caller, no word of the history that the
--- front hasn't seen has its tag.
+-- With each caller, the front runs a longer prefix of the history. The added words are those that
+-- the front saw while it answered the caller's lines: the words of other fronts before each line,
+-- and, once each, the words of the commands that the lines placed. After the last caller, the front
+-- has seen every word of the history that has the front's tag.
 abbrev pub AreAnswered : Recording → JournalSize → ℕ → List ℕ → SessionState → List ℕ
     → List Conversation → Type 0
 AreAnswered r journal tag history s seen [] = Covers history tag seen

@@ -71,7 +71,7 @@ reopened_run = record {
       ∷ PollEvent 0 1 modes.Read false ∷ [];
 }
 
--- a run in which a goroutine swaps the word of a side for which it doesn't wait
+-- a run in which a goroutine swaps its wait word too early, before it parks
 abbrev pub early_swap_run : Recording
 early_swap_run = record {
   limits = record { goroutines = 4; sockets = 2; descriptors = 2; buffer = 16 };

@@ -28,15 +28,16 @@ use Rattle.nr_programs.specs.declared.run.ExitStatus.TheVariants.{Done, Refused,
 
 -- ---- the memory and room for a line
 
--- The memory and room that a line has: enough of both; no memory; no memory for the search of its
--- command, which is placed; or no room in the journal.
+-- The memory and room that a line has: `enough` of both; `no_memory` before a command is placed;
+-- `no_memory_to_search` for a command that is placed and then searches; or `no_room` in the
+-- journal.
 pub data Supply : Type 0 where
   enough : Supply
   no_memory : Supply
   no_memory_to_search : Supply
   no_room : Supply
 
--- the supply of the next line; past the end of the list, a line has enough
+-- the memory and room of the next line; past the end of the list, enough of both
 abbrev pub next_supply : List Supply → Supply
 next_supply [] = enough
 next_supply (supply ∷ supplies) = supply
@@ -108,7 +109,7 @@ abbrev pub line_answer : Recording → Option Command → Result Line LineFault 
 line_answer r None asked supply s = answer r asked supply s
 line_answer r (Some command) asked supply s = answer_owing r command asked supply s
 
--- ---- the supply that a line may have
+-- ---- the memory and room that a line can have
 
 -- the number of words for which a journal has room, and its maximum number of passes
 pub record JournalSize : Type 0 where
@@ -119,33 +120,36 @@ pub record JournalSize : Type 0 where
 abbrev pub journal_of_one : JournalSize
 journal_of_one = record { room = 65536; passes = 1 }
 
--- True if a command may have this supply when the session is in this state. Memory may be missing
--- before the command is placed only if other fronts may have placed words. The command's search may
--- run out of memory only if it searches through copies of worlds. The journal may be full only if
--- as many words were placed as it has room for.
+-- True if a command can have this memory and room when the session is in this state. A command can
+-- run out of memory before it is placed only if the journal has more than one pass, because only
+-- then can it have words of other fronts. A placed command can run out of memory only if it
+-- searches through copies of worlds. The journal is full only if the number of placed words is the
+-- number for which it has room.
 abbrev pub CommandMayHave : Recording → JournalSize → Command → Supply → SessionState → Type 0
 CommandMayHave r journal command enough s = ⊤
 CommandMayHave r journal command no_memory s = journal.passes ≢ 1
 CommandMayHave r journal command no_memory_to_search s = Searches r command s.debugger
 CommandMayHave r journal command no_room s = s.placed ≡ journal.room
 
--- true if a query may have this supply; it may run out of memory
+-- true if a query can have this memory and room: a query can run out of memory, but needs no room
 abbrev pub LookMayHave : Supply → Type 0
 LookMayHave enough = ⊤
 LookMayHave no_memory = ⊤
 LookMayHave no_memory_to_search = ⊥
 LookMayHave no_room = ⊥
 
--- true if `resume` may have this supply; the search of the command whose reply is owed may run out
--- of memory again
+-- true if `resume` can have this memory and room: the command whose reply is owed can run out of
+-- memory again while it searches
 abbrev pub ResumeMayHave : Recording → Command → Supply → SessionState → Type 0
 ResumeMayHave r command enough s = ⊤
 ResumeMayHave r command no_memory s = Searches r command s.debugger
 ResumeMayHave r command no_memory_to_search s = ⊥
 ResumeMayHave r command no_room s = ⊥
 
--- True if a line may have this supply, given the command whose reply is owed and the size of the
--- journal. A line that neither places a command nor queries has enough.
+-- True if a line can have this memory and room, given the command whose reply is owed and the size
+-- of the journal. If no reply is owed, a command or a query can lack memory, and a command can also
+-- lack room in the journal. If a reply is owed, `resume` can lack memory. In all other cases, the
+-- line has enough of both.
 abbrev pub MayHave : Recording → JournalSize → Option Command → Result Line LineFault → Supply
     → SessionState → Type 0
 MayHave r journal None (Ok (Run command)) supply s = CommandMayHave r journal command supply s
@@ -168,7 +172,7 @@ abbrev pub UnlessQuit : Bool → Type 0 → Type 0
 UnlessQuit true later = ⊤
 UnlessQuit false later = later
 
--- each of these lines, up to the first `quit`, had a supply that it may have
+-- the memory and room of each line, up to the first `quit`, are possible
 abbrev pub AllMayHave : Recording → JournalSize → SessionState → List (List ℕ) → List Supply
     → Type 0
 AllMayHave r journal s [] supplies = ⊤
@@ -178,8 +182,8 @@ AllMayHave r journal s (line ∷ lines) supplies =
     MayHave r journal s.owed asked (next_supply supplies) s
     × UnlessQuit (is_quit asked) (AllMayHave r journal a.1 lines (drop 1 supplies))
 
--- The replies to the lines of a text, given their supplies. Unless the text is at its end, the
--- bytes after the last line feed aren't a line yet.
+-- The replies to the lines of a text, given the memory and room of each line. Unless the text is at
+-- its end, the bytes after the last line feed aren't a line yet.
 abbrev pub replies : Recording → SessionState → Bool → List ℕ → List Supply → List ℕ
 replies r s ended commands supplies = concat (texts r s (lines_of ended commands) supplies)
 
@@ -188,14 +192,15 @@ abbrev pub replies_over : Result Recording OpenFault → Bool → List ℕ → L
 replies_over (Ok r) ended commands supplies = replies r start ended commands supplies
 replies_over (Err fault) ended commands supplies = fault_line fault
 
--- The transcript for a recording's bytes and for commands, given the supplies of the command lines.
+-- The transcript for a recording's bytes and for commands, given the memory and room of each
+-- command line.
 abbrev pub transcript_by : List ℕ → Bool → List ℕ → List Supply → List ℕ
 transcript_by recording ended commands supplies =
     replies_over (opened recording) ended commands supplies
 
 -- ---- the effect of the program
 
--- the status, from what was opened and whether a read or a write failed
+-- the exit status, given the opened recording or its fault, and whether a read or a write failed
 abbrev pub status_of : Result Recording OpenFault → Bool → Bool → ExitStatus
 status_of (Ok r) read_failed write_failed =
     if read_failed || write_failed then StreamFailed else Done
@@ -211,10 +216,10 @@ pub record WasPrompt (recording : List ℕ) (from : Incoming) (old : Outgoing)
   pub unended : from.ended ≡ false → m.ended ≡ false
 
 -- Commands were read and replies were written. The replies are a prefix of the transcript of the
--- commands, given the supplies of their lines, and are all of it unless a write failed. If a read
--- failed, an unfinished last line isn't a command. Before each read, all whole lines had been
--- answered. If the status is `Done`, the input is at its end or a line is `quit`. If the recording
--- has a fault, no command was read.
+-- commands, given the memory and room of each line. They are the whole transcript unless a write
+-- failed. If a read failed, an unfinished last line isn't a command. Before each read, all whole
+-- lines had been answered. If the status is `Done`, the input is at its end or a line is `quit`. If
+-- the recording has a fault, no command was read.
 pub record Transcribes (recording : List ℕ) (from left : Incoming) (old new : Outgoing)
     (status : ExitStatus) : Type 0 where
   pub commands : List ℕ

@@ -12,8 +12,8 @@ use Rattle.nr_programs.specs.declared.opening.OpenFault.{OpenFault}
 use Rattle.nr_programs.specs.declared.run.ExitStatus.{ExitStatus}
 use Rattle.nr_programs.specs.declared.run.ExitStatus.TheVariants.{Done, Refused}
 
--- The text of the run in version 2 was written, each step with its answer. Or memory ran out for a
--- line of the text: the lines before it were written, followed by the line of that fault.
+-- The text of the run in version 2 was written, each step with its answer. If memory ran out for a
+-- line of the text, only the lines before it were written, followed by `fault 108 memory`.
 abbrev pub WritesAnswered : Recording → Outgoing → Outgoing → ExitStatus → Type 0
 WritesAnswered r old new status =
     EndsPrinting (text (answered r)) Done old new status
@@ -22,7 +22,8 @@ WritesAnswered r old new status =
     status)
 
 -- Either the bytes are a recording whose steps all apply and give their recorded answers, and the
--- recording was written with its answers; or its first fault was printed.
+-- recording was written with its answers; or the first fault of the bytes was printed, or `fault
+-- 108 memory`.
 abbrev pub Upgrades : List ℕ → Outgoing → Outgoing → ExitStatus → Type 0
 Upgrades bytes old new status =
     ((r : Recording) × IsGoodText bytes r × WritesAnswered r old new status)

@@ -1,4 +1,4 @@
-//! The program `changes`, from the file's bytes to the output.
+//! The program `changes`: reads the bytes of a recording and prints what each step changed.
 
 ghost use Rattle.std.specs.Prelude.{◌≡◌, ◌≤◌, ◌<◌, ◌+◌, ◌++◌, Ok, IfErr, OnOk, length};
 ghost use Rattle.nr_rev.specs.World.{empty_world};

@@ -52,7 +52,7 @@ pub fn callers_are_answered_in_one_history()
         → All (IsTheirs (map last_pass_state shared.courses)) history }
 {}
 
-/// `IsAnswered` doesn't hold for a caller that sent nothing but was sent a byte.
+/// If a caller sent no bytes and yet received one, `IsAnswered` doesn't hold.
 pub fn a_lie_is_no_answer()
     ensures { (r : Recording) (journal : JournalSize) (tag : ℕ) → ¬ (IsAnswered r journal tag (record {
       input = unread None;
@@ -102,8 +102,8 @@ pub fn an_end_read_twice_is_no_answer()
     }) start) }
 {}
 
-/// `Transcribes` doesn't hold for a run that received nothing but sent a byte, whatever its streams
-/// are.
+/// If a run received no bytes and yet sent one, `Transcribes` doesn't hold, whatever the recording
+/// is.
 pub fn a_lie_is_no_run()
     ensures { (recording : List ℕ) (r : Recording) → opened recording ≡ Ok r → ¬ (Transcribes recording
         (unread None)

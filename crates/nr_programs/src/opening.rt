@@ -56,8 +56,8 @@ impl Text for OpenFault {
 pub(crate) const COPY_EVERY: usize = 1_024;
 
 /// Reads the recording from the bytes and replays it once, with a copy of the world every `every`
-/// steps. Fails with the first fault of the lines, or of the steps if no line has a fault, or with
-/// lack of memory.
+/// steps. Fails with the first fault of the lines, or of the steps if no line has a fault. Fails
+/// with `Memory` if memory runs out.
 pub(crate) fn open<W: Worlds + Drop>(
     alloc: Global,
     bytes: &[u8],

@@ -65,10 +65,10 @@ impl From<ExitStatus> for ExitCode {
     }
 }
 
-/// Opens the recording and frees its text. Then answers the lines of the input on the output, one
-/// after the other, like a debugger that starts at position 0. Each reply describes the world at
-/// the debugger's position. If a query, or a command that searches for a hit, runs out of memory,
-/// this is reported; the command's reply can be requested again.
+/// Opens the recording and frees its text. Then reads lines from the input and writes the reply to
+/// each line to the output, as a debugger that starts at position 0 does. Each reply describes the
+/// world at the debugger's position. If a query, or a command that searches for a hit, runs out of
+/// memory, this is reported; the command's reply can be requested again.
 ///
 /// Returns `Done` if a line was `quit` or the input ended, `Refused` if the recording's first fault
 /// or `fault 108 memory` was printed and no input was read, and `StreamFailed` if a read or a write
@@ -164,7 +164,7 @@ pub(crate) fn print<T: Text, O: Write>(
     }
 }
 
-// Prints two texts. Returns the given status if both texts were written whole.
+// Prints two texts. Returns the given status if both texts were written in full.
 pub(crate) fn print_both<A: Text, B: Text, O: Write>(
     first: &A,
     last: &B,
@@ -207,7 +207,8 @@ where
     }
 }
 
-// Prints the number of the film's steps. The film keeps as few copies as a film may have.
+// Prints the number of the film's steps. The film keeps a copy of the world every 65536 steps,
+// which is the longest interval for a film.
 fn accept<W: Worlds + Drop, O: Write>(film: &Film<W>, output: &mut Sink<O>) -> ExitStatus
 where
     W::Snapshot: Drop,

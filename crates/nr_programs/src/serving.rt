@@ -1,4 +1,4 @@
-//! The program `serve`, from the bytes of the file and each front's callers to the exit status.
+//! The program `serve`: reads the bytes of a recording and serves the callers of each front.
 
 ghost use Rattle.std.specs.Prelude.{◌≡◌, IfOk, OnErr, true};
 ghost use Rattle.nr_rev.specs.Run.{Recording};
@@ -26,13 +26,13 @@ use std::thread::Threads;
 /// Opens the recording and frees its text. Then serves the callers of each front in a thread of its
 /// own, all in one session. When the last front has ended, prints `placed K`, with the number K of
 /// commands that the callers placed. The log of the ports contains the conversations with the
-/// callers. If a fault is printed instead, no port was opened, unless memory ran out for the
-/// history.
+/// callers. If a fault is printed instead, no port was opened, unless memory ran out while the
+/// history was collected.
 ///
 /// Returns `Done` if no connection failed, `StreamFailed` if a connection failed, a front couldn't
 /// accept callers or the last line couldn't be written, and `Refused` if the recording's first
-/// fault or `fault 108 memory` was printed as one line. `fault 108 memory` replaces the last line
-/// if memory runs out for the history.
+/// fault or `fault 108 memory` was printed as one line. If memory runs out while the history is
+/// collected, `fault 108 memory` replaces the last line.
 pub fn serve_bytes<W, R, P, O>(
     rt: &R,
     alloc: Global,

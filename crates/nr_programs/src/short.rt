@@ -7,10 +7,10 @@ ghost use Rattle.nr_programs.specs.Among.{replies_among};
 ghost use Rattle.nr_programs.specs.Transcript.{enough, no_memory_to_search, no_room, replies, replies_over, start};
 
 /// A session over each short recording in scripts/recordings/: a wait that an event ends, forwards
-/// and backwards; a firing that a new deadline overtakes; an event that comes before its goroutine
-/// parks; and a lock that is taken from a woken goroutine. There are also sessions over an empty
-/// run, over a run with a deadline at the last possible time, and over a run that reopens a
-/// descriptor.
+/// and backwards; a timer that fires after its deadline was replaced; an event that comes before
+/// its goroutine parks; and a lock that is taken from a woken goroutine. There are also sessions
+/// over an empty run, over a run with a deadline at the last possible time, and over a run that
+/// reopens a descriptor.
 pub fn short_runs_have_their_replies()
     ensures lock_and_reference { replies woken_run start true
         (codes "stepi 3\nprint lock 0\n") []

@@ -1,4 +1,4 @@
-//! The program `suspects`, from the file's bytes to the output.
+//! The program `suspects`: reads the bytes of a recording and prints its suspects.
 
 ghost use Rattle.std.specs.Prelude.{◌≡◌, ◌≤◌, ◌<◌, OnOk, IfOk, IfErr, length};
 ghost use Rattle.nr_recording.specs.Recording.{run_of};
@@ -18,17 +18,18 @@ use std::io::Write;
 
 /// Opens the recording and prints its suspects, one line each.
 ///
-/// First prints what happened to deadlines, step by step: `at 89 passed-deadline desc 0 r set 60 by
-/// 2 rw moved 75 by 3` for each deadline that passed, `at 91 timeout gor 2 desc 0 r set 60 by 2 rw`
-/// for each call that a deadline ended, and `at 92 taken-back gor 2 desc 0 r set 60 by 2 rw` for
-/// each deadline that was set again before the goroutine that it woke had checked its side.
+/// First prints what happened to deadlines, step by step. For each deadline that passed, it prints
+/// `at 89 passed-deadline desc 0 r set 60 by 2 rw moved 75 by 3`. For each call that a deadline
+/// ended, it prints `at 91 timeout gor 2 desc 0 r set 60 by 2 rw`. For each deadline that woke a
+/// goroutine and was set again before that goroutine checked its side, it prints `at 92 taken-back
+/// gor 2 desc 0 r set 60 by 2 rw`.
 ///
-/// Then prints, for the last position, `at 71 lost-wakeup gor 2 desc 0 r event 60 taken 66 by 2`
-/// for each lost wake-up, and `at 71 asleep gor 2 desc 0 r because bytes` for each goroutine that
-/// sleeps although it should have been woken, both sorted by descriptor, with the read side first;
-/// and `at 90 held-reference sock 1 gor 3 count 1 since 45` for each goroutine that holds
-/// references to a closed socket, sorted by socket and goroutine. The line that `check` prints
-/// comes last.
+/// The other lines are about the last position. For each lost wake-up, it prints `at 71 lost-wakeup
+/// gor 2 desc 0 r event 60 taken 66 by 2`. For each goroutine that sleeps although it should have
+/// been woken, it prints `at 71 asleep gor 2 desc 0 r because bytes`. Both are sorted by
+/// descriptor, with the read side first. For each goroutine that holds references to a closed
+/// socket, it prints `at 90 held-reference sock 1 gor 3 count 1 since 45`, sorted by socket and
+/// goroutine. The line that `check` prints comes last.
 ///
 /// If the text isn't a recording, or a step doesn't apply, or its answer differs from the recorded one, prints only
 /// that fault. The steps are applied once, and no copy of the world is kept; findings about deadlines are kept until

@@ -1,4 +1,4 @@
-//! The program `upgrade`, from the file's bytes to the output.
+//! The program `upgrade`: reads the bytes of a recording and writes it in version 2.
 
 ghost use Rattle.std.specs.Prelude.{◌≡◌, ◌⊎◌};
 ghost use Rattle.nr_rev.specs.Run.{Recording};

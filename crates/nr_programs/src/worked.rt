@@ -1,12 +1,14 @@
-//! Worked sessions: the transcripts of the examples, and of lines that lack memory or room or that
-//! follow another front's words. The bodies are empty; the prover computes each clause.
+//! Worked sessions: the transcripts of the examples, and short sessions in which memory runs out,
+//! the journal is full, or another front places a word. The bodies are empty; the prover computes
+//! each clause.
 
 ghost use Rattle.std.specs.Prelude.{◌≡◌, ◌∷◌, [], true, codes};
 ghost use Rattle.nr_programs.specs.Examples.{answers_commands, answers_replies, answers_run, first_commands, first_replies, first_run, leaked_reference_commands, leaked_reference_replies, leaked_reference_run, lost_wakeup_commands, lost_wakeup_replies, lost_wakeup_run, past_deadline_commands, past_deadline_replies, past_deadline_run, reused_descriptor_commands, reused_descriptor_replies, reused_descriptor_run, shut_write_side_commands, shut_write_side_replies, shut_write_side_run, stale_deadline_commands, stale_deadline_replies, stale_deadline_run, temporary_break_commands, temporary_break_replies, temporary_break_run};
 ghost use Rattle.nr_programs.specs.Among.{replies_among};
 ghost use Rattle.nr_programs.specs.Transcript.{enough, no_memory, no_memory_to_search, no_room, replies, start};
 
-/// The sessions of examples/, from the bytes of the commands to the bytes of the replies. The first is the README's.
+/// The sessions of examples/: the bytes of the commands get exactly the bytes of the replies. The first session is
+/// the README's.
 pub fn examples_have_their_replies()
     ensures first { replies first_run start true first_commands [] ≡ first_replies }
     ensures leaked_reference { replies leaked_reference_run start true leaked_reference_commands [] ≡ leaked_reference_replies }
@@ -19,9 +21,9 @@ pub fn examples_have_their_replies()
     ensures shut_write_side { replies shut_write_side_run start true shut_write_side_commands [] ≡ shut_write_side_replies }
 {}
 
-/// The replies to a line that lacks memory for a query, to a line that lacks memory for a search,
-/// until `resume` has enough, and to a line that lacks room in the journal. The last clause shows
-/// the reply to a command after another front's `stepi 5`.
+/// The replies if a query runs out of memory, if a search runs out of memory and `resume` completes
+/// it, and if the journal has no room for a command. The last clause shows the reply to a command
+/// after another front's `stepi 5`.
 pub fn what_lines_meet_is_answered()
     ensures refused_look { replies first_run start true (codes "print lock 0\nprint lock 0\n")
         (no_memory ∷ []) ≡ codes "fault 301 memory\nlock 0 = absent\n" }

@@ -10,8 +10,8 @@ use Rattle.nr_programs.specs.declared.run.ExitStatus.{ExitStatus}
 use Rattle.nr_programs.specs.declared.run.ExitStatus.TheVariants.{Refused}
 use Rattle.nr_programs.specs.Serving.{PrintsHistory}
 
--- The output at the end of a session, which is the line for lack of memory if the recording
--- couldn't be shared.
+-- The output at the end of a session: the number of placed commands, or `fault 108 memory` if
+-- memory ran out before the recording was shared or while the history was collected.
 abbrev pub PrintsSession : Result Ended Memory → Outgoing → Outgoing → ExitStatus → Type 0
 PrintsSession (Ok ended) old new status =
     PrintsHistory (words_of ended.history) ended.failed old new status

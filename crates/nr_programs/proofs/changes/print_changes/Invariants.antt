@@ -2,8 +2,8 @@ use Rattle.std.proofs.Common.{◌+◌, ◌≤◌, length}
 use Rattle.nr_programs.proofs.ChangesLemmas.{Progress}
 use Rattle.nr_programs.proofs.changes.print_changes.Given as goal
 
--- the world is that of the position, and the written and waiting lines are the changes of the steps
--- applied so far
+-- The loop has applied the first n steps, and the world is the one at position n. The lines for the
+-- changes of these steps have been written, or wait to be written.
 abbrev pub invariant-loop-n : goal.invariant-loop-n
 invariant-loop-n g l =
     record {
