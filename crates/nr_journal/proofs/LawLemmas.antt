@@ -23,7 +23,7 @@ empty_look purpose id pass_state words views k at zero_there = let c = (k.each_v
         let index : suc (length pass_state.seen) ≡ length pass_state.seen + 1 = omega arith in
         absurd (is_word v (found_opcode purpose words views k pass_state.seen v rest is) (sym there ∙ (ap (λ (j : ℕ). get_or words j 0) index ∙ zero_there)))
 
--- a view that has the tag of a word in the log is the view of a pass with that tag
+-- if a view has the tag of a word in the log, it is a pass's view, and the pass has that tag
 of_pass : (most tags : ℕ) (log : List ℕ) (place : ℕ) (v : View) → place < length log → HasTag v (tag_of (get_or log place 0)) → Fits most tags log v
     → (pass_state : PassState) × (v ≡ Within pass_state) × (pass_state.tag ≡ tag_of (get_or log place 0))
 of_pass most tags log place (Outside tried passes) below has fits = absurd has
@@ -35,8 +35,7 @@ of_pass most tags log place (Within pass_state) below has fits = (pass_state, re
 of_pass most tags log place (Note seen) below has fits = absurd has
 of_pass most tags log place Spent below has fits = absurd has
 
--- if no word after the words read has a certain tag, each word with that tag is among the words
--- read
+-- if no unread word has this tag, every word with this tag has been read
 pub among_seen : (seen rest : List ℕ) (tag place : ℕ) → All (IsOthers tag) rest → place < length (seen ++ rest) → tag_of (get_or (seen ++ rest) place 0) ≡ tag
     → (place < length seen) × (get_or seen place 0 ≡ get_or (seen ++ rest) place 0)
 among_seen [] rest tag place others below is = absurd (others place 0 below is)

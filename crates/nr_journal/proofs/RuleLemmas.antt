@@ -27,7 +27,8 @@ each_set P views id w others mine j v e = ⊎_elim
     (λ (t : (j ≢ id) × (get_elem? views j ≡ some v)). others j v t.0 t.1)
     (at_set views id j w v e)
 
--- if a view has a property after a change of one view that doesn't add it, some view had it before
+-- Suppose that view w replaces view v, and w has a property only if v has it. If some view has the
+-- property afterwards, some view had it before.
 pub had : (P : View → Type 0) (views : List View) (id : ℕ) (v w : View) → get_elem? views id ≡ some v → (P w → P v)
     → (j : ℕ) (u : View) → get_elem? (set views id w) j ≡ some u → P u → (t : View) × (get_elem? views j ≡ some t) × P t
 had P views id v w at same j u e holds = ⊎_elim
@@ -53,7 +54,7 @@ set_there [] i v w e = absurd (some-ne-none v (sym e))
 set_there (x ∷ xs) zero v w e = refl
 set_there (x ∷ xs) (suc i) v w e = set_there xs i v w e
 
--- each taken tag still belongs to a view after a change of one view that keeps that view's tags
+-- if view w replaces view v and has all tags of v, each taken tag still belongs to a view
 pub taken_set : (tags : ℕ) (views : List View) (id : ℕ) (v w : View) → get_elem? views id ≡ some v → ((tag : ℕ) → HasTag v tag → HasTag w tag) → AreTaken tags views → AreTaken tags (set views id w)
 taken_set tags views id v w at has_it taken tag drawn = let o = taken tag drawn in dite (ℕ_discrete o.0 id)
     (λ (same : o.0 ≡ id).
@@ -168,8 +169,8 @@ module _ (purpose : Purpose) where
   abbrev pub Rule : State (Unit {0}) View → Type 0
   Rule s = Kept purpose s.words s.views
 
-  -- true if seat `id` can get a view with which the rule still holds after word i of the table
-  -- becomes n
+  -- true if the rule still holds after word i becomes n and seat `id` gets some view w, and `then`
+  -- holds for w
   abbrev pub Picks : List ℕ → List View → ℕ → ℕ → ℕ → (Seat → Type 0) → Type 0
   Picks words views id i n then = (w : View) × Kept purpose (set words i n) (set views id w) × then (w, [])
 

@@ -12,7 +12,7 @@ use Rattle.nr_journal.specs.declared.view.View.TheVariants.{Within}
 use Rattle.nr_journal.specs.Rule.{tag_of}
 use Rattle.nr_journal.specs.Auxiliary.Rule.{Kept, first_view}
 
--- if the word after all that a pass has read is 0, the log is exactly what it has read
+-- if the word after those that a pass has read is 0, the pass has read the whole log
 abbrev pub EmptyLookSeesAll : Type 0
 EmptyLookSeesAll = (purpose : Purpose) (id : ℕ) (pass_state : PassState) (words : List ℕ)
     (views : List View) → (k : Kept purpose words views)
@@ -34,9 +34,10 @@ EachWordHasItsPass = (purpose : Purpose) (words : List ℕ) (views : List View)
     × (pass_state.tag ≡ tag_of (slice_index k.log place)) × (place < length pass_state.seen)
     × (slice_index pass_state.seen place ≡ slice_index k.log place)
 
--- True if passes, seats and journals have no fields but these: a pass has a seat of the table, an
--- index and a tag; a seat has a seat of the table and two numbers of tags; and a journal has its
--- table and a number of words. A seat of the table takes no bytes.
+-- True if passes, seats and journals have only these fields. A pass has an `atomic_table::Seat`, an
+-- index and a tag. A seat has an `atomic_table::Seat`, the number of tags that it has tried, and
+-- the maximum number of passes. A journal has its table and its number of words. An
+-- `atomic_table::Seat` has no bytes at run time.
 pub record NothingIsHidden : Type 0 where
   pub pass : (one other : pass_parts.Inside)
       → one.seat ≡ other.seat → one.place ≡ other.place → one.tag ≡ other.tag → one ≡ other

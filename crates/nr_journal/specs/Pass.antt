@@ -15,7 +15,7 @@ pub record Entered : Type 0 where
   pub table : TableId
   pub pass_state : PassState
 
--- the state of a pass, from its view; the other variants never occur for a pass
+-- the state of a pass, given the view of the pass, which is always `Within`
 abbrev pub pass_state_of : View → PassState
 pass_state_of (Outside _ _) = entering 0 0
 pass_state_of (Keeping _ _) = entering 0 0

@@ -28,8 +28,7 @@ LookedFrom (Within pass_state) found after =
     × (found ≢ 0 → Found pass_state found after)
 LookedFrom _ found after = Unit {0}
 
--- a look at the next place, as a step of the table: the word found there, and the seat after the
--- look
+-- true if a look at the next place can find the word `found` and turn seat `before` into `after`
 abbrev pub Looked : Step (Unit {0}) → Seat → ℕ → Seat → Type 0
 Looked step before found after = LookedFrom before.0 found after
 
@@ -40,7 +39,8 @@ OffersFrom word (Within pass_state) found after =
     × (found ≢ 0 → Found pass_state found after)
 OffersFrom word _ found after = Unit {0}
 
--- an offer of a word, as a step of the table
+-- true if an offer of a word can find the word `found` at its place and turn seat `before` into
+-- `after`
 abbrev pub Offers : Step (Unit {0}) → Seat → ℕ → Seat → Type 0
 Offers step before found after = OffersFrom step.second before.0 found after
 
@@ -52,7 +52,8 @@ DrawsFrom (Outside tried passes) found after =
     × (bit_at found tried ≢ 0 → after ≡ (Outside (tried + 1) passes, []))
 DrawsFrom _ found after = Unit {0}
 
--- an attempt to draw the next tag, as a step of the table
+-- true if an attempt to take the next tag can find the tag bits `found` and turn seat `before` into
+-- `after`
 abbrev pub Draws : Step (Unit {0}) → Seat → ℕ → Seat → Type 0
 Draws step before found after = DrawsFrom before.0 found after
 
@@ -62,19 +63,20 @@ RereadsFrom word (Within pass_state) found after =
     (after ≡ (Within pass_state, [])) × (found ≡ slice_index pass_state.seen (word - 1))
 RereadsFrom word _ found after = Unit {0}
 
--- reading a word again, as a step of the table
+-- true if rereading a word can find the word `found` and turn seat `before` into `after`
 abbrev pub Rereads : Step (Unit {0}) → Seat → ℕ → Seat → Type 0
 Rereads step before found after = RereadsFrom step.word before.0 found after
 
--- true if the words read and the words learned of are prefixes of one list, and each word read has
--- a tag below the maximum number of passes
+-- True if the pass is unchanged, and each word that it has read has a tag below the maximum number
+-- of passes. The words that the pass has read and those that it has learned of are prefixes of the
+-- same list.
 abbrev pub ComparesFrom : View → Seat → Type 0
 ComparesFrom (Within pass_state) after = (after ≡ (Within pass_state, []))
     × ((log : List ℕ) × StartsWith log pass_state.seen × StartsWith log pass_state.learned)
     × All (HasTagBelow pass_state.passes) pass_state.seen
 ComparesFrom _ after = Unit {0}
 
--- a comparison with what another pass has read, as a step of the table
+-- true if a comparison with what another pass has read can turn seat `before` into `after`
 abbrev pub Compares : Step (Unit {0}) → Seat → ℕ → Seat → Type 0
 Compares step before found after = ComparesFrom before.0 after
 
@@ -110,7 +112,7 @@ note_words (Within _) = []
 note_words (Note seen) = seen
 note_words Spent = []
 
--- the view of a pass after it takes in a note; other views stay the same
+-- the view of a pass after it learns the words of a note; other views stay the same
 abbrev pub learned_from : View → View → View
 learned_from (Outside tried passes) note = Outside tried passes
 learned_from (Keeping next passes) note = Keeping next passes

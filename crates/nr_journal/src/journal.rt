@@ -20,9 +20,9 @@ use std::alloc::Global;
 use std::cmp::Ordering;
 use std::marker::Model;
 
-/// A list of words in one order, each written once. Up to a fixed number of passes, each in a
-/// thread of its own, place and read words without a lock. Contracts see the identity of the
-/// journal; a seat or a pass can only be used with the journal that made it. No call waits.
+/// A list of words that all passes read in the same order. Each word is written once. Up to a fixed number of passes,
+/// each in a thread of its own, place and read words without a lock. In contracts, a journal is its identity: a seat or
+/// a pass can only be used with the journal that made it. No call waits.
 #[derive(Drop)]
 pub struct Journal {
     alloc: Global,
@@ -136,7 +136,7 @@ impl Journal {
         pass
     }
 
-    /// Makes a second seat of this journal, which has found the same tags taken as the first.
+    /// Makes a second seat of this journal, which has tried the same tags as the first.
     pub fn split(&self, seat: &mut Seat) -> Seat
         requires { seat.old.table ≡ self.now }
         ensures same { seat.new ≡ seat.old }
@@ -151,8 +151,8 @@ impl Journal {
 
     /// Takes the first free tag, and makes a pass with it that has read nothing yet.
     ///
-    /// Fails with `NoTag` only if each tag of the journal was found taken; the returned seat
-    /// records that.
+    /// Fails with `NoTag` only if every tag of the journal was taken. It then returns the seat, which has tried all
+    /// tags.
     pub fn enter(&self, seat: Seat) -> Result<Pass, (Seat, NoTag)>
         requires { seat.table ≡ self.now }
         ensures ok { IfOk result (λ p. (p.table ≡ seat.table) × (p.pass_state ≡ entering seat.passes p.pass_state.tag)
@@ -187,16 +187,15 @@ impl Journal {
         Err((back, NoTag))
     }
 
-    /// Reads the word after those that the pass has read. Another pass has placed that word.
-    /// Returns `None` if no word is there yet, which counts as an empty look, or if the pass has
-    /// read as many words as the journal has room for.
+    /// Reads the word after those that the pass has read. Another pass has placed that word. Returns `None` if that
+    /// place has no word yet (an empty look), or if the pass has read as many words as the journal has room for.
     pub fn next(&self, pass: &mut Pass) -> Option<u64>
         requires { pass.old.table ≡ self.now }
         ensures table { pass.new.table ≡ pass.old.table }
         ensures room { IfSome result (λ v. length pass.old.pass_state.seen < journal_room self.now) }
         ensures some { IfSome result (λ v. (pass.new.pass_state ≡ having_seen pass.old.pass_state v)
             × HasOpcode v × IsOthers pass.old.pass_state.tag v × (pass.old.pass_state.passes ≢ 1)) }
-        // a body that doesn't read the journal can't prove that the pass has learned of no more than it has read
+        // only a body that reads the journal can prove that the pass has read every word that it had learned of
         ensures none { IfNone result (
             ((pass.new.pass_state ≡ looked pass.old.pass_state)
             × StartsWith pass.old.pass_state.seen pass.old.pass_state.learned)
@@ -241,9 +240,9 @@ impl Journal {
         }
     }
 
-    /// Compares how many words the two passes have read. The shorter list of words is a prefix of
-    /// the longer one. After this, an empty look of either pass shows that it has read what the
-    /// other had read when they met.
+    /// Compares how many words the two passes have read. The shorter list of words is a prefix of the longer one. If
+    /// one of the passes finds no word afterwards, it has read everything that the other pass had read before this
+    /// call.
     pub fn meet(&self, one: &mut Pass, other: &mut Pass) -> Ordering
         requires { (one.old.table ≡ self.now) × (other.old.table ≡ self.now) }
         ensures tables { (one.new.table ≡ one.old.table) × (other.new.table ≡ other.old.table) }
@@ -260,8 +259,8 @@ impl Journal {
         one.place.cmp(&other.place)
     }
 
-    /// Lets the passes meet, and then lets the first pass read until it finds no word. It has then
-    /// read all that the other had read.
+    /// Compares the passes as `meet` does. The first pass then reads until it finds no word, and so has read everything
+    /// that the other pass had read.
     pub fn see_all_of(&self, one: &mut Pass, other: &mut Pass)
         requires { (one.old.table ≡ self.now) × (other.old.table ≡ self.now) }
         ensures tables { (one.new.table ≡ one.old.table) × (other.new.table ≡ other.old.table) }

@@ -4,8 +4,8 @@ ghost use Rattle.std.specs.Prelude.{◌≡◌};
 ghost use Rattle.nr_journal.specs.Laws.{AnOnlyPassSeesAll, BeginsEmpty, EachWordHasItsPass, EmptyLookSeesAll, NothingIsHidden};
 ghost use Rattle.nr_journal.specs.declared.rule.TheConstants.{GREATEST_OPCODE, MOST_PASSES, MOST_WORDS};
 
-/// A journal begins without words: it has none as long as only its first seat exists and has tried
-/// no tag, or none of its passes has been taken.
+/// A new journal has no words. No word is placed before the first seat is used or, if all passes are made at once,
+/// before the first pass is taken.
 pub fn begins_empty()
     ensures { BeginsEmpty }
 {}
@@ -26,8 +26,7 @@ pub fn each_word_has_its_pass()
     ensures { EachWordHasItsPass }
 {}
 
-/// A pass, a seat and a journal have no state at run time that contracts don't see, so no call can depend on such a
-/// state.
+/// Contracts describe all run-time state of passes, seats and journals, so no call can depend on any other state.
 pub fn nothing_is_hidden()
     ensures { NothingIsHidden }
 {}

@@ -1,4 +1,4 @@
-//! Passes: the handles with which threads that have entered a journal use it.
+//! Passes: the handles of threads that have entered a journal.
 
 ghost use Rattle.std.specs.Prelude.{◌≡◌, length};
 
@@ -7,9 +7,9 @@ use atomic_table::Seat;
 use std::marker::Model;
 
 /// The right to place words with one tag in a journal, and the number of words read. It is used
-/// only with the journal that made it. Contracts see the identity of the journal, the tag, the
-/// words that the pass has read, how often it found no word, and the words that another pass had
-/// read when the two last met.
+/// only with the journal that made it. In contracts, a pass has the identity of its journal, its
+/// tag, and the words that it has read. It also has the number of times that it found no word, and
+/// the words that it learned from another pass at the last `meet`.
 #[derive(Drop)]
 pub struct Pass {
     pub(crate) seat: Seat<(), View>,

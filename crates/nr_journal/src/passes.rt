@@ -4,8 +4,8 @@ use crate::view::View;
 use std::marker::Model;
 
 /// The remaining passes of a journal that makes all of them at once. They are used only with the
-/// journal that made them. Contracts see the identity of the journal, its number of passes, and the
-/// tag of the next pass.
+/// journal that made them. In contracts, they have the identity of the journal, its number of
+/// passes, and the tag of the next pass.
 #[derive(Drop)]
 pub struct Passes {
     pub(crate) seat: atomic_table::Seat<(), View>,

@@ -22,12 +22,12 @@ pub struct Purpose {
     pub words: usize,
     /// The maximum number of passes of the journal. Their tags are the numbers below it.
     pub passes: u32,
-    /// Whether all tags are taken from the start, because all passes are made at once.
+    /// True if all passes are made at once, so that all tags are taken from the start.
     pub drawn: bool,
 }
 
-/// The invariant of a journal's words and of all views of it. It holds whichever threads make which
-/// steps.
+/// The invariant of a journal's words and of all views of it. It holds after every step, whichever
+/// thread makes the step.
 pub struct InOneOrder;
 
 impl TableRule<(), View, Purpose> for InOneOrder {

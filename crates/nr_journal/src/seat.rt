@@ -3,9 +3,9 @@
 use crate::view::View;
 use std::marker::Model;
 
-/// The right to enter a journal once. It is used only with the journal that made it. Contracts see
-/// the identity of the journal, how many tags, from 0 on, the seat has found taken, and the maximum
-/// number of passes.
+/// The right to enter a journal once. It is used only with the journal that made it. In contracts,
+/// a seat has the identity of its journal, the number of tags that it has tried, and the maximum
+/// number of passes. It tries the tags in order, from 0, until it finds a free one.
 #[derive(Drop)]
 pub struct Seat {
     pub(crate) seat: atomic_table::Seat<(), View>,

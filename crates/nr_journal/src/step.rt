@@ -1,4 +1,4 @@
-//! The steps on a journal's table, and what the thread that makes a step learns.
+//! The steps on a journal's table, and what each step tells the thread that makes it.
 
 use crate::view::View;
 use atomic_table::{Join, Play, Split};
@@ -30,7 +30,7 @@ impl Play<(), View> for Draw {
     ghost then = { Draws };
 }
 
-/// A pass reads again a word that it has already read.
+/// A pass rereads a word.
 pub(crate) struct Reread;
 
 impl Play<(), View> for Reread {
@@ -68,7 +68,7 @@ impl Split<View> for Give {
     ghost right = { given_by };
 }
 
-/// A note of what a pass has read is written.
+/// A pass writes a note of the words that it has read.
 pub(crate) struct Tell;
 
 impl Split<View> for Tell {
@@ -79,7 +79,7 @@ impl Split<View> for Tell {
     ghost right = { note_of };
 }
 
-/// A pass takes in a note.
+/// A pass learns the words of a note.
 pub(crate) struct Learn;
 
 impl Join<View> for Learn {

@@ -1,8 +1,9 @@
-//! Views: what seats and passes know about a journal, as plain data that exists in proofs only.
+//! Views: what is known about a journal to the thread that has a seat or a pass. They are plain
+//! data that exist in proofs only.
 
 use std::collections::LinkedList;
 
-/// What a pass knows about its journal. No value of this type is made.
+/// The view of a pass: what its thread knows about the journal. No value of this type is made.
 pub struct PassState {
     /// The pass's tag, which no other pass has.
     pub tag: u64,
@@ -10,33 +11,34 @@ pub struct PassState {
     pub seen: LinkedList<u64>,
     /// How often the pass looked for the next word and found none.
     pub looks: u64,
-    /// The words that another pass had read when the two last met.
+    /// The words that the pass learned at its last `meet`: those that the other pass had read by
+    /// then.
     pub learned: LinkedList<u64>,
     /// The maximum number of passes of its journal.
     pub passes: u64,
 }
 
-/// What a seat, a pass, the remaining passes or a note knows about the journal. No value of this
-/// type is made.
+/// A view of the journal: that of a seat, of a pass, of the remaining passes, or of a note. No
+/// value of this type is made.
 pub enum View {
-    /// What a seat knows about the journal.
+    /// The view of a seat.
     Outside {
         /// The number of tags, from 0 on, that are known to be taken.
         tried: u64,
         /// The maximum number of passes of the journal.
         passes: u64,
     },
-    /// What is known about the remaining passes of a journal that makes all of them at once.
+    /// The view of the remaining passes of a journal that makes all of them at once.
     Keeping {
         /// The tags from this one on are those of remaining passes.
         next: u64,
         /// The number of passes of the journal.
         passes: u64,
     },
-    /// What a pass knows about the journal.
+    /// The view of a pass.
     Within(PassState),
-    /// A note from one pass to another: words that were read.
+    /// A note from one pass to another: the words that the first pass has read.
     Note(LinkedList<u64>),
-    /// A note that was taken in.
+    /// A note whose words a pass has learned.
     Spent,
 }

@@ -38,9 +38,9 @@ IsEntry tags word = HasOpcode word × IsDrawn tags (tag_of word)
 -- True if a view is correct. The view of a seat, a pass or the remaining passes has the journal's
 -- maximum number of passes. The words of a note are a prefix of the log. For a seat, the bits of
 -- the tags that it tried are set. For the remaining passes, the bits of all tags are set, and no
--- word has the tag of a remaining pass. For a pass, its own bit and all lower bits are set, the
--- words that it has read are a prefix of the log with all words of its tag, and the words that it
--- has learned of are also a prefix.
+-- word has the tag of a remaining pass. For a pass, the bits of its tag and of all lower tags are
+-- set. The words that the pass has read are a prefix of the log, and this prefix contains every
+-- word with the pass's tag. The words that the pass has learned of are also a prefix of the log.
 abbrev pub Fits : ℕ → ℕ → List ℕ → View → Type 0
 Fits most tags log (Outside tried passes) = (passes ≡ most) × AreDrawn tags tried
 Fits most tags log (Keeping next passes) =
@@ -88,7 +88,8 @@ pub record Kept (purpose : Purpose) (words : List ℕ) (views : List View) : Typ
 abbrev pub newcomer : ℕ → View
 newcomer passes = Outside 0 passes
 
--- the state of a pass that enters, with a tag, a journal with at most this many passes
+-- the state of a pass that has just entered a journal, given the maximum number of passes and the
+-- tag of the pass
 abbrev pub entering : ℕ → ℕ → PassState
 entering passes tag = record { tag = tag; seen = []; looks = 0; learned = []; passes = passes }
 
@@ -96,8 +97,8 @@ entering passes tag = record { tag = tag; seen = []; looks = 0; learned = []; pa
 abbrev pub entering_alone : PassState
 entering_alone = entering 1 0
 
--- the first view of a journal: that of all its passes, if they are made at once, or else that of
--- its first seat
+-- the first view of a journal: the view of the remaining passes if all passes are made at once, or
+-- else the view of the first seat
 abbrev pub first_view : Purpose → View
 first_view purpose =
     if purpose.drawn then Keeping 0 purpose.passes else newcomer purpose.passes
@@ -122,8 +123,8 @@ having_seen pass_state word = record {
   passes = pass_state.passes;
 }
 
--- the state of a pass after it learned what another pass has read, which replaces what it learned
--- before
+-- the state of a pass after it learned the words that another pass has read; they replace the words
+-- that it learned earlier
 abbrev pub informed : PassState → List ℕ → PassState
 informed pass_state learned = record {
   tag = pass_state.tag;
