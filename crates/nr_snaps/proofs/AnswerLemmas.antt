@@ -68,7 +68,7 @@ agree-whole r n agree reached = λ k given gives.
 
 -- ---- the steps with their answers
 
--- appending a step to a list appends the step with its answer to the answered steps
+-- if a step is appended to a list, the answered steps gain that step with its answer
 answered_steps-push : (w : World) (steps : List Step) (step : Step)
     → answered_steps w (steps ++ step ∷ []) ≡ answered_steps w steps ++ record { step = step; answer = answer_of (outcome (world_after w steps) step) } ∷ []
 answered_steps-push w [] step = refl

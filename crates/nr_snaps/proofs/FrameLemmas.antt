@@ -63,7 +63,7 @@ module _ {State : Type 0} (is_well_formed : State → Type 0) (world : State →
       let here = LeadsOn-applies r n h.0 state before.1 h.2 in
       (subst (IsGoodTo r) (add-one n) (IsGoodTo-next r n before.0 here.0), subst (λ m. world state ≡ world_at r m) (add-one n) here.1)
 
-  -- the steps before a frame of a film of this recording apply
+  -- if a film of this recording has a frame at position n, the first n steps apply
   pub IsFrame-good : (film : Reel State) (r : Recording) → film.recording ≡ r → IsWorldAt is_well_formed world r 0 film.origin → (n : ℕ) (state : State) → IsFrame is_well_formed world steps film n state → IsGoodTo r n
   IsFrame-good film r is origin n state frame =
       (Replays-good r film.origin n state origin.there (subst (λ r. Replays steps r film.origin n state) is frame.replays)).0

@@ -9,8 +9,8 @@ use Rattle.nr_snaps.specs.declared.fault.LoadFault.{LoadFault}
 use Rattle.nr_snaps.specs.declared.fault.LoadFault.TheVariants as fault
 
 -- True if the fault is that of the step with this number, counted from 1. The earlier steps apply
--- and give their recorded answers, and this step either is refused for the reason, which isn't
--- running out of memory, or applies and gives an answer other than the recorded one.
+-- and give their recorded answers. This step is refused for the given reason, but not for lack of
+-- memory, or it gives an answer other than the recorded one.
 abbrev pub IsStepFault : Recorded → LoadFault → Type 0
 IsStepFault r (fault.Memory refused) = ⊥
 IsStepFault r (fault.Refused step reason) = (0 < step) × (reason ≢ out_of_memory)

@@ -26,9 +26,9 @@ pub fn the_numbers()
     ensures most { MOST_EVERY ≡ 65536 }
 {}
 
-/// If a recording has a fault at a step, not all of its steps apply and give their recorded
-/// answers, and the recording has no other fault. So the step and the reason that `load` reports
-/// are the only ones.
+/// If a recording has a fault at a step, then some step is refused or gives an answer other than
+/// the recorded one, and the recording has no other fault. So the step and the reason that `load`
+/// reports are the only ones.
 pub fn a_recording_has_one_fault()
     ensures bad { (r : Recorded) (fault : LoadFault) → IsStepFault r fault → ¬ (IsGood (run_of r) × AnswersAgree r) }
     ensures exact { (r : Recorded) (fault other : LoadFault) → IsStepFault r fault → IsStepFault r other → fault ≡ other }
