@@ -41,12 +41,12 @@ wraps p d last =
     ap (λ n. n % (d + 1)) (add-one p) ∙ suc-mod p (d + 1) ∙ ap (λ r. suc r % (d + 1)) last
     ∙ subst (λ m. suc d % m ≡ 0) (sym (add-one d)) (mod_self (suc d))
 
--- the next place follows any other place
+-- any place but the last is followed by the place above it
 pub follows : (p d : ℕ) → p % (d + 1) < d → (p + 1) % (d + 1) ≡ p % (d + 1) + 1
 follows p d before =
     ap (λ n. n % (d + 1)) (add-one p) ∙ suc-mod p (d + 1) ∙ mod-eq_of_lt (omega (arith, before)) ∙ sym (add-one (p % (d + 1)))
 
--- a place is within the number of places
+-- each place is below the number of places
 pub place-within : (p d : ℕ) → p % (d + 1) < d + 1
 place-within p d = mod_below p (d + 1) (omega arith)
 
@@ -72,7 +72,7 @@ after-last position d place at last =
     let within = place-within position d in
     sym (wraps position d (omega (arith, at, last, within)))
 
--- if a step has a place other than the last, the next step has the next place
+-- if a step's place isn't the last one, the next step has the place above it
 pub after-other : (position d place : ℕ) → place ≡ position % (d + 1) → place < d → place + 1 ≡ (position + 1) % (d + 1)
 after-other position d place at other = ap (λ n. n + 1) at ∙ sym (follows position d (omega (arith, at, other)))
 
@@ -82,7 +82,7 @@ before-first position d place some at first =
     let whole : position ≡ position - 1 + 1 = omega (arith, some) in
     sym (wraps-back (position - 1) d (ap (λ n. n % (d + 1)) (sym whole) ∙ sym at ∙ first))
 
--- if a step has a place other than the first, the previous step has the previous place
+-- if a step's place isn't the first one, the previous step has the place below it
 pub before-other : (position d place : ℕ) → 0 < position → place ≡ position % (d + 1) → 0 < place → place - 1 ≡ (position - 1) % (d + 1)
 before-other position d place some at other =
     let whole : position ≡ position - 1 + 1 = omega (arith, some) in

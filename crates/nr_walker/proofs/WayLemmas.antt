@@ -119,7 +119,7 @@ module _ {State Delta : Type 0} (is_well_formed : State → Type 0) (world : Sta
               ];
         }
 
-    -- true if `earlier` is the place of the last step, as place_before returns it
+    -- true if `earlier` is the last step's place; place_before returns this place
     abbrev Earlier : ℕ → ℕ → ℕ → Type 0
     Earlier next earlier depth = (position : ℕ) → 0 < position → next ≡ position % (depth + 1) → earlier ≡ (position - 1) % (depth + 1)
 

@@ -19,7 +19,7 @@ module _ {State : Type 0} where
   abbrev pub copy_below : Walk State → ℕ → ℕ
   copy_below w n = n / w.film.every * w.film.every
 
-  -- The way to position n: back if all deltas on the way are kept, forward if n is ahead by fewer
+  -- The route to position n: back if all deltas on the way are kept, forward if n is ahead by fewer
   -- steps than lie between two copies, and otherwise from the copy at or below n.
   abbrev pub route : Walk State → ℕ → Route
   route w n =

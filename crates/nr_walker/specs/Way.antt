@@ -24,8 +24,8 @@ module _ {State Delta : Type 0} (is_well_formed : State → Type 0) (world : Sta
     pub there : slice_get places (k % (depth + 1)) ≡ Some delta
     pub leads_back : LeadsBackTo k delta
 
-  -- true if the state is the film's at the position, the deltas of the last steps are in their
-  -- places, and the next step has another place
+  -- True if the film has this state at the position, and the deltas of the last steps are in their
+  -- places. `next` is the place of the next step.
   pub record IsWay (position : ℕ) (state : State) (places : Vec Delta) (next kept depth : ℕ) :
       Type 0 where
     pub within : position ≤ length film.recording.steps

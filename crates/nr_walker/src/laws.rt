@@ -1,4 +1,4 @@
-//! The numbers of the crate, as a law: a public function with an empty body, whose contract is the law.
+//! The crate's limits, as a law: a public function with an empty body, whose contract is the law.
 
 ghost use Rattle.std.specs.Prelude.{◌≡◌};
 ghost use Rattle.nr_walker.specs.declared.walker.TheConstants.{LEAST_DEPTH, MOST_DEPTH};

@@ -1,6 +1,6 @@
-//! The ways of a walker.
+//! The routes of a walker.
 
-/// The way by which a walker goes to a position.
+/// The route that a walker takes to a position.
 #[derive(Clone, Copy, Debug, PartialEq, Eq)]
 pub(crate) enum Route {
     /// Back, by undoing deltas that the walker keeps.

@@ -14,7 +14,7 @@ use nr_snaps::Film;
 use std::alloc::Global;
 use std::marker::Model;
 
-/// The minimum depth of a walker, which is the number of deltas that it can keep.
+/// The minimum depth of a walker. The depth is the maximum number of deltas that it keeps.
 pub const LEAST_DEPTH: usize = 1;
 
 /// The maximum depth of a walker.
@@ -107,8 +107,7 @@ where
         self.film
     }
 
-    /// Returns the number of deltas that the walker keeps, which is the number of steps that it can
-    /// undo.
+    /// Returns the number of deltas that the walker keeps. It can undo as many steps.
     pub fn kept(&self) -> usize
         ensures is { result ≡ self.now.kept }
         ensures within { result ≤ self.now.depth }
@@ -126,7 +125,8 @@ where
         self.depth
     }
 
-    /// Returns the world at the walker's position, which is exactly the state of the film's replay.
+    /// Returns the world at the walker's position: exactly the state that the film's replay has
+    /// there.
     pub fn world(&self) -> &W
         ensures { IsFrame W.is_well_formed W.world W.steps self.now.film self.now.position
             result.now }
@@ -143,7 +143,7 @@ where
     ///
     /// Undoing deltas allocates no memory, and a step allocates memory only if bytes leave a
     /// buffer. If memory runs out for such a step, the walker is at the position before it, with
-    /// the deltas of the steps so far. If memory runs out for restoring the copy, the walker is
+    /// the deltas of the steps so far. If memory runs out while the copy is restored, the walker is
     /// unchanged.
     pub fn goto(&mut self, n: usize) -> Result<Moved, Memory>
         requires { n ≤ length self.old.film.recording.steps }
@@ -183,7 +183,7 @@ where
         }
     }
 
-    // Returns the way to position n.
+    // Returns the route to position n.
     fn route(&self, n: usize) -> Route
         ensures is { result ≡ route self.now n }
         ensures kept { self.now.kept ≤ self.now.depth }
