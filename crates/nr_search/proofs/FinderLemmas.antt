@@ -14,7 +14,7 @@ use Rattle.nr_search.specs.declared.found.Found.{Found}
 use Rattle.nr_search.specs.declared.found.Found.TheVariants.{Hit, Nothing}
 use Rattle.nr_search.proofs.NearestLemmas.{first_hit_of-found, first_hit_of-is, last_hit_below-found, last_hit_below-is}
 
--- the range from position n + 1 on ends at last + 1
+-- a range of `last - n` positions that starts at n + 1 ends before last + 1
 behind : (n last : ℕ) → n ≤ last → n + 1 + (last - n) ≡ last + 1
 behind n last within = omega arith
 
@@ -52,7 +52,7 @@ pub nothing-found : (r : Recording) (marks : List NumberedMark) (n : ℕ) (direc
 nothing-found r marks n Forward none within = forward-found r marks n within Nothing (record { none = λ q a b. none-hit r marks none q })
 nothing-found r marks n Backward none within = last_hit_below-found (hits_at r marks) n Nothing (record { none = λ q a b. none-hit r marks none q })
 
--- the numbers of the marks that hit at a position rise if those of all marks do
+-- if the numbers of all marks are ascending, so are the numbers of the marks that hit at a position
 hits-rise : (r : Recording) (marks : List NumberedMark) (made p : ℕ) → RisesWithin 0 (numbers_of marks) made → RisesWithin 0 (hits_at r marks p) made
 hits-rise r marks made p rising =
     RisesWithin-filter (λ m. mark_hits (world_at r (p - 1)) (world_at r p) (numbered p (slice_get r.steps p)) m.item) 0 marks made rising

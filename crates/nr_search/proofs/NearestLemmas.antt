@@ -98,7 +98,7 @@ module _ (hits : ℕ → List ℕ) where
 
   -- ---- the nearest hit is the result that the definition computes
 
-  -- the computed result forwards, given the marks that hit at the first position
+  -- the result of the forward computation, given the marks that hit at the first position
   found-at-first : (count p : ℕ) (here : List ℕ) (found : Found) → hits p ≡ here → IsFound Forward hits p (p + suc count) found
       → (IsFound Forward hits (p + 1) (p + 1 + count) found → found ≡ first_hit_of hits count (p + 1)) → found ≡ found_after (first_hit_of hits count (p + 1)) p here
   found-at-first count p (m ∷ ms) Nothing is found rest = let none = found.none p (omega arith) (omega arith) in cc
@@ -121,7 +121,7 @@ module _ (hits : ℕ → List ℕ) where
   first_hit_of-found zero p (Hit h) found = absurd (omega (arith, found.above, found.below))
   first_hit_of-found (suc count) p found is = found-at-first count p (hits p) found refl is (first_hit_of-found count (p + 1) found)
 
-  -- the computed result backwards, given the marks that hit at the last position
+  -- the result of the backward computation, given the marks that hit at the last position
   found-at-last : (n : ℕ) (here : List ℕ) (found : Found) → hits n ≡ here → IsFound Backward hits 0 (suc n) found → (IsFound Backward hits 0 n found → found ≡ last_hit_below hits n)
       → found ≡ found_after (last_hit_below hits n) n here
   found-at-last n (m ∷ ms) Nothing is found rest = let none = found.none n (omega arith) (omega arith) in cc

@@ -99,7 +99,7 @@ remembers-on made before after marks values keeps none remembered =
 pub numbered-same : (n : ℕ) (kind found : Kind) → n ≡ kind_number kind → kind_numbered n ≡ Some found → found ≡ kind
 numbered-same n kind found is at = let both : Some found ≡ Some kind = sym at ∙ ap kind_numbered is ∙ kind_counted kind in cc
 
--- a kind exists for the number of each kind
+-- `kind_numbered` finds a kind for the number of each kind
 pub numbered-some : (n : ℕ) (kind : Kind) → n ≡ kind_number kind → kind_numbered n ≡ None → ⊥
 numbered-some n kind is none = let both : None ≡ Some kind = sym none ∙ ap kind_numbered is ∙ kind_counted kind in cc
 

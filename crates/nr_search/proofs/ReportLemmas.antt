@@ -35,7 +35,7 @@ said-other report s other = grind arith
 said-here : (report : Report) (s : ℕ) → s ≡ report.segment → said_by report s ≡ report.slot
 said-here report s here = grind arith
 
--- what some reports and another report say
+-- what a list of reports says after one report is appended
 said-more : (before : List Report) (report : Report) (s : ℕ) → said_in (before ++ report ∷ []) s ≡ first_known (said_in before s) (said_by report s)
 said-more [] report s = first_known-none (said_by report s)
 said-more (first ∷ before) report s =
@@ -55,7 +55,7 @@ same-or-other a b = grind arith
 pub adds-none : (slots : List Slot) → AddsTo slots (λ s. Unknown) slots
 adds-none slots = record { each = λ s within. sym (first_known-none (slot_of slots s)); count = refl }
 
--- noting some reports and then others notes what all of them say
+-- noting two groups of reports one after the other has the same effect as noting them together
 adds-next : (slots slots' slots'' : List Slot) (said more all : ℕ → Slot) → ((s : ℕ) → all s ≡ first_known (said s) (more s)) → AddsTo slots said slots' → AddsTo slots' more slots''
     → AddsTo slots all slots''
 adds-next slots slots' slots'' said more all both first second =
@@ -82,7 +82,7 @@ module _ {X : Type 0} (items : X → List Report) where
       adds-next slots slots' slots'' (noted (map items (take i by_worker))) (said_in (items one_worker)) (noted (map items (take (i + 1) by_worker)))
       (λ s. ap (λ rs. noted rs s) more ∙ noted-more (map items (take i by_worker)) (items one_worker) s)
 
--- after reports are noted in an unknown slot, the slot contains what the reports say
+-- a slot that is `Unknown` contains, after reports are noted in it, what they say about its segment
 blank : (n s : ℕ) → s < n → slot_of (replicate n Unknown) s ≡ Unknown
 blank n s within =
     ap or_unknown (slice_get-get_or (replicate n Unknown) s Unknown (omega (arith, length-replicate n Unknown, within)) ∙ ap Some (get_or-replicate n s Unknown Unknown within))

@@ -22,18 +22,19 @@ some-between after last every first count s some begins enters needed low high =
 split : (a b : ℕ) → (a < b) ⊎ (b ≤ a)
 split a b = grind arith
 
--- the number of the segment at the boundary after the first k segments on the way: forwards, these
--- have lower numbers; backwards, they have this number or higher ones
+-- The segment number that borders the first k segments in search order. Forwards, these k segments
+-- have lower numbers. Backwards, they have this number or higher ones.
 abbrev pub border : Direction → ℕ → ℕ → ℕ → ℕ
 border Forward first count k = first + k
 border Backward first count k = first + (count - k)
 
--- true if no position of the search on this side of a segment's copy has a hit
+-- true if no mark hits at the positions of the search that come before a copy in search order: up
+-- to `copy` forwards, above `copy` backwards
 abbrev pub Passed : Direction → (ℕ → List ℕ) → ℕ → ℕ → ℕ → Type 0
 Passed Forward hits after last copy = (q : ℕ) → after < q → q ≤ last → q ≤ copy → hits q ≡ []
 Passed Backward hits after last copy = (q : ℕ) → after < q → q ≤ last → copy < q → hits q ≡ []
 
--- true if no mark hits in the first k segments on the way
+-- true if no mark hits in the first k segments in search order
 abbrev pub ArePassed : Span → (ℕ → List ℕ) → ℕ → Type 0
 ArePassed span hits k = Passed span.direction hits span.after span.last (border span.direction span.first span.count k * span.every)
 

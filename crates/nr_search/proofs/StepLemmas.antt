@@ -46,7 +46,7 @@ none-more : (ms : List ℕ) → length ms ≡ 0 → ms ≡ []
 none-more [] none = refl
 none-more (m ∷ ms) none = absurd (omega arith)
 
--- the number of positions that come before this one on the way
+-- the number of positions that come before this one in search order
 abbrev pub place-of : (direction : Direction) (low high q : ℕ) → ℕ
 place-of Forward low high q = q - low
 place-of Backward low high q = high - 1 - q
@@ -55,17 +55,17 @@ place-is : (direction : Direction) (low high q : ℕ) → low ≤ q → q < high
 place-is Forward low high q a b = (omega arith, omega arith)
 place-is Backward low high q a b = (omega arith, omega arith)
 
--- a nearer position comes earlier on the way
+-- a nearer position comes earlier in search order
 nearer-sooner : (direction : Direction) (low high k q : ℕ) → k < high - low → low ≤ q → q < high → Nearer direction q (nth_on_way direction low (high - low) k) → place-of direction low high q < k
 nearer-sooner Forward low high k q within a b nearer = omega (arith, nearer)
 nearer-sooner Backward low high k q within a b nearer = omega (arith, nearer)
 
 module _ (hits : ℕ → List ℕ) (direction : Direction) (low high : ℕ) where
-  -- true if no mark hits at the first k positions on the way
+  -- true if no mark hits at the first k positions in search order
   abbrev pub AreMissed : ℕ → Type 0
   AreMissed k = (j : ℕ) → j < k → hits (nth_on_way direction low (high - low) j) ≡ []
 
-  -- no mark hits at a position that is among the first k on the way
+  -- no mark hits at a position that is among the first k in search order
   missed-at : (k q : ℕ) → low ≤ q → q < high → place-of direction low high q < k → AreMissed k → hits q ≡ []
   missed-at k q a b sooner missed = ap hits (sym (place-is direction low high q a b).1) ∙ missed (place-of direction low high q) sooner
 
@@ -83,7 +83,7 @@ module _ (hits : ℕ → List ℕ) (direction : Direction) (low high : ℕ) wher
   pub missed-all : (k : ℕ) → high - low ≤ k → AreMissed k → NoneHits hits low high
   missed-all k all missed = record { none = λ q a b. missed-at k q a b (omega (arith, (place-is direction low high q a b).0, all)) missed }
 
-  -- the first position on the way at which a mark hits is the nearest hit
+  -- the first position in search order at which a mark hits is the nearest hit
   pub nearest-is : (k p : ℕ) (here : List ℕ) → k < high - low → p ≡ nth_on_way direction low (high - low) k → here ≡ hits p → 0 < length here → AreMissed k
       → IsNearest direction hits low high p here
   nearest-is k p here within place is some missed =

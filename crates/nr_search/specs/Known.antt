@@ -23,7 +23,7 @@ pub record IsTrue (span : Span) (hits : ℕ → List ℕ) (s : ℕ) (slot : Slot
 pub record AreTrue (span : Span) (hits : ℕ → List ℕ) (known : ℕ → Slot) : Type 0 where
   pub each : (s : ℕ) → IsTrue span hits s (known s)
 
--- what is known about a segment, which is `Unknown` if it has no slot
+-- what is known about a segment: `Unknown` if it has no slot
 abbrev pub or_unknown : Option Slot → Slot
 or_unknown (Some slot) = slot
 or_unknown None = Unknown
@@ -56,7 +56,7 @@ Agrees (Searched known) found = found ≡ known
 Agrees (Refused _) found = Unit {0}
 Agrees Unknown found = Unit {0}
 
--- segment k on the way, counted from 0
+-- the segment at index k in search order
 abbrev pub nth_of : Span → ℕ → ℕ
 nth_of span k = nth_on_way span.direction span.first span.count k
 

@@ -31,7 +31,7 @@ abbrev pub nearest_hit : Direction → Recording → List NumberedMark → ℕ �
 nearest_hit Forward r marks n = first_hit_of (hits_at r marks) (length r.steps - n) (n + 1)
 nearest_hit Backward r marks n = last_hit_below (hits_at r marks) n
 
--- True if the search needs a copy of a world, because its way has a position other than the start.
+-- True if the search needs a copy of a world, because its range has a position other than 0.
 abbrev pub NeedsCopy : Direction → Recording → ℕ → Type 0
 NeedsCopy Forward r n = n < length r.steps
 NeedsCopy Backward r n = 1 < n

@@ -31,8 +31,8 @@ any_changed kind marks = list_any (λ m. is_changed_by kind m.item) marks
 abbrev pub any_stopped : Option NextStep → List NumberedMark → Bool
 any_stopped next marks = list_any (λ m. is_stopped_by next m.item) marks
 
--- True if the entry at each kind's number says whether a mark watches a cell that a step of that
--- kind can change.
+-- True if the table contains, at the number of each kind of step, whether a mark watches a cell
+-- that such a step can change.
 pub record AreChanging (marks : List NumberedMark) (changing : List Bool) : Type 0 where
   pub each : (kind : Kind) → slice_get changing (kind_number kind) ≡ Some (any_changed kind marks)
 
@@ -40,7 +40,7 @@ pub record AreChanging (marks : List NumberedMark) (changing : List Bool) : Type
 abbrev pub any_break : List NumberedMark → Bool
 any_break marks = list_any (λ m. not (is_watch m.item)) marks
 
--- True if the outlook is right about the marks.
+-- True if each fact in the outlook holds for the marks.
 pub record IsOutlook (marks : List NumberedMark) (outlook : Outlook) : Type 0 where
   pub changing : AreChanging marks outlook.changing
   pub any_break : outlook.any_break ≡ any_break marks

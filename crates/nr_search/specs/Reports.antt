@@ -28,19 +28,19 @@ first_known Unknown said = said
 abbrev pub said_by : Report → ℕ → Slot
 said_by report s = if report.segment == s then report.slot else Unknown
 
--- What one worker's reports say about segment s, which is what the first report on it says.
+-- What one worker's reports say about segment s. The first report on it counts.
 abbrev pub said_in : List Report → ℕ → Slot
 said_in [] s = Unknown
 said_in (report ∷ reports) s = first_known (said_by report s) (said_in reports s)
 
--- What the reports of all workers, in a row for each worker, say about segment s, which is what the
--- first report on it says, in the order of the rows.
+-- What the reports of all workers say about segment s. Each worker has a row of reports. The first
+-- report on s counts, in the order of the rows.
 abbrev pub noted : List (List Report) → ℕ → Slot
 noted [] s = Unknown
 noted (one_worker ∷ by_worker) s = first_known (said_in one_worker s) (noted by_worker s)
 
--- True if each new slot is the old one, or what is said about its segment if the old one is
--- `Unknown`.
+-- True if each slot that was `Unknown` now contains what `said` gives for its segment, and the
+-- other slots are unchanged.
 pub record AddsTo (slots : List Slot) (said : ℕ → Slot) (slots' : List Slot) : Type 0 where
   pub each : (s : ℕ) → s < length slots → slot_of slots' s ≡ first_known (slot_of slots s) (said s)
   pub count : length slots' ≡ length slots

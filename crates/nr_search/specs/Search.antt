@@ -14,13 +14,15 @@ abbrev pub is_hit : Found → Bool
 is_hit (Hit h) = true
 is_hit Nothing = false
 
--- true if no position farther forward can be a nearer hit
+-- True if the result is final: the search is forward and has a hit. A backward search of a segment
+-- also visits the positions forwards, and takes the last hit.
 abbrev pub is_decided : Direction → Found → Bool
 is_decided Forward (Hit h) = true
 is_decided Forward Nothing = false
 is_decided Backward found = false
 
--- Number k on the way, counted from 0, of the `count` consecutive numbers from the first on.
+-- The number at index k when the numbers from `first` to `first + count - 1` are listed in this
+-- direction.
 abbrev pub nth_on_way : Direction → ℕ → ℕ → ℕ → ℕ
 nth_on_way Forward first count k = first + k
 nth_on_way Backward first count k = first + (count - 1 - k)

@@ -13,8 +13,8 @@ pub enum Direction {
 }
 
 impl Direction {
-    /// Returns number k, counted from 0, of the `count` consecutive numbers from `first` on, in
-    /// this direction.
+    /// Returns the number at index k when the numbers from `first` to `first + count - 1` are
+    /// listed in this direction.
     pub(crate) fn nth(self, first: usize, count: usize, k: usize) -> usize
         requires within { k < count }
         requires fits { first + count < 2 ^ 64 }

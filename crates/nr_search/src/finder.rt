@@ -20,8 +20,8 @@ use nr_snaps::Film;
 use std::marker::PhantomData;
 use std::thread::Threads;
 
-/// A way to search. `nearest_hit` returns the same result for each way, so its callers can be
-/// generic over it.
+/// A method of searching: with one worker or with several. `nearest_hit` returns the same result
+/// for every `Finder`, so its callers can be generic.
 pub trait Finder {
     /// The runtime that starts the threads.
     type Runtime: Threads + Sync;
@@ -50,7 +50,7 @@ pub struct OneWorker<R> {
 }
 
 impl<R: Threads + Sync> OneWorker<R> {
-    /// Makes a way to search with one worker.
+    /// Makes a finder with one worker.
     pub fn new() -> OneWorker<R> {
         OneWorker {
             _runtime: PhantomData,
@@ -185,8 +185,8 @@ where
     nearest_hit(finder, film, marks, Direction::Backward, n)
 }
 
-// Returns the greatest hit below position n. Position 0 is the last on the way, and searching it
-// needs no copy.
+// Returns the greatest hit below position n. Position 0 is the last one in search order, and
+// searching it needs no copy.
 fn last_hit_below<W: Worlds + Drop + Sync, F: Finder>(
     finder: &F,
     film: &Film<W>,

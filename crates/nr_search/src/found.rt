@@ -8,14 +8,14 @@ use crate::direction::Direction;
 use arrayvec::ArrayVec;
 use nr_marks::MOST_MARKS;
 
-/// The numbers of marks, in rising order.
+/// The numbers of marks, in ascending order.
 pub(crate) type Numbers = ArrayVec<u32, MOST_MARKS>;
 
 /// A position at which marks hit.
 #[derive(Debug, PartialEq, Eq, Drop)]
 pub struct Hit {
     pub position: usize,
-    /// The numbers of the marks that hit there, in rising order. At least one mark hits.
+    /// The numbers of the marks that hit there, in ascending order. At least one mark hits.
     pub marks: ArrayVec<u32, MOST_MARKS>,
 }
 
@@ -65,7 +65,7 @@ impl Found {
         }
     }
 
-    // Returns whether no position farther forward can change the result.
+    // Returns whether the result is final: the search is forward and has a hit.
     pub(crate) fn is_decided(&self, direction: Direction) -> bool
         ensures { result ≡ is_decided direction self.now }
     {

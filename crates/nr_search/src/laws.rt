@@ -13,7 +13,7 @@ ghost use Rattle.nr_search.specs.declared.direction.Direction.TheVariants.{Forwa
 ghost use Rattle.nr_search.specs.declared.workers.TheConstants.{LEAST_WORKERS, MOST_WORKERS};
 
 /// Forwards, the nearest hit from position n is the least hit above n, up to the end; backwards, it
-/// is the greatest hit below n. A search finds nothing exactly if no mark hits at any of those
+/// is the greatest hit below n. A search finds nothing if and only if no mark hits at any of those
 /// positions.
 pub fn the_nearest_hit_is_nearest()
     ensures forward { (r : Recording) (marks : List NumberedMark) (n : ℕ) → n ≤ length r.steps
@@ -23,9 +23,9 @@ pub fn the_nearest_hit_is_nearest()
         → IsFound Backward (hits_at r marks) 0 n (nearest_hit Backward r marks n) }
 {}
 
-/// A backward search for a watch's hit stops at the last write of its cell: one position earlier
-/// the cell has another value, and from the hit up to the start of the search its value is the
-/// same.
+/// A backward search for a watch's hit stops at the last write to the watched cell. One position
+/// earlier, the cell has another value. From the hit to the last position before the search's
+/// start, the cell's value stays the same.
 pub fn going_back_leads_to_the_last_write()
     ensures steady { (r : Recording) (number n p : ℕ) (c : Cell) (ms : List ℕ)
         → IsNearest Backward (hits_at r (record { number = number; item = Watch c } ∷ [])) 0 n p ms

@@ -12,8 +12,8 @@ use nr_rev::Kind;
 /// no kind's number.
 pub(crate) const NUMBERS: usize = 32;
 
-/// A table whose entry at a kind's number says whether a mark watches a cell that a step of that
-/// kind can change.
+/// A table with an entry for each kind of step: whether a mark watches a cell that such a step can
+/// change. The kind's number is the index.
 pub(crate) type Changing = [bool; NUMBERS];
 
 /// Facts about the marks, computed once at the beginning of a stretch.
@@ -58,7 +58,7 @@ fn any_stopped(marks: &[NumberedMark], next: Option<NextStep>) -> bool
     marks.iter().any(|mark| is_stopped_by(mark.item, next))
 }
 
-// Returns whether one of the marks watches a cell that a step of the kind with this number can change.
+// Takes the number of a kind. Returns whether one of the marks watches a cell that a step of that kind can change.
 fn is_changing(marks: &[NumberedMark], number: u8) -> bool
     ensures { (kind : Kind) → number ≡ kind_number kind → result ≡ any_changed kind marks.now }
 {
@@ -68,7 +68,7 @@ fn is_changing(marks: &[NumberedMark], number: u8) -> bool
     }
 }
 
-// Returns the table that says, for each kind, whether a mark watches a cell that a step of that kind can change.
+// Returns the table for these marks.
 fn changing_kinds(marks: &[NumberedMark]) -> Changing
     ensures { AreChanging marks.now result }
 {
@@ -86,7 +86,7 @@ fn any_break(marks: &[NumberedMark]) -> bool
     marks.iter().any(|mark| !mark.item.is_watch())
 }
 
-/// Computes the facts about the marks that the search of a stretch needs.
+/// Computes facts about the marks, for use in the search of a stretch.
 pub(crate) fn outlook_of(marks: &[NumberedMark]) -> Outlook
     ensures { IsOutlook marks.now result }
 {

@@ -86,7 +86,7 @@ where
         Ok(found)
     }
 
-    // Returns the nearest hit of a segment, which is known or else searched for.
+    // Returns the nearest hit of a segment. Searches the segment only if its slot is `Unknown`.
     fn decide_segment(
         &self,
         known: &[Slot],
@@ -113,9 +113,9 @@ where
         }
     }
 
-    /// Returns the nearest hit. Visits the segments on the way, and uses what is known about a
-    /// segment or else searches it. The first segment with a hit determines the result, even if the
-    /// search of a later segment ran out of memory.
+    /// Returns the nearest hit. Visits the segments in search order. Uses the result in the slot of
+    /// a segment, or searches the segment if its slot is `Unknown`. The first segment with a hit
+    /// determines the result, even if the search of a later segment ran out of memory.
     pub fn decide(&self, known: &[Slot]) -> Result<Found, Memory>
         requires { AreTrue self.now.span
             (hits_at self.now.film.now.recording self.now.marks.now.present) (slot_of known.now) }
@@ -137,9 +137,9 @@ where
 
     /// Returns the nearest hit according to the reports of the workers, with a row for each worker.
     /// The first report on a segment counts; a segment without a report is searched here. Fails
-    /// with `Memory` only if the report that counts for some segment on the way is missing or
-    /// doesn't say that the segment was searched, and no segment before it is reported to have a
-    /// hit. `table` has an `Unknown` slot for each segment.
+    /// with `Memory` only if some segment lacks a search result, and no segment before it has a
+    /// reported hit. A segment lacks a result if it has no report, or if its first report says that
+    /// memory ran out. `table` has an `Unknown` slot for each segment.
     pub fn decide_by(&self, by_worker: &[Vec<Report>], table: &mut [Slot]) -> Result<Found, Memory>
         requires table { table.old
             ≡ replicate (self.now.span.first + self.now.span.count) Unknown }

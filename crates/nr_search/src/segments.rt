@@ -6,10 +6,10 @@ ghost use Rattle.nr_search.specs.Segments.{from_of, to_of};
 
 use crate::direction::Direction;
 
-/// The positions of a search: those after `after` and up to `last`. A film has a segment between
-/// each two neighbouring copies, and another from the last copy to the end. Segment s contains the
-/// positions after `s * every` and up to `(s + 1) * every`. The positions of the search lie in
-/// `count` segments, from segment `first` on.
+/// The positions of a search: those after `after` and up to `last`. Each pair of neighbouring
+/// copies of a film bounds a segment, and another segment goes from the last copy to the end.
+/// Segment s contains the positions after `s * every` and up to `(s + 1) * every`. The positions of
+/// the search lie in `count` segments, from segment `first` on.
 #[derive(Debug, Drop)]
 pub(crate) struct Span {
     pub direction: Direction,
@@ -48,7 +48,7 @@ impl Span {
         }
     }
 
-    /// Returns segment k on the way, counted from 0.
+    /// Returns the segment at index k in search order.
     pub fn nth(&self, k: usize) -> usize
         requires { k < self.now.count }
         ensures { result ≡ nth_on_way self.now.direction self.now.first self.now.count k }

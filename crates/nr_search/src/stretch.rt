@@ -156,7 +156,8 @@ where
     }
 }
 
-// Moves a world that was restored from the film's copy at or below position n forward to n.
+// Takes a world that was restored from the film's copy at or below position n, and moves it forward
+// to n.
 fn led_on<W: Worlds + Drop>(film: &Film<W>, world: W, n: usize) -> W
 where
     W::Snapshot: Drop,
@@ -173,7 +174,7 @@ where
     below.lead_to(film, n)
 }
 
-/// Returns the numbers of the marks that hit at position 0, in rising order.
+/// Returns the numbers of the marks that hit at position 0, in ascending order.
 pub(crate) fn hits_at_start<W: Worlds + Drop>(film: &Film<W>, marks: &Marks) -> Numbers
 where
     W::Snapshot: Drop,

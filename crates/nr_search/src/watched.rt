@@ -10,8 +10,8 @@ use crate::found::Numbers;
 use nr_marks::{MOST_MARKS, NextStep, NumberedMark};
 use nr_rev::{CellValue, Worlds};
 
-/// Returns the numbers of the marks that hit, given the watched values one step before, and
-/// replaces those by the current values.
+/// Finds the marks that hit, and stores their numbers in `hits`. `values` contains the watched
+/// values one step before; they are replaced with the current values.
 #[inline(always)]
 pub(crate) fn find_hits<W: Worlds>(
     marks: &[NumberedMark],

@@ -52,8 +52,8 @@ impl<R: Threads + Sync, G: Gate + Sync> Model for ManyWorkers<R, G> {
 }
 
 impl<R: Threads + Sync, G: Gate + Sync> ManyWorkers<R, G> {
-    /// Makes a way to search with `workers` workers. Each worker passes the gate for each segment
-    /// that it searches.
+    /// Makes a finder with `workers` workers. Each worker passes the gate for each segment that it
+    /// searches.
     pub fn new(rt: R, alloc: Global, gate: G, workers: usize) -> ManyWorkers<R, G>
         requires least { LEAST_WORKERS ≤ workers }
         requires most { workers ≤ MOST_WORKERS }
@@ -81,9 +81,9 @@ impl<R: Threads + Sync, G: Gate + Sync> ManyWorkers<R, G> {
 /// worker made, or a hit that doesn't exist, the search takes longer but has the same result.
 #[derive(Drop)]
 pub struct Claims {
-    // The number of segments on the way that are claimed.
+    // The number of claimed segments.
     next: AtomicUsize,
-    // The nearest segment with a known hit, by its number on the way; later segments need no
+    // The index, in search order, of the nearest segment with a known hit. Later segments need no
     // search.
     hint: AtomicUsize,
 }
@@ -94,8 +94,8 @@ impl Claims {
         Claims::preset(0, usize::MAX)
     }
 
-    /// Makes a state with `claimed` claimed segments and a known hit in segment `hint` on the way,
-    /// counted from 0.
+    /// Makes a state with `claimed` claimed segments and a known hit in the segment at index `hint`
+    /// in search order.
     pub fn preset(claimed: usize, hint: usize) -> Claims {
         Claims {
             next: AtomicUsize::new(claimed),
@@ -112,12 +112,12 @@ impl Claims {
         }
     }
 
-    // Returns whether a segment before number k on the way has a known hit.
+    // Returns whether a segment before index k in search order has a known hit.
     fn is_behind_hit(&self, k: usize) -> bool {
         k > self.hint.load(Ordering::SeqCst)
     }
 
-    // If segment k on the way has a hit, shares k with the other workers.
+    // If the segment at index k in search order has a hit, shares k with the other workers.
     fn tell(&self, k: usize, slot: &Slot) {
         if let Slot::Searched(Found::Hit(_)) = slot {
             self.hint.fetch_min(k, Ordering::SeqCst);
@@ -125,7 +125,7 @@ impl Claims {
     }
 }
 
-/// Segments that a worker has claimed but not begun, by their numbers on the way.
+/// Segments that a worker has claimed but not begun: indexes in search order.
 #[derive(Clone, Copy)]
 struct Turn {
     next: usize,
@@ -138,9 +138,10 @@ impl Turn {
         Turn { next: 0, end: 0 }
     }
 
-    // Returns the number on the way of the next segment, unless a segment before it has a known
-    // hit. If there are many segments, a worker claims a few at once. Forwards, the worker moves
-    // its world from each segment to the next, and needs a copy only for the first.
+    // Returns the index of the next segment in search order. Returns `None` if no segment is left,
+    // or if an earlier one has a known hit. If the search has many segments, a worker claims a few
+    // at once. In a forward search, the worker moves its world from each segment to the next, and
+    // needs a copy only for the first.
     fn next(&mut self, claims: &Claims, count: usize) -> Option<usize>
         ensures { IfSome result (λ k. k < count) }
     {

@@ -25,7 +25,7 @@ returns-in-Backward-clause-found g c =
 pub returns-in-Forward-clause-marks : goal.returns-in-Forward-clause-marks
 returns-in-Forward-clause-marks g c = search rules
 
--- the numbers of the result rise because those of the marks do
+-- the numbers in the result are ascending because those of the marks are
 pub returns-then-not-any_watch-clause-rising : goal.returns-then-not-any_watch-clause-rising
 returns-then-not-any_watch-clause-rising g c =
     let made = c.args.marks.now.made in

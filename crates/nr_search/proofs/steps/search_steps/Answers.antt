@@ -5,7 +5,7 @@ use Rattle.nr_search.proofs.SegmentLemmas.{nth-within}
 use Rattle.nr_search.proofs.StepLemmas.{missed-all, missed-more, nearest-is}
 use Rattle.nr_search.proofs.steps.search_steps.Goals as goal
 
--- each position on the way is a position of the film
+-- each position of the search is a position of the film
 pub look_at_step-requires-clause-within : goal.look_at_step-requires-clause-within
 look_at_step-requires-clause-within g c =
     let inside = nth-within c.args.direction c.args.low (c.args.high - c.args.low) c.loop-k.k c.loop-k-test.true in

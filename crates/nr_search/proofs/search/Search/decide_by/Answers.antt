@@ -16,7 +16,7 @@ loop-reports-preserved g c =
     c.loop-reports-test.true c.reports-item.is
     c.loop-reports.invariant (subst (λ rs. AddsTo c.loop-reports.table (said_in rs) c.note_all.new.known) c.as_slice.ensures.value c.note_all.ensures)
 
--- the complete table contains what the reports say, which is right
+-- the complete table is right: it contains what the reports say, and they are right
 pub decide-requires : goal.decide-requires
 decide-requires g c =
     let search = c.args.self.now in
