@@ -1,4 +1,5 @@
--- When items are made and deleted, the numbers still rise, and a property of all items still holds.
+-- When items are made and deleted, their numbers stay in ascending order, and a property of all
+-- items still holds.
 use Rattle.std.proofs.Common.{◌≡◌, ℕ, ◌+◌, ◌<◌, ◌≤◌, ◌==◌, Bool, true, false, not, cond, List, [], ◌∷◌, ◌++◌, filter, find, is_some, Option, Some, option_map, refl, ap, arith}
 use Rattle.std.specs.Prelude.{All}
 use Rattle.std.proofs.lemmas.List.Elements.{All-push}
@@ -6,25 +7,25 @@ use Rattle.nr_marks.specs.Numbered.{NumberedItems, is_full, newest, with_item}
 use Rattle.nr_marks.specs.Auxiliary.Numbered.{RisesWithin, numbers_of}
 use Rattle.nr_marks.specs.declared.numbered.Numbered.{Numbered}
 
--- rising numbers above a bound are also above a lower bound
+-- if ascending numbers are above `low`, they are also above any smaller number
 RisesWithin-lower : (low low' : ℕ) (ns : List ℕ) (high : ℕ) → low' ≤ low → RisesWithin low ns high → RisesWithin low' ns high
 RisesWithin-lower low low' [] high below rising = omega arith
 RisesWithin-lower low low' (n ∷ ns) high below rising = (omega (arith, rising.0), rising.1)
 
 module _ {Item : Type 0} where
-  -- if the numbers rise with the first item, they also rise without it
+  -- the numbers stay in ascending order if the first item is kept, and also if it is dropped
   RisesWithin-first : (first : Bool) (low : ℕ) (n : Numbered Item) (items : List (Numbered Item)) (high : ℕ) → low < n.number → RisesWithin n.number (numbers_of items) high
       → RisesWithin low (numbers_of (cond first (n ∷ items) items)) high
   RisesWithin-first true low n items high above rest = (above, rest)
   RisesWithin-first false low n items high above rest = RisesWithin-lower n.number low (numbers_of items) high (omega arith) rest
 
-  -- if the numbers of all items rise, so do the numbers of some of them
+  -- filtering items keeps their numbers in ascending order
   pub RisesWithin-filter : (p : Numbered Item → Bool) (low : ℕ) (items : List (Numbered Item)) (high : ℕ) → RisesWithin low (numbers_of items) high → RisesWithin low (numbers_of (filter p items)) high
   RisesWithin-filter p low [] high rising = rising
   RisesWithin-filter p low (n ∷ items) high rising =
       RisesWithin-first (p n) low n (filter p items) high rising.0 (RisesWithin-filter p n.number items high rising.1)
 
-  -- if the numbers rise, they still rise with the next number after them
+  -- appending an item with the next number keeps the numbers in ascending order
   pub RisesWithin-push : (low : ℕ) (items : List (Numbered Item)) (last : Numbered Item) (high : ℕ) → last.number ≡ high + 1 → RisesWithin low (numbers_of items) high
       → RisesWithin low (numbers_of (items ++ last ∷ [])) (high + 1)
   RisesWithin-push low [] last high next rising = (omega (arith, next, rising), omega (arith, next))

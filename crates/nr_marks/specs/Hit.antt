@@ -49,11 +49,11 @@ abbrev pub hits_between : World → World → Option NextStep → List NumberedM
 hits_between before after next marks =
     map (λ m. m.number) (filter (λ m. mark_hits before after next m.item) marks)
 
--- the next step as breaks see it: its number, counted from 1, and its kind
+-- the number of a step, counted from 1, and its kind; a breakpoint checks nothing else
 abbrev pub step_numbered : ℕ → Step → NextStep
 step_numbered n step = record { number = n; kind = kind_of step }
 
--- the next step at a position, as breaks see it
+-- the number and the kind of the step after position p, if there is such a step
 abbrev pub numbered : ℕ → Option Step → Option NextStep
 numbered p step = option_map (step_numbered (p + 1)) step
 

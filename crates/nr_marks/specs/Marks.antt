@@ -42,6 +42,6 @@ any_watch marks = list_any (λ m. is_watch m.item) marks
 abbrev pub goes : List ℕ → NumberedMark → Bool
 goes hits m = is_temporary m.item && list_any (λ number. number == m.number) hits
 
--- The marks after a stop: all except the temporary ones that hit at it.
+-- The marks that remain after a stop. Only the temporary marks that hit are deleted.
 abbrev pub after_stop : List ℕ → MarkList → MarkList
 after_stop hits table = kept_by (λ m. not (goes hits m)) table

@@ -9,7 +9,7 @@ pub record NumberedItems (Item : Type 0) : Type 0 where
   pub made : ℕ
 
 module _ {Item : Type 0} where
-  -- the list before the first item is made
+  -- the initial list: no items, and no number used
   abbrev pub empty : NumberedItems Item
   empty = record { present = []; made = 0 }
 

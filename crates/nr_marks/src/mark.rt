@@ -17,7 +17,7 @@ pub enum Break {
     Step(NonZeroU32),
 }
 
-/// A mark, which stops `continue`, after GDB's `break`, `tbreak` and `watch`.
+/// A mark stops `continue`. Marks are modelled on GDB's `break`, `tbreak` and `watch`.
 #[derive(Clone, Copy, Debug, PartialEq, Eq)]
 pub enum Mark {
     /// A breakpoint: stops before each step that it names.

@@ -22,7 +22,7 @@ pub enum MarkFault {
 }
 
 /// The marks of a debugger. They are numbered from 1 in the order in which they are made, and a number is never used
-/// twice. No call takes memory.
+/// twice. No call allocates memory.
 #[derive(Debug, Drop)]
 pub struct Marks {
     list: NumberedList<Mark>,
@@ -123,16 +123,15 @@ impl Marks {
         }
     }
 
-    /// Deletes the temporary marks among the marks that hit at a stop, as GDB deletes a breakpoint
-    /// of `tbreak`. The other marks keep their numbers, and the numbers of the deleted marks aren't
-    /// reused.
+    /// Deletes the temporary marks that hit at a stop, as GDB deletes a breakpoint that `tbreak` set. The other marks
+    /// keep their numbers, and the numbers of the deleted marks aren't reused.
     pub fn delete_temporary(&mut self, hits: &[u32])
         ensures { self.new ≡ after_stop hits.now self.old }
     {
         self.list.delete_temporary(hits);
     }
 
-    /// Returns the marks, in rising order of their numbers.
+    /// Returns the marks, in ascending order of their numbers.
     pub fn as_slice(&self) -> &[NumberedMark]
         ensures marks { result.now ≡ self.now.present }
         ensures few { length result.now ≤ MOST_MARKS }
@@ -156,10 +155,9 @@ impl Marks {
         self.as_slice().iter().any(|mark| mark.item.is_watch())
     }
 
-    /// Returns the numbers of the marks that hit at a position, in rising order. `before` is the
-    /// world one step earlier, `after` the world there, and `next` the next step with its number,
-    /// counted from 1. At position 0 the two worlds are the same, and at the end there is no next
-    /// step.
+    /// Returns the numbers of the marks that hit at a position, in ascending order. `after` is the world at the
+    /// position, `before` the world one step earlier, and `next` the next step with its number, counted from 1. At
+    /// position 0 the two worlds are the same, and at the end there is no next step.
     pub fn hits<W: Worlds>(
         &self,
         before: &W,

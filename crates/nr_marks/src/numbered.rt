@@ -16,7 +16,8 @@ pub struct Numbered<T> {
     pub item: T,
 }
 
-/// Items that are numbered from 1 in the order in which they are made. Numbers are never reused. No call takes memory.
+/// Items that are numbered from 1 in the order in which they are made. Numbers are never reused. No call allocates
+/// memory.
 #[derive(Debug, Drop)]
 pub struct NumberedList<T> {
     pub(crate) present: ArrayVec<Numbered<T>, MOST_NUMBERED>,
@@ -87,7 +88,7 @@ impl<T: Copy + Default> NumberedList<T> {
         Some(numbered.item)
     }
 
-    /// Returns the items, in rising order of their numbers.
+    /// Returns the items, in ascending order of their numbers.
     pub fn as_slice(&self) -> &[Numbered<T>]
         ensures items { result.now ≡ self.now.present }
         ensures few { length result.now ≤ MOST_NUMBERED }

@@ -5,7 +5,7 @@ use Rattle.nr_marks.specs.Auxiliary.Numbered.{RisesWithin, numbers_of}
 use Rattle.nr_marks.proofs.NumberedLemmas.{RisesWithin-filter}
 use Rattle.nr_marks.proofs.marks.Marks.hits_before.Goals as goal
 
--- if the numbers of all marks rise, so do the numbers of some of them
+-- the numbers of the marks that hit are in ascending order, as are those of all marks
 pub returns-clause-rising : goal.returns-clause-rising
 returns-clause-rising g c =
     let before = g.W.Worlds.world c.args.before.now in

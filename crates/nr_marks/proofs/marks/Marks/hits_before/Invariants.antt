@@ -2,7 +2,7 @@ use Rattle.std.proofs.Common.{◌≡◌, ◌≤◌, length, take}
 use Rattle.nr_marks.specs.Hit.{hits_between}
 use Rattle.nr_marks.proofs.marks.Marks.hits_before.Given as goal
 
--- the list has the marks that hit among those before the current one
+-- of the marks that the loop has checked so far, the list has those that hit
 abbrev pub invariant-loop-numbered : goal.invariant-loop-numbered
 invariant-loop-numbered g l =
     record {

@@ -5,7 +5,7 @@ use Rattle.nr_marks.specs.Auxiliary.Numbered.{RisesWithin, numbers_of}
 use Rattle.nr_marks.proofs.NumberedLemmas.{RisesWithin-filter}
 use Rattle.nr_marks.proofs.marks.NumberedList+Mark.delete_temporary.Goals as goal
 
--- the numbers of the remaining marks still rise
+-- the numbers of the remaining marks are still in ascending order
 pub invariant_of-self : goal.invariant_of-self
 invariant_of-self c =
     let stays : NumberedMark → Bool = λ m. not (goes c.args.hits.now m) in

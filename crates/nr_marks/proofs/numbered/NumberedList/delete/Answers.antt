@@ -11,7 +11,7 @@ returns-then-is_none-clause-list g c =
     let table = c.args.self.now in
     ap (λ items. record table { present = items }) (sym (filter-others c.args.number table.present (search rules)))
 
--- the numbers of the other items still rise
+-- the numbers of the other items are still in ascending order
 pub invariant_of-self : goal.invariant_of-self
 invariant_of-self g c =
     let others : c.retain.new.self.items ≡ filter (λ n. not (n.number == c.args.number)) c.self.inside.present.items =
