@@ -25,7 +25,7 @@ use Rattle.nr_desc.specs.Desc.{DescFits}
 use Rattle.nr_desc.specs.Op.{Outcome, armed_by, close, closed_by_words, left, opened, outcome, reset}
 use Rattle.nr_desc.specs.Auxiliary.Op.{StepTo, desc_reason, refusal_of, woken_by}
 
--- undoing a delta restores only one descriptor
+-- a delta and the new descriptor determine the old descriptor
 pub DescBack-unique : (delta : DescDelta) (new a b : Descriptor) → DescBack delta new a
     → DescBack delta new b → a ≡ b
 DescBack-unique delta new a b p q = p ∙ sym q

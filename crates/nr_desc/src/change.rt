@@ -24,7 +24,7 @@ pub(crate) struct Followed {
     pub(crate) order: Option<TimerOrder>,
 }
 
-/// Returns the change to this descriptor that gives no orders and wakes no goroutine.
+/// Returns a change to this descriptor that has no timer orders and wakes no goroutine.
 #[inline(always)]
 pub(crate) fn quiet(desc: Desc) -> DescChange
     ensures viewed { change_view result ≡ spec.quiet desc }
@@ -45,7 +45,7 @@ pub(crate) fn quiet(desc: Desc) -> DescChange
 }
 
 impl DescChange {
-    /// Unblocks a side. The woken goroutines are in the order of the sides, reading first.
+    /// Unblocks a side. The woken goroutines are in the order of the sides, the read side first.
     #[inline(always)]
     pub(crate) fn unblock(self, side: Side, ioready: bool) -> DescChange
         requires none { sides.of_side side self.woken ≡ None }

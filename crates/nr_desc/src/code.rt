@@ -10,7 +10,7 @@ ghost use Rattle.nr_desc.specs.Auxiliary.Code.{code_of};
 use nr_rev::WaitWord;
 use std::marker::Model;
 
-/// A wait word as a number. Contracts see the word that it encodes.
+/// A wait word as a number. In contracts, it is the word that the number encodes.
 #[derive(Clone, Copy, Debug, PartialEq, Eq)]
 pub(crate) struct WordCode(u32);
 

@@ -106,8 +106,8 @@ fn is_same_mark(mark: bool, other: bool) -> bool
     mark == other
 }
 
-/// Returns whether a side's deadline is unchanged, and one timer serves both sides exactly if it
-/// did before.
+/// Returns true if a side's deadline is unchanged, and both sides share one timer now if and only
+/// if they shared one before.
 #[inline(always)]
 fn is_unmoved(side: Side, old: Desc, desc: Desc) -> bool
     ensures { result
@@ -118,8 +118,8 @@ fn is_unmoved(side: Side, old: Desc, desc: Desc) -> bool
         && is_same_mark(old.is_combo(), desc.is_combo())
 }
 
-/// Returns the descriptor with the order, if any, that a side's timer needs after the deadlines
-/// changed from those of `old`.
+/// Returns the descriptor with the order, if any, that adjusts a side's timer to the new deadlines.
+/// `old` is the descriptor before the deadlines changed.
 #[inline(always)]
 fn timer_follows(side: Side, old: Desc, desc: Desc) -> Result<Followed, Refusal>
     ensures viewed { Gives followed_view result (spec.timer_follows side old desc) }
@@ -146,7 +146,7 @@ fn timer_follows(side: Side, old: Desc, desc: Desc) -> Result<Followed, Refusal>
 }
 
 impl DescChange {
-    /// Unblocks the sides whose deadline has passed, reading first.
+    /// Unblocks each side whose deadline has passed, the read side first.
     #[inline(always)]
     fn unblock_expired(self) -> DescChange
         requires { self.woken ≡ sides.twice None }
@@ -164,8 +164,8 @@ impl DescChange {
     }
 }
 
-/// Returns the orders that the timers of both sides need, reading first, after the deadlines
-/// changed from those of `old`.
+/// Returns the orders that adjust both sides' timers to the new deadlines, the read side's first.
+/// `old` is the descriptor before the deadlines changed.
 #[inline(always)]
 fn both_follow(old: Desc, desc: Desc) -> Result<DescChange, Refusal>
     ensures viewed { Gives change_view result (auxiliary.both_follow old desc) }
@@ -187,8 +187,8 @@ fn both_follow(old: Desc, desc: Desc) -> Result<DescChange, Refusal>
     })
 }
 
-/// Sets a deadline (Go's `poll_runtime_pollSetDeadline`): adjusts the timers, reading first, and
-/// unblocks the sides whose deadline has passed.
+/// Sets a deadline (Go's `poll_runtime_pollSetDeadline`): adjusts the timers, the read side's
+/// first, and unblocks the sides whose deadline has passed.
 pub(crate) fn change_by_deadline(
     clock: i64,
     mode: Mode,

@@ -25,7 +25,7 @@ fn with_past(side: Side, desc: Desc) -> Desc
 }
 
 impl DescChange {
-    /// Expires the sides that a function covers, reading first.
+    /// Expires the sides that a function covers, the read side first.
     #[inline(always)]
     fn expire(self, function: TimerFunction) -> DescChange
         requires { self.woken ≡ sides.twice None }

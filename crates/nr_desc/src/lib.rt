@@ -1,4 +1,5 @@
-//! A poll descriptor after `pollDesc` of `runtime/netpoll.go`, with its words as numbers and its marks in one byte.
+//! A poll descriptor, modelled on `pollDesc` of `runtime/netpoll.go`. Its wait words are numbers, and its marks are in
+//! one byte.
 #![tactic(auto)]
 
 mod change;

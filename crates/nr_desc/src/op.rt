@@ -5,7 +5,7 @@ ghost use Rattle.std.specs.Prelude.{◌≡◌, ◌++◌, ◌<◌, option_to_list
 use nr_rev::{Answer, MOST_GOROUTINES, Mode, Side, Sides, TimerFunction, TimerOrder};
 use std::marker::Model;
 
-/// A goroutine's number, below the greatest limit of goroutines. Contracts see a plain number.
+/// A goroutine's number, below the maximum number of goroutines. In contracts, it is a plain number.
 #[derive(Clone, Copy, Debug, PartialEq, Eq)]
 pub struct Goroutine(u32);
 
@@ -98,7 +98,7 @@ pub enum DescOp {
     },
 }
 
-/// At most one order to the timer of each side. Contracts see the list of orders, reading first.
+/// At most one order to the timer of each side. In contracts, they are a list of orders, the read side's first.
 #[derive(Drop, Debug)]
 pub struct Orders {
     sides: Sides<Option<TimerOrder>>,

@@ -41,7 +41,8 @@ followed_view f = record { descriptor = f.desc; orders = option_to_list f.order;
 abbrev pub unblocked_view : Unblocked → WaitWord × List ℕ
 unblocked_view u = (u.word, option_to_list u.woken)
 
--- the answer in an `Answered`, and its change, which gives no orders and wakes no goroutine
+-- the answer in an `Answered`, and a change to its descriptor that has no timer orders and wakes no
+-- goroutine
 abbrev pub answered_view : Answered → Answer × Change
 answered_view a = (a.answer, quiet a.desc)
 

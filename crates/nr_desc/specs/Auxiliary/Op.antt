@@ -12,8 +12,8 @@ use Rattle.nr_desc.specs.declared.op.DescOp.TheVariants as op
 use Rattle.nr_desc.specs.declared.reversible.Made.{Made}
 use Rattle.nr_desc.specs.Op.{Outcome, left, outcome}
 
--- the goroutine that is woken at each side: if the operation unblocks words, the goroutine that the
--- side's word held before the operation but doesn't hold after it
+-- The goroutine that the operation wakes at each side: the one that the wait word held before the
+-- operation and no longer holds. An operation that unblocks no word wakes no goroutine.
 abbrev pub woken_by : DescOp → Descriptor → Descriptor → Sides (Option ℕ)
 woken_by (op.SetDeadline clock mode t) old new = both_let_go old.words new.words
 woken_by op.Evict old new = both_let_go old.words new.words
@@ -21,8 +21,8 @@ woken_by (op.Fire function sequence) old new = both_let_go old.words new.words
 woken_by (op.Event tag mode error) old new = both_let_go old.words new.words
 woken_by _ old new = twice None
 
--- true if the result is the operation's outcome and wakes the goroutines that the operation
--- unblocks, or is the reason why the operation is refused
+-- True if the result is the operation's outcome: an answer and a change, or the reason for a
+-- refusal. If the operation applies, the change wakes the goroutines that the operation unblocks.
 abbrev pub ComesTo : DescOp → Descriptor → Result Made Refusal → Type 0
 ComesTo op old result =
     Gives made_view result (outcome old op)
@@ -34,7 +34,7 @@ pub record StepTo (old : Descriptor) (op : DescOp) (answer : DescAnswer) (new : 
     pub defined : outcome old op ≡ Ok (left answer new)
     pub woken : answer.woken ≡ woken_by op old new
 
--- the reason of an outcome that is a refusal
+-- the reason for a refusal, if the outcome is one
 abbrev pub refusal_of : Outcome → Option Refusal
 refusal_of (Ok left) = None
 refusal_of (Err reason) = Some reason
