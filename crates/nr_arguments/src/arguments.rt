@@ -35,8 +35,8 @@ pub enum Program<'a> {
     Upgrade { file: &'a str },
     /// Writes the cells that each step changed, with their values, to standard output.
     Changes { file: &'a str },
-    /// Writes what happened to deadlines, the lost wake-ups, the sleepers and the held references
-    /// to closed sockets to standard output.
+    /// Writes the suspects to standard output: what happened to deadlines, lost wake-ups, sleepers,
+    /// and held references to closed sockets.
     Suspects { file: &'a str },
     /// Answers the commands of several callers, who share one session, over the loopback.
     Serve { file: &'a str, sharing: Sharing },

@@ -1,5 +1,5 @@
--- The first four words of a line determine its meaning, and more digits don't make a number
--- smaller.
+-- Lemmas about two facts: the first four words of a line determine its meaning, and appending
+-- digits to a number never makes it smaller.
 use Rattle.std.proofs.Common.{◌≡◌, ℕ, ◌+◌, ◌*◌, ◌^◌, ◌≤◌, Bool, false, cond, List, [], ◌∷◌, arith, length, take, refl, sym, ap, ◌∙◌, nat_lt, ◌&&◌, Ok, Err}
 use Rattle.std.proofs.Math.Bool.{and-false}
 use Rattle.std.proofs.lemmas.Bool.{le-ltb}

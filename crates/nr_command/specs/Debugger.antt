@@ -69,7 +69,7 @@ mark_made mark d (Ok number) =
     (replies.MarkMade number, record d { marks = with_item mark d.marks })
 mark_made mark d (Err fault) = (replies.Fault (faults.Mark fault), d)
 
--- makes a mark with the next number, or replies why it can't
+-- makes a mark with the next number, or replies with the fault
 abbrev pub make_mark : Mark → Debugger → Ran
 make_mark mark d = mark_made mark d (next_number d.marks)
 
@@ -79,7 +79,7 @@ mark_deleted number d (Ok _) =
     (replies.MarkDeleted number, record d { marks = without_item number d.marks })
 mark_deleted number d (Err fault) = (replies.Fault (faults.Mark fault), d)
 
--- deletes the mark with this number, or replies why it can't
+-- deletes the mark with this number, or replies with the fault
 abbrev pub delete_mark : ℕ → Debugger → Ran
 delete_mark number d = mark_deleted number d (mark_deletion number d.marks)
 
@@ -89,7 +89,7 @@ position_kept d (Ok made) =
     (replies.CheckpointMade made, record d { checkpoints = with_item d.position d.checkpoints })
 position_kept d (Err fault) = (replies.Fault (faults.Checkpoint fault), d)
 
--- keeps the position as the next checkpoint, or replies why it can't
+-- keeps the position as the next checkpoint, or replies with the fault
 abbrev pub keep_position : Debugger → Ran
 keep_position d = position_kept d (next_checkpoint d.position d.checkpoints)
 
@@ -109,7 +109,7 @@ checkpoint_deleted number d (Ok _) =
     (replies.CheckpointDeleted number, record d { checkpoints = without_item number d.checkpoints })
 checkpoint_deleted number d (Err fault) = (replies.Fault (faults.Checkpoint fault), d)
 
--- deletes the checkpoint with this number, or replies why it can't
+-- deletes the checkpoint with this number, or replies with the fault
 abbrev pub delete_checkpoint : ℕ → Debugger → Ran
 delete_checkpoint number d =
     checkpoint_deleted number d (checkpoints.checkpoint_deletion number d.checkpoints)
@@ -147,7 +147,7 @@ abbrev pub after_tagged : Recording → Debugger → Option (ℕ × Command) →
 after_tagged r d None = d
 after_tagged r d (Some tagged) = (run r tagged.1 d).1
 
--- the debugger after a history, a list of words
+-- the debugger after it has run the words of a history
 abbrev pub after_words : Recording → Debugger → List ℕ → Debugger
 after_words r d [] = d
 after_words r d (word ∷ words) = after_words r (after_tagged r d (command_of word)) words

@@ -24,7 +24,7 @@ pub enum CheckpointFault {
 }
 
 /// The checkpoints of a debugger. Checkpoints are numbered from 1 in the order in which they are
-/// made, and a number is never used twice. No call takes memory.
+/// made, and a number is never used twice. No call allocates memory.
 #[derive(Debug, Drop)]
 pub struct Checkpoints {
     list: NumberedList<usize>,
@@ -82,7 +82,7 @@ impl Checkpoints {
         }
     }
 
-    /// Returns the checkpoints, in rising order of their numbers.
+    /// Returns the checkpoints, in ascending order of their numbers.
     pub fn as_slice(&self) -> &[Checkpoint]
         ensures checkpoints { result.now ≡ self.now.present }
         ensures few { length result.now ≤ MOST_CHECKPOINTS }

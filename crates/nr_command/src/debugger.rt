@@ -69,7 +69,7 @@ impl Debugger {
     /// Runs a command. Returns the reply and leaves the state that `run` in `specs/Debugger.antt`
     /// computes.
     ///
-    /// Only `continue` and `reverse-continue` take memory, for copies of the film's worlds, and
+    /// Only `continue` and `reverse-continue` allocate memory, for copies of the film's worlds, and
     /// only if there is a watch and the search visits a position other than the start. If memory
     /// runs out, nothing changes.
     pub fn exec<W: Worlds + Drop + Sync, F: Finder>(

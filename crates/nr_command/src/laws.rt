@@ -30,7 +30,7 @@ pub fn printed_cells_are_read()
 {}
 
 /// After any history, the debugger's position and its checkpoints are in the recording. The history
-/// may contain words of no command.
+/// may contain words that encode no command.
 pub fn histories_stay_in_the_recording()
     ensures { (r : Recording) (words : List ℕ)
         → IsWithin (length r.steps) (after_words r opening words) }

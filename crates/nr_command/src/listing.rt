@@ -1,4 +1,4 @@
-//! Sends the lines of the lists of marks and checkpoints.
+//! Sends the list of marks and the list of checkpoints, one line per item.
 
 ghost use Rattle.std.specs.Prelude.{ℕ, List, ◌++◌, codes, decimal, flat_map};
 ghost use Rattle.nr_command.specs.Listing.{break_text, checkpoint_line, checkpoints_text, mark_line, marks_text};

@@ -27,14 +27,15 @@ impl Query {
     }
 }
 
-// A reply has room for 64 marks, and a function clears all its locals on entry. So each kind of
-// query has its own function.
+// Each kind of query has its own function. A function clears all its locals on entry, and a reply
+// is a large local, because it has room for 64 marks. One function for all kinds would clear
+// several.
 impl Debugger {
     /// Returns the reply to a query about the world at the debugger's position, or about the debugger itself. It
     /// changes nothing.
     ///
-    /// Only a dump takes memory, for the bytes or goroutines that it prints; a dump without any
-    /// takes no memory.
+    /// Only a dump allocates memory, for the bytes or goroutines that it prints. An empty dump
+    /// allocates none.
     pub fn look<W: Worlds + Drop>(
         &self,
         film: &Film<W>,
@@ -80,7 +81,7 @@ impl Debugger {
     }
 
     /// Returns the reply to a query about the debugger itself. Such a query needs no world, and
-    /// takes no memory.
+    /// allocates no memory.
     pub fn look_within<W: Worlds + Drop>(&self, film: &Film<W>, query: Query) -> Reply
     where
         W::Snapshot: Drop,

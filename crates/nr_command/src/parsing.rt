@@ -45,7 +45,7 @@ impl Command {
     }
 }
 
-/// Returns the request that a first word and the words after it make.
+/// Returns the request that a line means: `verb` is its first word, and `rest` are its other words.
 fn request(verb: &[u8], rest: &[&[u8]]) -> Result<Line, LineFault>
     ensures { result ≡ meaning_of_words (verb.now ∷ map (λ word. word.now) rest.now) }
 {

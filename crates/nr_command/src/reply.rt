@@ -27,12 +27,13 @@ pub enum Reply {
     AtEnd(usize),
     /// The debugger is at position 0, and can't go further back.
     AtStart,
-    /// The debugger is at a position at which marks hit, given by their numbers in rising order.
+    /// The debugger is at a position at which these marks hit. Their numbers are in ascending
+    /// order.
     AtHit {
         position: usize,
         marks: ArrayVec<u32, MOST_MARKS>,
     },
-    /// The direction of later commands is now this one.
+    /// Later commands go in this direction.
     Direction(Direction),
     /// A mark with this number was made.
     MarkMade(u32),
@@ -65,9 +66,9 @@ pub enum Reply {
         last: usize,
         direction: Direction,
     },
-    /// The marks, in rising order of their numbers.
+    /// The marks, in ascending order of their numbers.
     Marks(ArrayVec<NumberedMark, MOST_MARKS>),
-    /// The checkpoints, in rising order of their numbers.
+    /// The checkpoints, in ascending order of their numbers.
     Checkpoints(ArrayVec<Checkpoint, MOST_CHECKPOINTS>),
     /// No reply is owed.
     NothingOwed,
@@ -97,7 +98,7 @@ impl Reply {
     ghost use Rattle.nr_text.specs.Auxiliary.Streams.{Prints};
 
     /// Writes the reply's text. If a write fails or accepts no bytes, it stops, and `Part(k)` says
-    /// that exactly the first k bytes were written. Writing a reply takes no memory.
+    /// that exactly the first k bytes were written. Writing a reply allocates no memory.
     pub fn print<W: Write>(&self, out: &mut Sink<W>) -> Result<(), Part>
         ensures { Prints out.old out.new (text_of self.now) result }
     {

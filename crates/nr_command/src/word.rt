@@ -1,5 +1,4 @@
-//! Commands as words: a command and its tag are encoded as one number of 64 bits and decoded from
-//! it.
+//! Encodes a command and its tag as a word, which is one 64-bit number, and decodes the word.
 
 ghost use Rattle.std.specs.Prelude.{◌≡◌, ◌<◌, ◌/◌, ◌%◌, ◌^◌, Some};
 ghost use Rattle.nr_rev.specs.Kind.{kind_numbered};

@@ -1,4 +1,5 @@
--- The effects of `exec`, from the effect of offering the command after the front has caught up.
+-- The effects of `exec` follow from what happens when the front, after it has caught up, offers the
+-- command to the journal.
 use Rattle.std.proofs.Common.{◌≡◌, ℕ, refl, sym, ap, ◌∙◌, subst, inl, Ok, Err}
 use Rattle.nr_journal.specs.Rule.{journal_room}
 use Rattle.nr_command.specs.declared.command.Command.{Command}

@@ -1,4 +1,4 @@
--- The debugger after a history that grows by words.
+-- The debugger after more words are appended to the history.
 use Rattle.std.proofs.Common.{◌≡◌, ◌≢◌, ℕ, List, [], ◌∷◌, ◌++◌, refl, sym, ap, subst, ◌∙◌, ◌/◌, ◌%◌, Option, Some, None}
 use Rattle.std.specs.Prelude.{option_map}
 use Rattle.nr_rev.specs.Run.{Recording}
@@ -32,7 +32,7 @@ run_last r words command d d' b ran =
     ∙ sym (after_words-more r b.before b.word)
     ∙ sym (ap (λ (ws : List ℕ). after_words r opening ws) b.last)
 
--- a word was read, and its command isn't run yet
+-- a word has been read, and its command hasn't been run yet
 pub is_at_more : (r : Recording) (words : List ℕ) (word : ℕ) (d : Debugger) → d ≡ after_words r opening words → IsAt r (words ++ word ∷ []) (pending_command (pending_after (command_of word))) d
 is_at_more r words word d at =
     elim (command_with (word % 256) (word / 65536)) as (λ c. command_with (word % 256) (word / 65536) ≡ c

@@ -162,7 +162,8 @@ seen_all_caught a b c = elim c.caught_up as (λ _. HasSeenAll b) [
   | inr p ↦ inr (p.1 ∙ sym (ap journal_room c.learns.same.table))
 ]
 
--- after another word, the front has still read all words that its pass has learned of
+-- if the front has read all words that its pass has learned of, this also holds after it reads
+-- another word
 pub seen_all_more : (word : ℕ) (a b : FrontState) → HasSeenAll a → SeesWord word a b → HasSeenAll b
 seen_all_more word a b all s = elim all as (λ _. HasSeenAll b) [
   | inl p ↦ inl (rw s.pass_state (p.0 ++ word ∷ [], ap (λ (l : List ℕ). l ++ word ∷ []) p.1 ∙ append_assoc a.pass_state.learned p.0 (word ∷ [])))

@@ -107,28 +107,28 @@ Executes command old new (Err (Placed place)) =
     IsLeftOwed command old new place ⊎ StaysOwed old new place
 Executes command old new (Err Full) = FindsFull old new
 
--- The front with this state of its walker.
+-- The front, with its walker in this state.
 abbrev pub with_walker_state : WalkerState → FrontState → FrontState
 with_walker_state walker_state front_state = record front_state { walker_state = walker_state }
 
 -- The front read and ran all words, and if the query is about the world, the walker then went to
--- the debugger's position. The reply is that of the debugger that has run these words.
+-- the debugger's position. The reply is what the debugger answers after it has run these words.
 pub record RepliesToLook (query : Query) (old new : FrontState) (reply : Reply) : Type 0 where
   pub caught_up : FrontState
   pub catches_all : CatchesAll old caught_up
   pub led : new ≡ with_walker_state (after_look query (replica_of caught_up)) caught_up
   pub answer : reply ≡ query_reply caught_up.recording (replica_of caught_up).debugger query
 
--- the front read and ran all words; then the query itself ran out of memory, and left the walker on
--- the way to the debugger's position or at it
+-- the front read and ran all words; then the query itself ran out of memory, before or after the
+-- walker reached the debugger's position
 pub record IsRefusedLook (query : Query) (old new : FrontState) : Type 0 where
   pub caught_up : FrontState
   pub catches_all : CatchesAll old caught_up
   pub moved : new ≡ with_walker_state new.walker_state caught_up
   pub wanted : LookIsRefused query (replica_of caught_up) new.walker_state
 
--- True if `look` may have this effect. If it runs out of memory, either another user's command did
--- while searching, or the query did after all words were read and run.
+-- True if `look` can have this effect. If memory runs out, it runs out either while another user's
+-- command searches, or for the query itself, after all words were read and run.
 abbrev pub Looks : Query → FrontState → FrontState → Result Reply FrontFault → Type 0
 Looks query old new (Ok reply) = RepliesToLook query old new reply
 Looks query old new (Err (Memory refused)) = IsRefusedMemory old new ⊎ IsRefusedLook query old new

@@ -12,8 +12,9 @@ use Rattle.nr_command.specs.declared.debugger.Debugger.{Debugger}
 use Rattle.nr_front.specs.Replica.{WalkerState}
 use Rattle.nr_front.specs.declared.pending.Pending.{Pending}
 
--- The abstract value of a front: its journal, its recording, the number of workers, the states of
--- its walker and its pass, and the command of the last word read if that command isn't run yet.
+-- The abstract value of a front: its journal, its recording, the number of workers, and the states
+-- of its walker and its pass. `pending` is the command of the last word read, if that command
+-- hasn't been run yet.
 pub record FrontState : Type 0 where
   pub table : TableId
   pub recording : Recording

@@ -92,8 +92,9 @@ where
     /// A query about the world, which is `print` or `dump`, moves the walker to the debugger's
     /// position. Fails with `Memory` if another user's command runs out of memory while searching,
     /// if the walker runs out of memory on its way (see `Walker::goto`), or if a dump that isn't
-    /// empty runs out of memory. So a query about the debugger itself runs out of memory only for
-    /// another user's command. While a reply is owed, does nothing and fails with `Placed`.
+    /// empty runs out of memory. So a query about the debugger itself fails with `Memory` only if
+    /// another user's command runs out of memory. While a reply is owed, does nothing and fails
+    /// with `Placed`.
     pub fn look(&mut self, journal: &Journal, query: Query) -> Result<Reply, FrontFault>
         requires { self.old.table ≡ journal.now }
         ensures same { IsSame self.old self.new }

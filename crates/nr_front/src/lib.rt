@@ -1,6 +1,6 @@
-//! One user's *replica* of the shared session. A replica has a pass of the journal, and a debugger
-//! that runs the words that the pass reads, in the order of the journal: its own words and those of
-//! other fronts.
+//! One user's *replica* of the shared session. A replica has a pass of the journal and a debugger.
+//! The pass reads all words of the journal in order, those of other fronts too, and the debugger
+//! runs them.
 #![tactic(auto)]
 
 mod fault;

@@ -52,8 +52,8 @@ where
     W::Delta: Drop,
     W::Snapshot: Drop + Sync,
 {
-    /// Makes a replica at position 0, whose walker keeps the deltas of its last `depth` steps. Takes memory for a copy
-    /// of the film's first world, and for the deltas.
+    /// Makes a replica at position 0, whose walker keeps the deltas of its last `depth` steps. Allocates memory for a
+    /// copy of the film's first world, and for the deltas.
     pub fn new(
         alloc: Global,
         film: &'f Film<W>,
@@ -99,8 +99,8 @@ where
     }
 
     /// Answers a query at the debugger's position. For a query about the world, it first moves the
-    /// walker there. Fails with `Memory` if memory runs out on the way, or for a dump that isn't
-    /// empty. Nothing but the walker changes, even if the call fails.
+    /// walker there. Fails with `Memory` if memory runs out while the walker moves, or for a dump
+    /// that isn't empty. Nothing but the walker changes, even if the call fails.
     pub(crate) fn look(&mut self, query: Query) -> Result<Reply, Memory>
         ensures recording { self.new.recording ≡ self.old.recording }
         ensures workers { self.new.workers ≡ self.old.workers }

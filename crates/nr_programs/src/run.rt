@@ -150,7 +150,7 @@ pub fn refuse<T: Text, O: Write>(fault: &T, output: &mut Sink<O>) -> ExitStatus
     print(fault, ExitStatus::Refused, output)
 }
 
-// Prints the text. Returns the given status if the text was written whole.
+// Prints the text. Returns the given status if the text was written in full.
 pub(crate) fn print<T: Text, O: Write>(
     text: &T,
     wanted: ExitStatus,

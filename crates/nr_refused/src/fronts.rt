@@ -393,9 +393,9 @@ static SIX_LINES: [(&str, &str, usize); 6] = [
     ("info position", "at 2 of 12 forward\n", 4),
 ];
 
-// Sends a line until it is answered. If memory ran out for the line or for another front's command,
-// sends it again. If the line's command was placed and its reply is owed, which happens only for a
-// search, requests the reply.
+// Sends a line until it is answered. If memory ran out for the line's query, or for another front's
+// command, sends the line again. If the line's command was placed and its reply is owed, which
+// happens only for a search, requests the reply.
 fn answered<H: Threads + Sync>(
     journal: &Journal,
     front: &mut Lone<'_, H>,

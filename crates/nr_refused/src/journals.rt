@@ -114,8 +114,8 @@ pub(crate) fn make_alone_twice(rt: &HostRuntime) -> Twice {
     }
 }
 
-// Returns the result of reading, given that the words should be this many `checkpoint` commands
-// with tag 0.
+// Returns the result of reading: `Right` if the words are this many `checkpoint` commands with tag
+// 0.
 fn is_read(words: Result<Vec<u64>, Memory>, count: usize) -> Came {
     match words {
         Ok(words) => {

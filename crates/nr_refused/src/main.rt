@@ -1,11 +1,12 @@
-//! Makes a call of netrev's libraries while requests for memory may be refused, and then again with memory: `nr_refused
-//! CALL`, or `nr_refused all` for all calls, one after the other.
+//! Makes a call of netrev's libraries while requests for memory may be refused, and then again while all requests are
+//! granted: `nr_refused CALL`, or `nr_refused all` for all calls, one after the other.
 //!
 //! The program refuses nothing itself. It prints the line `refuse` when requests for memory may be
-//! refused from then on, and `grant` when they may no longer be refused. After the second call, the
-//! program prints a line with the result of both calls. python/tests/program/each_call.py preloads
-//! scripts/refused.c, which obeys the lines `refuse` and `grant`, before the C library. If a call
-//! was refused, the program also checks that the call left unchanged what it must.
+//! refused from then on, and `grant` when they may no longer be refused.
+//! python/tests/program/each_call.py uses LD_PRELOAD to load scripts/refused.c before the C
+//! library, and scripts/refused.c obeys these two lines. If a call was refused, the program also
+//! checks that the call changed nothing that it had to preserve. After the second call, the program
+//! prints a line with the result of both calls.
 #![tactic(auto)]
 
 mod calls;

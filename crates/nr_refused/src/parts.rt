@@ -81,8 +81,8 @@ fn came_of_sock(made: Result<Sock, Memory>, bytes: &[u8]) -> Came {
     }
 }
 
-// Returns whether exactly these bytes can be read; without bytes, returns whether the socket wasn't
-// opened.
+// Returns whether exactly these bytes can be read. If `bytes` is empty, returns whether the socket
+// wasn't opened.
 fn has_bytes(sock: &Sock, bytes: &[u8]) -> bool {
     sock.is_made() != bytes.is_empty()
         && sock.byte(Side::Read, 0) == bytes.get(0).copied()
@@ -107,7 +107,7 @@ const OPEN: Step = Step::SockOpen {
     write_capacity: 16,
 };
 
-// Makes buffers into which two bytes have arrived.
+// Makes a socket's buffers, which then receive two bytes.
 fn sock_of_two(alloc: Global) -> Option<Sock> {
     let mut sock = Sock::with_limits(alloc, 16).ok()?;
     let bytes = Bytes::new(Vec::from_slice(alloc, b"hi").ok()?);

@@ -16,7 +16,8 @@ pub(crate) struct Part {
 #[derive(Drop)]
 pub(crate) struct Seen {
     reads: AtomicU32,
-    // the number of bytes in the writes that matched the expected replies at their place
+    // the number of bytes in all writes that matched the expected replies at the position of the
+    // write
     right: AtomicU32,
     written: AtomicU32,
 }
@@ -87,7 +88,7 @@ impl Write for Replies<'_> {
     }
 }
 
-/// The only caller of a front, until it has come.
+/// The only caller of a front, or `None` after the caller has come.
 #[derive(Drop)]
 pub(crate) struct Callers<'a> {
     caller: Option<Caller<'a>>,

@@ -1,12 +1,12 @@
-//! The results of a test: the result of a call while requests for memory may be refused, and the
-//! result of the same call with memory.
+//! The results of a test, which makes the same call twice: requests for memory may be refused in
+//! the first call, and are granted in the second.
 
 /// The result of a call.
 #[derive(Clone, Copy, Debug, PartialEq, Eq)]
 pub(crate) enum Came {
     /// The expected result.
     Right,
-    /// Memory was refused, and the call left unchanged what it must.
+    /// Memory was refused, and the call changed nothing that it had to preserve.
     Refused,
     /// Anything else.
     Wrong,
@@ -32,7 +32,7 @@ impl Came {
         if was_right { self } else { Came::Wrong }
     }
 
-    /// Returns `Wrong` in place of `Refused` unless the call left everything as it must.
+    /// Returns `Wrong` in place of `Refused` if the call changed something that it had to preserve.
     pub(crate) fn leaving(self, as_it_was: bool) -> Came {
         match self {
             Came::Refused if !as_it_was => Came::Wrong,
@@ -41,7 +41,8 @@ impl Came {
     }
 }
 
-/// The results of a call while requests for memory may be refused, and of the same call with memory.
+/// The results of two equal calls: requests for memory may be refused in the first, and are granted
+/// in the second.
 #[derive(Clone, Copy, Debug, PartialEq, Eq)]
 pub(crate) struct Twice {
     pub(crate) first: Came,
@@ -58,7 +59,8 @@ impl Twice {
         }
     }
 
-    /// Returns whether the first call was right or refused, and the call with memory was right.
+    /// Returns whether the first call's result was expected or its memory was refused, and the
+    /// second call's result was expected.
     pub(crate) fn is_right(self) -> bool {
         self.first != Came::Wrong && self.again == Came::Right
     }
@@ -74,7 +76,7 @@ impl Twice {
     }
 }
 
-/// Lets requests for memory be refused from now on.
+/// From now on, requests for memory may be refused.
 pub(crate) fn refuse(rt: &HostRuntime) {
     let _printed = println!(rt; "refuse");
 }
@@ -84,7 +86,7 @@ pub(crate) fn refuse_next(rt: &HostRuntime) {
     let _printed = println!(rt; "refuse the next");
 }
 
-/// Lets no request be refused from now on.
+/// From now on, all requests for memory are granted.
 pub(crate) fn grant(rt: &HostRuntime) {
     let _printed = println!(rt; "grant");
 }

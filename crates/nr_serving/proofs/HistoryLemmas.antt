@@ -1,4 +1,4 @@
--- The words that the last pass reads complete the history.
+-- Lemmas about the history: it is what the last pass has read after it has read all words.
 use Rattle.std.proofs.Common.{◌≡◌, ◌≢◌, ◌<◌, ◌+◌, ℕ, zero, suc, add-one, inl, inr, List, [], ◌∷◌, ◌++◌, map, refl, ◌∙◌, sym, ap, subst, arith, append_assoc, append-nil, Result, Ok, Err}
 use Rattle.std.specs.Prelude.{IfOk, IfSome}
 use Rattle.std.specs.Global.{Vec}
@@ -31,7 +31,7 @@ own_seen room words pass_state s =
     let more : Covers s.after.seen pass_state.tag s.before.seen = subst (λ (t : ℕ). Covers s.after.seen t s.before.seen) s.tag (s.sees_others.0, s.sees_others.1, s.sees_others.2) in
     subst (λ (w : List ℕ). Covers w pass_state.tag pass_state.seen) (sym s.is) (covers_on pass_state.tag pass_state.seen s.before.seen s.after.seen s.others more)
 
--- the history is what the last pass to read has read
+-- if a pass has read words until none was left, the history is what it has read
 pub seen_last : (room : ℕ) (given : Result (Vec ℕ) Memory) (old new : PassState) → SeesOthers old new → CatchesUp room old new → IfOk given (λ words. words.items ≡ new.seen)
     → IfOk given (λ words. IsSeenBy room words.items old)
 seen_last room (Ok words) old new sees_others caught_up is = record {
@@ -45,7 +45,8 @@ seen_last room (Ok words) old new sees_others caught_up is = record {
 }
 seen_last room (Err fault) old new sees_others caught_up is = tt
 
--- a pass that first reads what another pass has read, and then the history, has read the history
+-- a pass can read the history in two stages: first the words that another pass reported, and then
+-- all later words
 pub seen_before : (room : ℕ) (given : Result (Vec ℕ) Memory) (old mid : PassState) (reported : List ℕ) → SeesOthers (informed old reported) mid
     → IfOk given (λ words. IsSeenBy room words.items mid) → IfOk given (λ words. IsSeenBy room words.items old)
 seen_before room (Ok words) old mid reported g s = record {
@@ -59,8 +60,8 @@ seen_before room (Ok words) old mid reported g s = record {
 }
 seen_before room (Err fault) old mid reported g s = tt
 
--- A pass whose words the last pass has read then reads the history, so none of the words that are
--- new to it are its own.
+-- The last pass has read all words that the pass `own` has read. When `own` then reads the rest of
+-- the history, all new words are from other passes. So the history contains all words of `own`.
 own_more : (room : ℕ) (words fin reported : List ℕ) (mid own later : PassState) → IsSeenBy room words mid → words ≡ fin → StartsWith mid.seen own.seen → SeesOthers (informed own reported) later
     → StartsWith later.seen fin → HasItsOwnWords words own
 own_more room words fin reported mid own later s is (x, p) g (y, q) =
@@ -81,7 +82,7 @@ others_more room (Ok words) rest all other met mid fin later reported more split
     (All-push (λ d. HasItsOwnWords words.items d.pass.pass_state) rest other own (own_more room words.items fin.seen more mid other.pass.pass_state later s is first g last))
 others_more room (Err fault) rest all other met mid fin later reported more split s is first was sees_others last own = tt
 
--- a bound on the tags of the words holds for any equal number of passes
+-- if the tags of all words are below the number of passes, they are below any equal number
 pub below_as : (given : Result (Vec ℕ) Memory) (passes passes' : ℕ) → passes' ≡ passes → IfOk given (λ words. All (HasTagBelow passes') words.items) → IfOk given (λ words. All (HasTagBelow passes) words.items)
 below_as given passes passes' is below = subst (λ (n : ℕ). IfOk given (λ words. All (HasTagBelow n) words.items)) is below
 
@@ -95,7 +96,7 @@ pub others_none : (given : Result (Vec ℕ) Memory) (all : List Done) → all �
 others_none (Ok words) all none = subst (All (λ d. HasItsOwnWords words.items d.pass.pass_state)) (sym none) (All-nil (λ d. HasItsOwnWords words.items d.pass.pass_state))
 others_none (Err fault) all none = tt
 
--- if the items of a list are numbered from 0, so are they after the next item is appended
+-- if the items of a list are numbered from 0, they still are after the next item is appended
 pub numbers_more : {A : Type 0} (number : A → ℕ) (xs all : List A) (x : A) (n : ℕ) → all ≡ xs ++ x ∷ [] → map number xs ≡ numbers_below n → number x ≡ n → map number all ≡ numbers_below (n + 1)
 numbers_more number xs all x n split so_far is =
     ap (map number) split ∙ map-append number xs (x ∷ []) ∙ ap (λ (l : List ℕ). l ++ number x ∷ []) so_far ∙ ap (λ (m : ℕ). numbers_below n ++ m ∷ []) is ∙ ap numbers_below (sym (add-one n))
@@ -112,7 +113,7 @@ all_last : (P : Done → Type 0) (xs : List Done) (x : Done) → All P (xs ++ x 
 all_last P [] x h = All-head P x [] h
 all_last P (y ∷ xs) x h = all_last P xs x (All-tail P y (xs ++ x ∷ []) h)
 
--- the tags in the states of the passes are the tags of the passes
+-- listing the states of the passes, and then the tags of these states, gives the tags of the passes
 tags_known : (all : List Done) → map (λ p. p.tag) (map (λ d. d.pass.pass_state) all) ≡ map (λ d. d.pass.pass_state.tag) all
 tags_known [] = refl
 tags_known (d ∷ all) = ap (λ (l : List ℕ). d.pass.pass_state.tag ∷ l) (tags_known all)

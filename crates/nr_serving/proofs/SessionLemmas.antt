@@ -90,7 +90,7 @@ same_tags (s ∷ starts) (o ∷ ones) (is, are) =
     let tag : o.0.pass.pass_state.tag ≡ s.pass_state.tag = ap (λ (p : Entered). p.pass_state.tag) is.pass ∙ (serving_keeps_tag is.course.callers s is.course.last is.serving).0 in
     ap (λ (n : ℕ). n ∷ map (λ d. d.pass.pass_state.tag) (dones_of ones)) tag ∙ ap (λ (l : List ℕ). s.pass_state.tag ∷ l) (same_tags starts ones are)
 
--- new fronts whose callers haven't come are ready to be served
+-- new fronts to which no caller has come yet are ready to be served
 pub ready : (table : TableId) (r : Recording) (fronts depth workers : ℕ) (pairs : List (FrontState × Passed)) → All (IsFresh table r fronts depth workers) (fronts_of pairs) → All (λ f. f.1 ≡ none_passed) pairs
     → All (IsReady table) pairs
 ready table r fronts depth workers [] fresh none = All-nil (IsReady table)
@@ -134,7 +134,7 @@ port_more old mid new number next was =
     next ∙ ap (λ (l : FrontsLog). record l { opened = l.opened ++ number ∷ [] }) was
     ∙ ap (λ (l : List ℕ). record { opened = l; ended = old.ended }) (append_assoc old.opened (numbers_below number) (number ∷ []) ∙ ap (λ (n : ℕ). old.opened ++ numbers_below n) (sym (add-one number)))
 
--- the ports of this number of fronts were opened, and then their callers ended with these logs
+-- the ports of this number of fronts were opened, and then the fronts ended, each with its log
 pub opens : (old mid new : FrontsLog) (n fronts : ℕ) (passed : List Passed) → mid ≡ record old { opened = old.opened ++ numbers_below n } → new ≡ record mid { ended = mid.ended ++ passed } → n ≡ fronts
     → Opens fronts passed old new
 opens old mid new n fronts passed first then is =

@@ -29,7 +29,7 @@ pub record IsHistory (room : ℕ) (pass_states : List PassState) (history : List
       × IsSeenBy room history pass_state)
       ⊎ ((pass_states ≡ []) × (history ≡ []))
 
--- The course is that of a front that was new at its start.
+-- The front of this course was new before its first caller.
 pub record BeginsFresh (table : TableId) (r : Recording) (fronts depth workers : ℕ)
     (course : Course) : Type 0 where
   pub start : FrontState
@@ -41,8 +41,9 @@ abbrev pub last_pass_state : Course → PassState
 last_pass_state course = course.last.pass_state
 
 -- Fronts shared the session, each with a walker of this depth and this number of workers. Their
--- tags are their numbers, from 0. The history is the words that were placed, unless memory ran out
--- for it. `failed` says whether one of the fronts failed. `passed` is the logs of the fronts.
+-- tags are their numbers, from 0. `history` has the words that were placed, or is `None` if memory
+-- ran out while they were collected. `failed` says whether one of the fronts failed. `passed` has
+-- the logs of the fronts.
 pub record IsShared (r : Recording) (room fronts depth workers : ℕ) (passed : List Passed)
     (history : Option (List ℕ)) (failed : Bool) : Type 0 where
   pub table : TableId
@@ -55,8 +56,8 @@ pub record IsShared (r : Recording) (room fronts depth workers : ℕ) (passed : 
   pub reported : failed ≡ list_any has_failed courses
   pub passed_is : passed ≡ map passed_in courses
 
--- True if the ports of this number of fronts were opened, each once, by the front's number; if all
--- of the fronts have ended, with these logs; and if nothing else was logged.
+-- True if the ports of this number of fronts were opened, once each and in the order of their
+-- numbers; all of these fronts then ended, with these logs; and nothing else was logged.
 abbrev pub Opens : ℕ → List Passed → FrontsLog → FrontsLog → Type 0
 Opens fronts passed old new =
     new ≡ record {

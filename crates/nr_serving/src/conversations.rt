@@ -92,7 +92,7 @@ impl Fronts {
         Fronts {}
     }
 
-    /// Returns the log with the number of another front whose port was opened.
+    /// Returns the log after the port of another front was opened: the front's number is appended.
     #[inline(always)]
     pub fn opened(&self, _number: &usize) -> Fronts
         ensures { (result.opened ≡ self.now.opened ++ _number.now ∷ []) × (result.ended ≡ self.now.ended) }
@@ -100,7 +100,7 @@ impl Fronts {
         Fronts {}
     }
 
-    // Returns the log with the conversations of another front that has ended.
+    // Returns the log after another front has ended: the front's conversations are appended.
     #[inline(always)]
     pub(crate) fn ended(&self, _conversations: &Conversations) -> Fronts
         ensures { (result.opened ≡ self.now.opened) × (result.ended ≡ self.now.ended

@@ -1,6 +1,6 @@
-//! Ports and callers that are logged. Only this file has access to a caller. A caller's reader and
-//! writer are wrapped at once when the caller comes, and the conversation is logged when the caller
-//! leaves.
+//! Ports and callers that are logged. Only this file has access to a caller. When a caller comes,
+//! its reader and writer are wrapped immediately. When the caller leaves, the conversation is
+//! logged.
 
 ghost use Rattle.std.specs.Prelude.{◌≡◌, ◌-◌, ◌^◌, ◌≤◌, ◌∷◌, ◌++◌, [], length};
 ghost use Rattle.nr_serving.specs.Auxiliary.Fronts.{arrival_of, none_passed};
@@ -60,8 +60,8 @@ impl<C: Connections + Drop> LoggedCallers<C> {
         }
     }
 
-    // Waits for the next caller, logs the result, and wraps the caller's reader and writer at once. If no caller comes,
-    // drops the connections.
+    // Waits for the next caller, and logs the result. If a caller comes, wraps its reader and writer immediately. If no
+    // more callers will come, or waiting fails, drops the front's connections.
     fn next(&mut self) -> Next<Source<C::Reader>, Sink<C::Writer>>
         ensures arrived { self.new ≡ with_arrival (arrival_of result) self.old }
         ensures fresh { IsNewCaller result }
@@ -143,8 +143,9 @@ impl<C: Connections + Drop> LoggedCallers<C> {
 }
 
 /// Ports whose callers are logged. Contracts describe them by the numbers of the fronts whose ports
-/// were opened, and the log of each front that has ended. The ports' own list ends with the same
-/// numbers, which are those of the ports opened since the wrapping.
+/// were opened, and the log of each front that has ended. The wrapped ports have a list of their
+/// own. It ends with the same numbers, because `LoggedPorts` has opened all ports since it wrapped
+/// them.
 #[derive(Drop)]
 pub struct LoggedPorts<P: Ports> {
     ports: P,
@@ -182,7 +183,7 @@ impl<P: Ports> LoggedPorts<P> {
         LoggedCallers::new(self.ports.open(front))
     }
 
-    // Ends the callers of a front, and logs the conversations.
+    // Drops the callers of a front, and logs the conversations.
     pub(crate) fn end(&mut self, callers: LoggedCallers<P::Callers>)
         ensures { self.new ≡ record self.old { ended = self.old.ended ++ callers ∷ [] } }
     {

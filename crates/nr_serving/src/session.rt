@@ -125,7 +125,8 @@ where
     opened
 }
 
-// Ends the callers of each front, in order, and returns the fronts' results.
+// Drops the callers of each front, in order, and logs their conversations. Returns the fronts'
+// results.
 fn end_ports<P: Ports>(
     ports: &mut LoggedPorts<P>,
     served: Vec<(Done, LoggedCallers<P::Callers>)>,
@@ -165,8 +166,8 @@ fn finish(alloc: Global, journal: &Journal, mut done: Vec<Done>) -> Ended
 }
 
 // Lets a pass read all words that the other passes have read, and then the journal to its end.
-// Returns all that the pass has read. Each other pass then reads the same words, which proves that
-// no word that is new to it is its own.
+// Returns all that the pass has read. Then each of the other passes reads the same words. This
+// proves that all words that are new to such a pass come from other passes.
 fn collect(journal: &Journal, last: &mut Pass, mut done: Vec<Done>) -> Result<Vec<u64>, Memory>
     requires last { last.old.table ≡ journal.now }
     requires done { All (λ d. d.pass.table ≡ journal.now) done.items }

@@ -47,14 +47,14 @@ after_look query m =
     else m.walker_state
 
 -- True if the walker ran out of memory on the way to position n, while it restored a copy or before
--- a step at which bytes leave a buffer. Going back over deltas takes no memory.
+-- a step at which bytes leave a buffer. Going back over deltas allocates no memory.
 abbrev pub IsRefusedOnTheWay : ℕ → Recording → WalkerState → WalkerState → Type 0
 IsRefusedOnTheWay n r old new =
     IsRefusedBy (route (walk_of r old) n) (walk_of r old) n (walk_of r new)
 
--- True if a query may have run out of memory: it is about the world, and the walker either ran out
--- of memory on the way to the debugger's position, or reached it and the query copies what it
--- prints.
+-- True if a query about the world can have run out of memory. Either the walker ran out of memory
+-- before it reached the debugger's position; or the walker reached that position, and the query
+-- copies what it prints.
 pub record LookIsRefused (query : Query) (m : ReplicaState) (new : WalkerState) : Type 0 where
   pub at_world : is_at_world query ≡ true
   pub why :

@@ -13,9 +13,9 @@ use Rattle.nr_serving.specs.declared.conversations.Arrival.{Arrival}
 use Rattle.nr_serving.specs.declared.conversations.Arrival.TheVariants as arrivals
 use Rattle.nr_serving.specs.Fronts.{Course, has_failed, passed_in}
 
--- A front in state d served a caller, with a new reader and writer, and is in state d' now. What
--- was sent answers the lines that were received, as far as the result says. The result reports a
--- failure if and only if a read or a write failed.
+-- A front in state d served a caller, with a new reader and writer, and is in state d' now. The
+-- bytes that were sent answer the lines that were received, up to the point that the result
+-- reports. The result reports a failure if and only if a read or a write failed.
 pub record ServesCaller (c : Conversation) (d d' : FrontState) : Type 0 where
   pub remaining : Option (List ℕ)
   pub contents : Option (List ℕ)
@@ -41,12 +41,12 @@ arrival_of nexts.Failed = arrivals.Failed
 abbrev pub none_passed : Passed
 none_passed = record { arrivals = []; callers = [] }
 
--- True if the front is over this journal and its log is that of a front before any caller has come.
+-- True if the front uses this journal and its log is empty, because no caller has come yet.
 abbrev pub IsReady : TableId → FrontState × Passed → Type 0
 IsReady table f = (f.0.table ≡ table) × (f.1 ≡ none_passed)
 
--- This front was served with this result, and this log has its conversations with its callers as
--- their streams recorded them. The result reports a failure if and only if there was a failure.
+-- This front was served with this result. The log has the front's conversations, as the callers'
+-- streams recorded them. The result reports a failure if and only if there was a failure.
 pub record IsServed (start : FrontState) (done : Done) (passed : Passed) : Type 0 where
   pub course : Course
   pub passed_is : passed ≡ passed_in course

@@ -14,9 +14,8 @@ use Rattle.nr_front.specs.Auxiliary.FrontState.{opened_front}
 use Rattle.nr_front.specs.Auxiliary.Replica.{at_start}
 use Rattle.nr_serving.specs.declared.fronts.Done.{Done}
 
--- True if the front is new: it is over this recording and over this journal, which has this number
--- of fronts; it has read no word; its walker has this depth and hasn't moved; and it has this
--- number of workers.
+-- True if the front is new. It uses this recording, this journal with this number of fronts, and
+-- this number of workers. It has read no word. Its walker has this depth and hasn't moved.
 abbrev pub IsFresh : TableId → Recording → ℕ → ℕ → ℕ → FrontState → Type 0
 IsFresh table r fronts depth workers front_state =
     (tag : ℕ) × (every : ℕ)
@@ -27,7 +26,7 @@ IsFresh table r fronts depth workers front_state =
 abbrev pub any_failed : List Done → Bool
 any_failed done = list_any (λ d. d.failed) done
 
--- the words, or `None` if memory ran out for them
+-- the words, or `None` if memory ran out while they were collected
 abbrev pub words_of : Result (Vec ℕ) Memory → Option (List ℕ)
 words_of (Ok words) = Some words.items
 words_of (Err fault) = None

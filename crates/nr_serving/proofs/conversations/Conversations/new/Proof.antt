@@ -1,4 +1,5 @@
--- `new` makes a struct without fields, and picks the empty log.
+-- The method `new` returns a struct without fields. As the struct's log, the proof chooses the
+-- empty log.
 use Rattle.std.proofs.Common.{[], ◌∷◌, refl}
 use Rattle.std.proofs.raw_atomic.Walks.{proved}
 use Rattle.nr_text.proofs.CallWalks.{nothing_made, of_no_fields}

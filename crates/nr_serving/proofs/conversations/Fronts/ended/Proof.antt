@@ -1,4 +1,5 @@
--- `ended` makes a struct without fields, and picks the log that its clause names.
+-- The method `ended` returns a struct without fields. As the struct's log, the proof chooses the
+-- one that the contract requires.
 use Rattle.std.proofs.Common.{[], ◌∷◌, ◌++◌, refl}
 use Rattle.std.proofs.raw_atomic.Walks.{proved}
 use Rattle.nr_text.proofs.CallWalks.{nothing_made, of_no_fields}

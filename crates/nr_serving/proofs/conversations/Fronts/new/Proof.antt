@@ -1,4 +1,5 @@
--- `new` makes a struct without fields, and picks the log in which no front was opened.
+-- The method `new` returns a struct without fields. As the struct's log, the proof chooses the
+-- empty log: no port was opened.
 use Rattle.std.proofs.Common.{[], ◌∷◌, refl}
 use Rattle.std.proofs.raw_atomic.Walks.{proved}
 use Rattle.nr_text.proofs.CallWalks.{nothing_made, of_no_fields}
