@@ -74,7 +74,7 @@ none_before [] e = tt
 none_before (x ∷ []) e = tt
 none_before (x ∷ y ∷ more) e = let both = or_false (is_quit (meaning_of x)) (has_quit (y ∷ more)) e in (both.0, none_before (y ∷ more) both.1)
 
--- the line in whose text the written bytes end
+-- the written bytes end within this line's text, after the complete texts of the lines before it
 pub record Found (d d' : FrontState) (lines : List (List ℕ)) (out : List ℕ) : Type 0 where
   pub front : List (List ℕ)
   pub line : List ℕ

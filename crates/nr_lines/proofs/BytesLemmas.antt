@@ -59,7 +59,7 @@ byte_more before read d d' old w held line line' whole whole' b g goes e = recor
 asks : (line rest : List ℕ) → line ≡ take 257 rest → meaning_of line ≡ meaning_of rest
 asks line rest kept = ap meaning_of kept ∙ meaning_of-take rest
 
--- the lines of a text in which a line feed and more bytes follow the bytes that were read
+-- the whole lines of a text that consists of the bytes read so far, a line feed and more bytes
 lines_with : (before read : List ℕ) (lines : List (List ℕ)) (b : ℕ) (bs : List ℕ) → nat_eq b 10 ≡ true → whole_lines read ≡ whole_lines before ++ lines
     → whole_lines (read ++ b ∷ bs) ≡ whole_lines before ++ (lines ++ unfinished_line read ∷ whole_lines bs)
 lines_with before read lines b bs feed lines_are =
@@ -155,8 +155,8 @@ runs_cut at_once d d' old w w' held lines whole whole' false e none runs fails =
 runs_cut at_once d d' old w w' held lines whole whole' true e none (front, line, back, split, b, goes, quit) fails =
     cut_held d d' old w w' held (front ++ line ∷ []) back lines whole whole' whole' e at_once none b (none_before_last front line goes) fails (split ∙ sym (append_assoc front (line ∷ []) back))
 
--- the effects on the lines that end in some bytes, if the held bytes were then written or a write
--- of them failed
+-- after the lines that end in one read were run, the held bytes were written, or a write of them
+-- failed
 pub bytes_out : (at_once : Bool) (before bytes : List ℕ) (d d' : FrontState) (old w w' : Outgoing) (held line : List ℕ) (whole whole' : ℕ) (quits : Bool)
     → AnswersBytes at_once before bytes d d' old w held line whole whole' (Ok quits) → WritesAll w w' held → AnswersBytes at_once before bytes d d' old w' [] line whole whole' (Ok quits)
 bytes_out at_once before bytes d d' old w w' held line whole whole' quits a goes =

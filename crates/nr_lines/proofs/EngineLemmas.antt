@@ -43,7 +43,7 @@ prompt_more from old moments lines texts later more all =
       unended = p.unended;
     }) moments all
 
--- true if the second state has found the end only if the first had
+-- true if the end wasn't found between the first state and the second
 abbrev pub StaysOpen : Incoming → Incoming → Type 0
 StaysOpen r r' = r.ended ≡ false → r'.ended ≡ false
 
@@ -125,7 +125,7 @@ quits from left old w w' d p p' came read kept front line back whole whole' ende
       };
     }
 
--- a write failed, and the lines up to the line whose text was cut were answered
+-- a write failed within a line's text; the lines up to this line were answered
 abbrev cut_lines : (from left : Incoming) (old w w' : Outgoing) (d p p' : FrontState) (came read kept : List ℕ) (lines : List (List ℕ)) (whole : ℕ) (ended at_once : Bool) (e : LineEnd)
     → (st : LoopInvariant from left old w d p came read kept whole) → lines_of ended came ≡ whole_lines read ++ lines → (ended ≡ true → IsOver left) → (c : Cut at_once p p' w w' lines whole e)
     → AnswersLines from left old w' d c.after (Err (Write (saturating_count (some_count (st.texts ++ c.texts))) (saturating_count c.n)))

@@ -1,4 +1,5 @@
--- A relation between states that each call of a front preserves is preserved by lines.
+-- If a relation between a front's states holds across each of the front's calls, it holds across
+-- each line.
 use Rattle.std.proofs.Common.{◌≡◌, ℕ, ap, inl, inr, List, [], ◌∷◌, Option, Some, None, Result, Ok, Err}
 use Rattle.nr_command.specs.Command.{meaning_of}
 use Rattle.nr_command.specs.declared.command.Command.{Command}

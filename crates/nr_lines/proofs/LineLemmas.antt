@@ -99,8 +99,8 @@ lines_at_end text =
 too_long : (line : List ℕ) → nat_lt 256 (length line) ≡ true → meaning_of line ≡ Err TooLong
 too_long line h = ap (λ t. cond t (Err TooLong) (meaning_of_words (words (without_return line)))) h
 
--- the first 257 bytes of a line have the meaning of the whole line, since more than 256 bytes are
--- too long whatever follows
+-- the first 257 bytes of a line have the meaning of the whole line, since every line of more than
+-- 256 bytes is too long
 pub meaning_of-take : (line : List ℕ) → meaning_of (take 257 line) ≡ meaning_of line
 meaning_of-take line =
     elim (nat_lt 256 (length line)) as (λ t. nat_lt 256 (length line) ≡ t → meaning_of (take 257 line) ≡ meaning_of line) [
@@ -109,7 +109,7 @@ meaning_of-take line =
       | false ↦ λ short. ap meaning_of (take_all 257 line (let h = ltb-false _ _ short in omega (arith, h)))
     ] refl
 
--- the kept bytes of a line after another byte
+-- the bytes kept after one more byte depend only on that byte and on the bytes kept before it
 pub kept_more : (line : List ℕ) (b : ℕ) → take 257 (take 257 line ++ b ∷ []) ≡ take 257 (line ++ b ∷ [])
 kept_more line b =
     elim (nat_lt 256 (length line)) as (λ t. nat_lt 256 (length line) ≡ t → take 257 (take 257 line ++ b ∷ []) ≡ take 257 (line ++ b ∷ [])) [

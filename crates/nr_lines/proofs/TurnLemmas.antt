@@ -1,4 +1,4 @@
--- The answers to a list of lines that grows.
+-- The answers to a growing list of lines.
 use Rattle.std.proofs.Common.{◌≡◌, ℕ, suc, ◌+◌, Bool, true, false, cond, ◌||◌, List, [], ◌∷◌, ◌++◌, arith, length, filter, refl, ap, ◌∙◌, subst, nat_lt, append-nil, length-append}
 use Rattle.std.specs.List.{concat}
 use Rattle.std.proofs.lemmas.List.Folds.{concat-append}
@@ -19,7 +19,7 @@ counted_text whole n text h =
     elim (nat_lt 0 (length text)) as (λ t. cond t (saturating_count (whole + 1)) whole ≡ saturating_count (n + length (cond t (text ∷ []) [])))
     [ true ↦ omega (arith, h) | false ↦ omega (arith, h) ]
 
--- the number of nonempty texts in two lists is the sum of their numbers in each list
+-- a concatenation has as many nonempty texts as the two lists together
 pub some_count-append : (xs ys : List (List ℕ)) → some_count (xs ++ ys) ≡ some_count xs + some_count ys
 some_count-append xs ys = ap length (filter-append some xs ys) ∙ length-append (filter some xs) (filter some ys)
 

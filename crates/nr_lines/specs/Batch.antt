@@ -20,8 +20,8 @@ use Rattle.nr_lines.specs.declared.ending.LineEnd.{LineEnd}
 use Rattle.nr_lines.specs.declared.ending.LineEnd.TheVariants.{Write}
 use Rattle.nr_lines.specs.declared.outbox.Outbox.{Outbox}
 
--- True if a front may give some reply to this line and be in this state afterwards, and the outbox
--- printed the reply or a write failed.
+-- True if a front may give a certain reply to this line and be in this state afterwards. Either the
+-- outbox printed that reply, or a write failed.
 abbrev pub PrintsReply : Result Line LineFault → FrontState → FrontState → Outgoing → Outbox
     → Outgoing → Outbox → Result (Unit {0}) Part → Type 0
 PrintsReply asked d d' old before new after printed =
@@ -103,8 +103,8 @@ RunsLines at_once d d' old new held lines whole whole' (Ok true) =
 RunsLines at_once d d' old new held lines whole whole' (Err e) =
     Cut at_once d d' old new lines whole e
 
--- The lines that end in these bytes were run, after the bytes of earlier reads. The kept line is
--- what follows the last line feed, up to 257 bytes of it.
+-- The bytes of earlier reads are `before`, and those of this read are `bytes`. The lines that end
+-- in this read were run. The kept line is what follows the last line feed, up to 257 bytes of it.
 pub record AnswersBytes (at_once : Bool) (before bytes : List ℕ) (d d' : FrontState)
     (old new : Outgoing) (held line : List ℕ) (whole whole' : ℕ) (result : Result Bool LineEnd) :
     Type 0 where

@@ -4,8 +4,8 @@ use Rattle.std.specs.List.{list_any, slice_split}
 use Rattle.nr_command.specs.Command.{meaning_of}
 use Rattle.nr_lines.specs.Turn.{is_quit}
 
--- The lines of a text, from its parts between line feeds: each part but the last. If the text is at
--- its end, the last part is a line too, unless it is empty.
+-- The lines of a text, given the parts between its line feeds. Each part but the last is a line. If
+-- the text is at its end, the last part is a line too, unless it is empty.
 abbrev pub lines_in : Bool → List (List ℕ) → List (List ℕ)
 lines_in ended [] = []
 lines_in ended (last ∷ []) = if ended && nat_lt 0 (length last) then last ∷ [] else []

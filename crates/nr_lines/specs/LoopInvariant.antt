@@ -19,9 +19,9 @@ last_part (part ∷ next ∷ more) = last_part (next ∷ more)
 abbrev pub unfinished_line : List ℕ → List ℕ
 unfinished_line text = last_part (slice_split (λ b. b == 10) text)
 
--- Of the bytes that came from a source, the loop has processed `read`. The whole lines of `read`
--- are answered, none of them is `quit`, and all reads so far were prompt. The kept line is what
--- follows the last line feed of `read`, up to 257 bytes.
+-- Some bytes came from a source, and `read` contains those that the loop has processed. The whole
+-- lines of `read` are answered, none of them is `quit`, and all reads so far were prompt. The kept
+-- line is what follows the last line feed of `read`, up to 257 bytes.
 pub record LoopInvariant (from left : Incoming) (old new : Outgoing) (d d' : FrontState)
     (came read line : List ℕ) (whole : ℕ) : Type 0 where
   pub texts : List (List ℕ)
@@ -35,8 +35,8 @@ pub record LoopInvariant (from left : Incoming) (old new : Outgoing) (d d' : Fro
   pub kept : line ≡ take 257 (unfinished_line read)
   pub count : whole ≡ saturating_count (some_count texts)
 
--- The result of the loop. If each reply is written immediately, no line after the line whose text
--- was cut was run, and the counts are reported.
+-- The result of the loop. If each reply is written immediately, the counts are reported, and no
+-- line is run after a write fails.
 pub record AnswersBy (at_once : Bool) (from left : Incoming) (old new : Outgoing)
     (d d' : FrontState) (result : Result End LineEnd) : Type 0 where
   pub ending : Result End LineEnd

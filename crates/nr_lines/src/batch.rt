@@ -117,7 +117,7 @@ where
     Ok(false)
 }
 
-/// Writes the held bytes. `whole` is the number of texts that were printed whole.
+/// Writes the held bytes. `whole` is the number of texts that were printed in full.
 fn put_out<W: Write>(outbox: &mut Outbox, w: &mut Sink<W>, whole: u64) -> Result<(), LineEnd>
     ensures ok { OnOk result (WritesAll w.old w.new (held_bytes outbox.old)) }
     ensures err { IfErr result (FailsToPutOut w.old w.new (held_bytes outbox.old) whole) }

@@ -21,8 +21,8 @@ use std::sync::Wait;
 /// The maximum number of bytes in one read.
 const CHUNK: usize = 512;
 
-/// Answers the lines of a source, up to the first `quit`, and writes each reply by itself. The last
-/// line needs no line feed. Before each read, all whole lines so far are answered, and their
+/// Answers the lines of a source, up to the first `quit`, and writes each reply separately. The
+/// last line needs no line feed. Before each read, all whole lines so far are answered, and their
 /// replies are written.
 ///
 /// The call may read past `quit`, or past the line whose reply wasn't written. If a read fails, the

@@ -146,7 +146,7 @@ fn print_fault<W: Write>(fault: Fault, outbox: &mut Outbox, w: &mut Sink<W>) -> 
     outbox.print(&Reply::Fault(fault), w)
 }
 
-/// Returns the fault that a reply reports for this fault of a front.
+/// Converts a front's fault to the fault that the reply reports.
 fn fault_of(fault: FrontFault) -> Fault
     ensures { replies.Fault result ≡ fault_reply fault }
 {

@@ -309,7 +309,7 @@ goroutine_refused m o e h is (inl reason) =
     goroutine_is m o h is ∙ ap (lifted m) (refused_for (table.outcome m.core.goroutines o) e reason)
 goroutine_refused m o e h is (inr none) = absurd none.2
 
--- if the goroutine table carries out an operation, the world's step is complete
+-- if the goroutine table carries out an operation, so does the world
 pub goroutine_made : (m : WorldParts) (o : GOperation) (answer : Answer) (delta : GDelta) (t : GoroutineTable) → IsWorld m → IsStep o
     → table.StepTo m.core.goroutines o answer t → IsQueuedUp t → LeadsBack delta t m.core.goroutines → delta_weight delta ≤ weight_allowed o + (0 + 7) / 8
     → Made (goroutine_outcome o (meant m)) [] MOST_WORDS m answer (Goroutine delta) (with_table t m)

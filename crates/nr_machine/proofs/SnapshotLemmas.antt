@@ -134,7 +134,7 @@ module _ (world snapshot : WorldParts) (opened rest : List SockParts) (there : P
   opened_limit s sock at =
       (kept.socks s sock (subst (λ xs. slice_get xs s ≡ Some sock) (sym of.socks) (slice_get-before opened rest s sock at))).limit ∙ ap (λ (l : Limits). l.buffer) of.limits
 
-  -- the snapshot doesn't have more opened sockets than the world has sockets
+  -- the number of opened sockets in the snapshot is at most the world's number of sockets
   pub opened_within : length opened ≤ length world.socks
   opened_within =
       let many = length-append opened rest in

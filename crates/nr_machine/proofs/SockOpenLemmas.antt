@@ -194,7 +194,7 @@ module _ (m : WorldParts) (h : IsWorld m) where
           ),
         )
 
-    -- if the buffers carry out the step, the world's step is made
+    -- if the buffers carry out the step, so does the world
     pub opening_made : (step : Step) (answer : Answer) (delta : SockDelta) (after : SockParts) (k : ℕ) (core : Core) → IsOpening step → sock.StepTo before step answer after
         → sock_delta.LeadsBack delta after before → sock_delta.delta_weight delta ≤ 3 + (bytes_left step answer + 7) / 8 → k ≡ n → core ≡ with_lock_more m.core
         → Made (outcome (meant m) step) (asked_of m step) (MOST_WORDS + (bytes_left step (Number k) + 7) / 8) m (Number k) (Opened delta)

@@ -137,7 +137,8 @@ sock_below m s h below =
     let made = h.parts.socks_made in
     omega (arith, below, many, most, made)
 
--- the buffers of an existing socket are those that a read at its index returns
+-- reading the list of buffers at the number of an existing socket returns the buffers of that
+-- socket
 pub sock_found : (m : WorldParts) (s n : ℕ) (sock : SockParts) → IsWorld m → n ≡ length m.core.locks.items → s < n → sock ≡ get_or m.socks s sock
     → (s < length m.core.locks.items) × (slice_get m.socks s ≡ Some sock)
 sock_found m s n sock h len within read =
@@ -178,8 +179,8 @@ module _ (m : WorldParts) (s : ℕ) (step : Step) (h : IsWorld m) (is : IsTransf
     no_reason (Ok left) why = refl
     no_reason (Err reason) why = cc
 
-    -- the step is refused for the buffers' reason, or because memory ran out for the bytes that
-    -- leave
+    -- the step is refused for the reason for which the buffers refuse it, or because memory ran out
+    -- for the bytes that leave
     pub transfer_refused : (keeps : Bool) (e : Refusal) → keeps ≡ true → Refuses sock.sock_reason sock.TakesMemory before step e
         → Refuses parts_reason (λ (k : WorldParts) (op : Step). (keeps ≡ true) × TakesMemory k op) m step e
     transfer_refused keeps e is_kept (inl why) = inl (ap refusal_of (buffers_refused e why))
@@ -203,7 +204,7 @@ module _ (m : WorldParts) (s : ℕ) (step : Step) (h : IsWorld m) (is : IsTransf
       stays : (after.limit ≡ before.limit) × (is_opened after.opened ≡ true)
       stays = (leaves_open before step).value (answer, after) leads
 
-      -- if the buffers carry out the step, the world's step is made
+      -- if the buffers carry out the step, so does the world
       pub transfer_advanced : Advanced (outcome (meant m) step) (asked_of m step) m answer (with_sock s after m)
       transfer_advanced =
           let was : SockFits m.core s before = h.parts.socks s before at in

@@ -1,12 +1,13 @@
 //! The operations of a lock, modelled on `internal/poll/fd_mutex.go`. An operation changes the
-//! fields of the word that Go changes by compare-and-swap. If Go panics, the operation is refused.
+//! fields of the lock word; Go makes the same change by compare-and-swap. If Go panics, the
+//! operation is refused.
 
 ghost use Rattle.std.specs.Prelude.{◌≡◌};
 ghost use Rattle.nr_rev.specs.Lock as spec;
 
 use nr_rev::{Answer, Lock, LockOutcome, Refusal, Side, Sides};
 
-/// The maximum of a field of 20 bits.
+/// The maximum of a 20-bit field.
 const FULL: u32 = (1 << 20) - 1;
 
 /// Returns a lock that no goroutine holds.

@@ -78,7 +78,7 @@ impl PlainWorld {
     }
 }
 
-/// Returns the least entry of these rows, the first of which is that of descriptor 0.
+/// Returns the least entry of these rows. The first row belongs to descriptor 0.
 fn least_of_rows(rows: &[DescriptorRow]) -> Option<Entry>
     requires { length rows.now < 2 ^ 32 }
     ensures { result ≡ least_of (world.entries_of rows.now) }

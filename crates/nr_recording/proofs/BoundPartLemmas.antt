@@ -25,7 +25,7 @@ pub passed_ok : {A E : Type 0} (b : Bool) (d : E) (r : Result A E) (y : A) → c
 passed_ok true d r y e = (refl, e)
 passed_ok false d r y e = absurd cc
 
--- the result of a test is that of one of its branches
+-- the result of a conditional is the result of one of its branches
 pub choice : {A : Type 0} (b : Bool) (x y z : A) → cond b x y ≡ z → ((b ≡ true) × (x ≡ z)) ⊎ ((b ≡ false) × (y ≡ z))
 choice true x y z e = inl (refl, e)
 choice false x y z e = inr (refl, e)

@@ -162,7 +162,7 @@ kind_made Kind.SysWrite = of_found _ _ _ (λ x. refl) (second_only (λ p. AreFew
 kind_made Kind.Tick = of_found _ _ _ (λ x. refl) time_least
 kind_made _ = usual _ _ _ (λ x. refl) (λ x. refl)
 
--- the version has each kind that is read
+-- if a name denotes a kind in a version, the version has that kind
 kind_had : (version : Version) (name : List ℕ) (kind : Kind) → kind_in version name ≡ Some kind → has_kind version kind ≡ true
 unfolding kind_in
 kind_had version name kind e =

@@ -80,7 +80,8 @@ answer_again answers.Again h = refl
 answer_again answers.Stale h = refl
 answer_again answers.Pipe h = refl
 
--- reading the arguments of a step returns that step and what follows the arguments
+-- if a list begins with the arguments of a step, reading it returns that step and the rest of the
+-- list
 arguments_again : (s : Step) (more : List Argument) → AreInTypes (arguments_of s) → fits s ≡ true → step_in (kind_of s) (arguments_data (arguments_of s ++ more)) ≡ Ok (s, arguments_data more)
 unfolding none
 arguments_again (Step.Tick t) more h w = rw (moment_again t h.0, from_zero_again t w) refl

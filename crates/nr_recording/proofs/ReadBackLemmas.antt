@@ -25,7 +25,7 @@ use Rattle.nr_rev.specs.declared.answer.Answer.{Answer}
 use Rattle.nr_rev.specs.declared.answer.Answer.TheVariants as answers
 use Rattle.nr_rev.specs.Limits.{AreInRange}
 
--- the tokens of a value are read as that value
+-- reading the tokens of a value returns that value
 pub tokens_read : (text : List ℕ) (d : Data) → tokens text ≡ tree.json_tokens (outline d) → tree.depth (outline d) ≤ 127 → of_json (outline d) ≡ Some d → read text ≡ Some d
 tokens_read text d is shallow same =
     ap (λ ts. option_and_then of_json (option_and_then (λ p. json.if_last p.0 p.1) (json.value max_depth ts))) (is ∙ sym (append-nil _))

@@ -1,4 +1,4 @@
--- The written text of a recording is read as that recording.
+-- Reading the written text of a recording returns the same recording.
 use Rattle.std.proofs.Common.{◌≡◌, ◌+◌, ◌≤◌, ◌++◌, ◌&&◌, ℕ, true, List, [], ◌∷◌, length, Option, None, map, suc, All, Some, Ok, refl, sym, subst, inr, arith, lit≤}
 use Rattle.std.specs.List.{concat}
 use Rattle.std.proofs.lemmas.Bool.{and_parts, leb-true}

@@ -169,7 +169,7 @@ impl From<Memory> for LineError {
 impl LineError {
     ghost use Rattle.nr_recording.specs.Auxiliary.Reading.{read_fault_at};
 
-    /// Returns this error as the fault of a line of a text.
+    /// Converts the error of a line to the error of the text, given the number of the line.
     pub(crate) fn at(self, line: usize) -> ReadFault
         ensures { result ≡ read_fault_at line self }
     {

@@ -249,7 +249,7 @@ pub fn read(alloc: Global, bytes: &[u8]) -> Result<Recording, ReadFault>
     // The result is the recording that the text denotes.
     ensures found { IfOk result (λ r. IsTextOf bytes.now r) }
 
-    // A text of a recording is read as that recording, unless memory runs out.
+    // Reading a text of a recording returns that recording, unless memory runs out.
     ensures only { (r : Recorded) → IsTextOf bytes.now r → IsUnlessMemory result (Ok r) }
 
     // The result is the one that `reading` defines, unless memory runs out.

@@ -16,7 +16,7 @@ pub struct RecordedStep {
 }
 
 /// The version of the format, the limits of a run, and its steps. Each step has a recorded answer in version 2, and
-/// none in version 1. Each recording can be written as text, which is read as that recording.
+/// none in version 1. Each recording can be written as text, and reading that text returns the same recording.
 #[derive(Drop)]
 pub struct Recording {
     version: Version,

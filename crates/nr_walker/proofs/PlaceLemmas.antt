@@ -27,7 +27,7 @@ rounds-apart k p m x y r low high below =
           absurd (omega (arith, fewer, low, high, below))
     ]
 
--- two steps that differ by less than the number of places have different places
+-- two steps have different places if their positions differ by less than the number of places
 pub apart : (k p m : ℕ) → k < p → p < k + m → k % m ≢ p % m
 apart k p m below near = λ same.
     let low = div-add-mod' k m in

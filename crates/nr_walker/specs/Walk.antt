@@ -6,8 +6,8 @@ use Rattle.nr_walker.specs.declared.moved.Moved.{Moved}
 use Rattle.nr_walker.specs.declared.route.Route.{Route}
 use Rattle.nr_walker.specs.declared.route.Route.TheVariants.{Back, Forward, FromCopy}
 
--- the abstract value of a walker: its film, its position, the number of kept deltas, and the
--- maximum of that number
+-- the abstract value of a walker: its film, its position, the number of deltas that it keeps, and
+-- its depth, the maximum number of deltas that it can keep
 pub record Walk (State : Type 0) : Type 0 where
   pub film : Reel State
   pub position : ℕ

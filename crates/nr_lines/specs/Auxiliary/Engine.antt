@@ -28,8 +28,8 @@ Turns d (line ∷ lines) (text ∷ texts) d' =
 Turns d [] (text ∷ texts) d' = ⊥
 Turns d (line ∷ lines) [] d' = ⊥
 
--- words were only appended to those that the front has read, and its number of failed looks for
--- words hasn't decreased
+-- The front only appended words to those that it had read. The number of times that it looked for a
+-- word and found none hasn't decreased.
 pub record Grows (d d' : FrontState) : Type 0 where
   pub words : StartsWith d'.pass_state.seen d.pass_state.seen
   pub looks : d.pass_state.looks ≤ d'.pass_state.looks
@@ -39,8 +39,8 @@ abbrev pub some_count : List (List ℕ) → ℕ
 some_count texts = length (filter (λ text. nat_lt 0 (length text)) texts)
 
 -- When this read was made, each whole line received so far had been answered with one text, and
--- nothing else had been sent. The lines and texts up to this read are the first of all lines and
--- texts. No earlier read had found the end of the input.
+-- nothing else had been sent. The lines and the texts up to this read are prefixes of the lists of
+-- all lines and all texts. No earlier read had found the end of the input.
 pub record IsPrompt (from : Incoming) (old : Outgoing) (lines texts : List (List ℕ)) (m : Moment) :
     Type 0 where
   pub read : List ℕ
@@ -58,8 +58,9 @@ pub record IsPrompt (from : Incoming) (old : Outgoing) (lines texts : List (List
 abbrev pub ArePrompt : Incoming → Outgoing → List Moment → List (List ℕ) → List (List ℕ) → Type 0
 ArePrompt from old moments lines texts = All (IsPrompt from old lines texts) moments
 
--- All these lines were answered and none of them is `quit`. `out` is their texts. The front was in
--- state d before the first line and in state d' after the last one. The reads were prompt.
+-- All these lines were answered and none of them is `quit`. `out` is the concatenation of their
+-- texts. The front was in state d before the first line and in state d' after the last one. The
+-- reads were prompt.
 pub record Answered (Prompt : List (List ℕ) → List (List ℕ) → Type 0) (d : FrontState)
     (lines : List (List ℕ)) (out : List ℕ) (d' : FrontState) : Type 0 where
   pub texts : List (List ℕ)
@@ -68,8 +69,8 @@ pub record Answered (Prompt : List (List ℕ) → List (List ℕ) → Type 0) (d
   pub no_quit : has_quit lines ≡ false
   pub written : out ≡ concat texts
 
--- One of the lines is `quit`. `out` is the texts of the lines up to the first `quit`, which are the
--- lines that were answered.
+-- One of the lines is `quit`. The lines up to and including the first `quit` were answered, and
+-- `out` is the concatenation of their texts.
 pub record Quitted (Prompt : List (List ℕ) → List (List ℕ) → Type 0) (d : FrontState)
     (lines : List (List ℕ)) (out : List ℕ) (d' : FrontState) : Type 0 where
   pub front : List (List ℕ)
@@ -83,8 +84,8 @@ pub record Quitted (Prompt : List (List ℕ) → List (List ℕ) → Type 0) (d 
   pub turns : Turns d (front ++ line ∷ []) texts d'
   pub written : out ≡ concat texts
 
--- The first lines were answered whole, with `whole` nonempty texts. The next line was run, and only
--- the first n bytes of its text were written.
+-- The first lines were answered in full, with `whole` nonempty texts. The next line was run, and
+-- only the first n bytes of its text were written.
 pub record WrittenInPart (Prompt : List (List ℕ) → List (List ℕ) → Type 0) (d : FrontState)
     (lines : List (List ℕ)) (whole part : ℕ) (out : List ℕ) (d' : FrontState) : Type 0 where
   pub front : List (List ℕ)
@@ -104,7 +105,7 @@ pub record WrittenInPart (Prompt : List (List ℕ) → List (List ℕ) → Type 
   pub within : n < length text
   pub written : out ≡ concat texts ++ take n text
 
--- What was written for the lines that were read, by the result of the loop. `ended` says whether
+-- For each result of the loop, what was written for the lines that were read. `ended` says whether
 -- the source was at its end.
 abbrev pub Ends : (List (List ℕ) → List (List ℕ) → Type 0) → Result End LineEnd → Bool → FrontState
     → List (List ℕ) → List ℕ → FrontState → Type 0
@@ -146,9 +147,9 @@ without_counts (Ok ending) = Ok ending
 without_counts (Err Read) = Err failures.Read
 without_counts (Err (Write whole part)) = Err failures.Write
 
--- Like `AnswersLines`, but without counts in the result. The front is `last` after the answered
--- lines; if a write failed, it may have run lines after the line whose text was cut, and is d'
--- after them.
+-- Like `AnswersLines`, but without counts in the result. `last` is the state of the front after the
+-- answered lines. If a write failed within the text of a line, the front may have run later lines
+-- too. d' is its state at the end.
 pub record AnswersTogether (from left : Incoming) (old new : Outgoing) (d d' : FrontState)
     (result : Result End StreamFailure) : Type 0 where
   pub ending : Result End LineEnd
