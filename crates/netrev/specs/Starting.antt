@@ -22,12 +22,12 @@ use Rattle.nr_arguments.specs.declared.arguments.Program.TheVariants as program
 use Rattle.nr_arguments.specs.declared.arguments.ArgumentsFault.{ArgumentsFault}
 use Rattle.nr_arguments.specs.declared.arguments.ArgumentsFault.TheVariants as arguments
 
--- why no program ran, given a fault of the arguments
+-- why no program ran, for each fault that parsing the arguments can give
 abbrev pub unstarted_of_arguments : ArgumentsFault → Unstarted
 unstarted_of_arguments arguments.Usage = unstarted.Usage
 unstarted_of_arguments (arguments.Memory refused) = unstarted.Memory refused
 
--- `Memory` if the error is lack of memory, and otherwise this other reason
+-- `Memory` if the error says that memory ran out, and otherwise the given reason
 abbrev pub unstarted_by : ErrorKind → Unstarted → Unstarted
 unstarted_by kind.OutOfMemory other = unstarted.Memory refused_memory
 unstarted_by _ other = other
@@ -60,9 +60,9 @@ Plays (program.Suspects file) bytes input left before after old new status =
 Plays (program.Serve file sharing) bytes input left before after old new status =
     (left ≡ input) × ServesAll bytes sharing before after old new status
 
--- What is printed if no program runs. After a usage error, it is the usage text on standard error,
--- whole unless a write failed. If memory ran out, it is a fault on standard output. Otherwise
--- nothing is printed.
+-- What is printed if no program runs. After a usage error, the usage text is printed on standard
+-- error, in full unless a write failed. If memory ran out, `fault 108 memory` is printed on
+-- standard output. Otherwise nothing is printed.
 abbrev pub PrintsUnstarted : Unstarted → Outgoing → Outgoing → Outgoing → Outgoing → ExitStatus
     → Type 0
 PrintsUnstarted unstarted.Usage old new before after status =

@@ -9,9 +9,9 @@ use std::net::{Ipv4Addr, Shutdown, SocketAddr, TcpListener, TcpStream};
 use std::num::NonZeroU32;
 use std::time::Duration;
 
-/// The time in milliseconds that a read waits after the last reply. This is enough for a caller
-/// that reads up to the end of the replies and then closes, and so short that a silent caller
-/// doesn't delay the next caller.
+/// The time in milliseconds that a read waits after the last reply. A caller that reads all replies
+/// and then closes needs less time. The wait is short so that a silent caller doesn't delay the
+/// next one.
 const FAREWELL: u64 = 100;
 
 /// The callers at a port, served one after the other.

@@ -1,4 +1,4 @@
-//! Starting a program, from its arguments and its file to the exit status.
+//! Starts a program with its arguments and the bytes of its file, and returns the exit status.
 
 ghost use Rattle.std.specs.Prelude.{◌≡◌, false, IfOk, IfErr};
 ghost use Rattle.std.specs.IoError.{error_kind};
@@ -68,7 +68,7 @@ impl Unstarted {
     /// Reports why no program ran. Writes the usage text to `errors` after a usage error, and `fault 108 memory` to the
     /// output if memory ran out. Writes nothing if the file couldn't be read.
     ///
-    /// Returns `Usage` after a usage error, even if the text couldn't be written whole, `Refused`
+    /// Returns `Usage` after a usage error, even if the text couldn't be written in full, `Refused`
     /// if memory ran out, and `StreamFailed` if the file couldn't be read or the write to the
     /// output failed.
     pub fn tell<O: Write, E: Write>(self, output: &mut Sink<O>, errors: &mut Sink<E>) -> ExitStatus
@@ -85,9 +85,9 @@ impl Unstarted {
     }
 }
 
-/// Runs the program on the result of reading its file. If that is an error, reads and writes
-/// nothing, and fails with `Memory` for lack of memory and otherwise with `File`. `ports` supplies
-/// the callers of `serve`; the other programs open no ports.
+/// Runs the program on the result of reading its file. If the file couldn't be read, the call reads
+/// no input and writes nothing. It then fails with `Memory` if memory ran out, and otherwise with
+/// `File`. `ports` supplies the callers of `serve`; the other programs open no ports.
 pub fn start<W, R, P, I, O>(
     rt: &R,
     alloc: Global,

@@ -1,4 +1,4 @@
-//! Fronts in threads of their own, over a journal with room for fewer words than fronts.
+//! Tests of eight fronts, each in its own thread, that share a journal with room for seven words.
 
 ghost use Rattle.std.specs.Prelude.{◌≡◌};
 

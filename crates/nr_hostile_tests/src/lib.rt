@@ -1,5 +1,6 @@
-//! Tests of fronts and of the line loop by their public calls: sessions of lines, streams that
-//! fail, memory that runs out, journals that are full, and fronts in threads of their own.
+//! Tests that call the public functions of fronts and of the line loop. They cover sessions of
+//! lines, streams that fail, memory that runs out, journals that are full, and fronts in several
+//! threads.
 #![tactic(auto)]
 
 #[cfg(test)]

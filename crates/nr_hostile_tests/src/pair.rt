@@ -24,7 +24,7 @@ fn step_often<R: Threads + Sync>(journal: &Journal, front: &mut Lone<'_, R>)
     }
 }
 
-/// Queries until the commands of both fronts have run.
+/// Sends queries until the commands of both fronts have run.
 fn wait_for_both<R: Threads + Sync>(journal: &Journal, front: &mut Lone<'_, R>)
     requires { front.old.table ≡ journal.now }
     ensures { front.new.table ≡ journal.now }
@@ -40,8 +40,8 @@ fn wait_for_both<R: Threads + Sync>(journal: &Journal, front: &mut Lone<'_, R>)
     }
 }
 
-/// Places a hundred commands, and queries until the hundred commands of the other front have run
-/// too.
+/// Places a hundred commands. Then sends queries until the hundred commands of the other front have
+/// run too.
 fn step_and_wait<R: Threads + Sync>(journal: &Journal, mut front: Lone<'_, R>) -> Pass
     requires { front.table ≡ journal.now }
     ensures { result.table ≡ journal.now }
@@ -51,8 +51,8 @@ fn step_and_wait<R: Threads + Sync>(journal: &Journal, mut front: Lone<'_, R>) -
     front.end()
 }
 
-/// Lets two fronts place a hundred commands each at the same time. Returns how the numbers of words
-/// that they have seen compare, and the words.
+/// Lets two fronts place a hundred commands each at the same time. Returns whether one front has
+/// seen fewer words than the other, as many or more, and all words.
 fn step_at_once<R: Threads + Send + Sync>(
     rt: &R,
     alloc: Global,

@@ -37,7 +37,7 @@ fn front<'f, R: Threads + Sync>(
     }
 }
 
-/// Enters the journal with a seat, and returns the pass.
+/// Uses the seat to enter the journal, and returns the pass.
 pub(crate) fn enter(journal: &Journal, seat: Seat) -> Option<Pass>
     requires { seat.table ≡ journal.now }
     ensures { IfSome result (λ pass. (pass.table ≡ journal.now) × (pass.pass_state.seen ≡ [])) }

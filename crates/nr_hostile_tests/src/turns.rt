@@ -117,8 +117,8 @@ fn ask_all<R: Threads + Sync>(
 struct Ended {
     /// The number of words that each front has seen.
     seen: (usize, usize),
-    /// How the number of words that the third pass has seen compares with the first pass's, and the
-    /// first pass's with the second's.
+    /// Two comparisons of how many words the passes have seen: of the third pass with the first,
+    /// and of the first pass with the second.
     met: (Ordering, Ordering),
     /// The words that the third pass sees.
     words: Vec<u64>,

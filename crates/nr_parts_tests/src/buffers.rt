@@ -190,7 +190,8 @@ fn answers(
     Ok((answers, held(&sock, Side::Write)))
 }
 
-/// Returns a write before the opening, two openings, and two writes.
+/// Returns five steps: a write before the socket is opened, two steps that open it, and two more
+/// writes.
 fn writes(alloc: Global) -> Result<[Step; 5], Memory> {
     Ok([
         write(alloc, b"hello")?,

@@ -1,6 +1,6 @@
-//! Descriptors with real numbers. The codes of words are 0 for nil, 1 for ready, 2 for wait, and a
-//! goroutine's number plus 3. The byte of marks is the sum of 1 for closing, 2 for an event error,
-//! and 4 and 8 for running read and write timers.
+//! Tests of descriptors with concrete values. The codes of words are 0 for nil, 1 for ready, 2 for
+//! wait, and a goroutine's number plus 3. The byte of marks is the sum of 1 for closing, 2 for an
+//! event error, and 4 and 8 for running read and write timers.
 
 ghost use Rattle.std.specs.Prelude.{◌≡◌, IfOk};
 ghost use Rattle.nr_desc.specs.Desc.{DescFits};

@@ -1,4 +1,4 @@
-//! Tests of the packed machine's parts by their public calls.
+//! Tests that call the public functions of the packed machine's parts.
 #![tactic(auto)]
 
 #[cfg(test)]

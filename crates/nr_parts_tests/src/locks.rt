@@ -1,4 +1,4 @@
-//! Lock words with real numbers: read waiters start at bit 23, write waiters at bit 43.
+//! Tests of lock words with concrete values: read waiters start at bit 23, write waiters at bit 43.
 
 ghost use Rattle.std.specs.Prelude.{◌<◌, ◌≤◌, ◌^◌, length};
 
@@ -56,8 +56,8 @@ fn full_references_are_refused(rt: HostRuntime) -> Result<(), Fail> {
     Ok(())
 }
 
-/// Applies all the operations or none to a lock that no goroutine holds. Returns whether they apply, and the word
-/// afterwards.
+/// Applies all the operations, or none of them, to a lock that no goroutine holds. Returns whether they apply,
+/// and the word afterwards.
 fn transacted(ops: &[LockOp]) -> (Result<(), Refusal>, u64)
     requires { length ops.now ≤ 8 }
 {

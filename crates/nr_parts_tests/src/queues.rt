@@ -1,4 +1,4 @@
-//! Goroutines in queues, with real numbers: the links before an operation, after it, and after its
+//! Tests of queues with concrete goroutines: the links before an operation, after it, and after its
 //! undo. The tests also pass if any one allocation fails, because the second of two tries succeeds.
 
 ghost use Rattle.std.specs.Prelude.{◌≡◌, ◌≤◌, IfOk, length};
@@ -108,7 +108,7 @@ fn left(table: &GTable) -> Left {
 }
 
 /// Queues the goroutines, lets goroutine 0 release the semaphore, and undoes the release. Returns
-/// the links before, and the state after the release and after the undo.
+/// the links before the release, the state after the release, and the state after the undo.
 fn released_and_undone(table: &mut GTable) -> Result<(Links, Left, Left), Refusal>
     requires { IsQueuedUp table.old }
 {
@@ -147,8 +147,8 @@ fn played(table: &mut GTable, operations: &[GOperation]) -> Played
     (applied, table.count(0, Side::Read), links(table))
 }
 
-/// Queues the goroutines, and then tries operations of which the last is refused, and operations
-/// that apply.
+/// Queues the goroutines. Then tries a list of operations whose last one is refused, and a list of
+/// operations that all apply.
 fn refused_and_applied(table: &mut GTable) -> Result<[Played; 2], Refusal>
     requires { IsQueuedUp table.old }
 {

@@ -1,5 +1,5 @@
-//! Timers with real numbers: the places of a heap before an operation, after it and after its undo.
-//! The file also tests refusals and failed allocations.
+//! Tests of timers with concrete values: the places of a heap before an operation, after it and
+//! after its undo. The file also tests refusals and failed allocations.
 
 ghost use Rattle.std.specs.Prelude.{◌≡◌, ◌≤◌, IfOk, length};
 ghost use Rattle.nr_timers.specs.State.{IsTimers};
@@ -296,8 +296,8 @@ fn made(alloc: Global) -> Result<Timers, Memory>
     }
 }
 
-/// Arms and pops timers. Returns the first operation that isn't applied, and whether a copy is equal, with a second try
-/// if memory runs out.
+/// Arms and pops timers. Returns the index of the first operation that isn't applied, and whether a copy is equal. If
+/// memory runs out for the copy, makes it a second time.
 fn asked_and_copied(timers: &mut Timers) -> (Option<usize>, Result<bool, Refusal>)
     requires { IsTimers timers.old }
 {

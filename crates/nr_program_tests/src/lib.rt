@@ -1,4 +1,4 @@
-//! Tests of the programs by their public calls.
+//! Tests that call the public functions of the programs.
 #![tactic(auto)]
 
 #[cfg(test)]

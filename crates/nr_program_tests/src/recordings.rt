@@ -20,8 +20,8 @@ struct Report {
     line: &'static str,
 }
 
-/// The table begins with a recording for each reason for which a step can be refused, in the order
-/// of the reasons' numbers.
+/// The table begins with one recording per reason to refuse a step, in the order of the reasons'
+/// numbers.
 static RECORDINGS: [Report; 34] = [
     Report {
         header: SMALL,
@@ -286,7 +286,8 @@ fn is_checked(alloc: Global, report: &Report) -> Result<bool, AllocError> {
     Ok(played.is(report.status, report.line))
 }
 
-/// Returns whether `run` has this result too if the recording is refused, and reads no input.
+/// Runs `run` over a recording that is refused. Returns whether `run` gives the result in the
+/// report and reads no input.
 fn is_refused<R: Threads + Sync>(
     rt: &R,
     alloc: Global,

@@ -41,7 +41,8 @@ struct Part {
 #[derive(Drop)]
 struct Seen {
     reads: AtomicU32,
-    /// The number of bytes in the writes that match the expected replies at their place.
+    /// The number of bytes in all writes that match the expected replies at the position of the
+    /// write.
     right: AtomicU32,
     written: AtomicU32,
 }

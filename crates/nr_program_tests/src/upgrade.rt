@@ -23,13 +23,13 @@ const TEN_ANSWERED: &str = "{\"buf\":16,\"desc\":2,\"gor\":4,\"netrev\":2,\"sock
 
 const OTHER_ANSWER: &str = "step 11: fault 109 answer\n";
 
-/// Returns all twelve steps, with the answer that the read got this many bytes.
+/// Returns all twelve steps. The recorded answer of the read says that it got this many bytes.
 fn waits_and_gets(alloc: Global, count: u32) -> Result<String, AllocError> {
     let last = "[\"rwunlock\",0,0,\"r\",\"notlast\"]\n";
     format!(in alloc; "{TEN_ANSWERED}[\"sysread\",0,0,8,[\"got\",{count}]]\n{last}")
 }
 
-/// Returns whether the upgrade of a header and steps is this text.
+/// Returns whether `upgrade` turns a header and steps into this text.
 fn is_upgraded(alloc: Global, header: &str, steps: &str, text: &str) -> Result<bool, AllocError> {
     let played = upgrade(alloc, header, steps)?;
     Ok(played.is(ExitStatus::Done, text))

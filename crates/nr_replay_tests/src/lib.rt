@@ -1,5 +1,5 @@
-//! Tests of worlds, recordings, films and walks by their public calls. The tests of sessions also use the films, the
-//! streams, the text and the world that are defined here.
+//! Tests that call the public functions of worlds, recordings, films and walks. The tests of sessions also use the
+//! films, the streams, the text and the world that are defined here.
 #![tactic(auto)]
 
 #[cfg(test)]

@@ -8,8 +8,8 @@ use nr_snaps::{Film, LoadFault, Snaps};
 use std::alloc::Global;
 use std::test::Fail;
 
-/// Returns why a recording can't be loaded if its first 70 steps set the clock to 1, 2 and so on,
-/// and its last step sets it back to 69.
+/// Returns the fault of a recording whose first 70 steps set the clock to 1, 2 and so on, and whose
+/// last step sets it back to 69.
 fn fault_of_the_last(alloc: Global) -> Option<LoadFault> {
     let mut steps = Vec::new(alloc);
     add_ticks(&mut steps, 70).ok()?;
@@ -103,8 +103,8 @@ fn another_answer_is_reported_where_its_step_applies(rt: HostRuntime) {
     );
 }
 
-/// Returns the version and the number of steps of the film's recording with answers, its last
-/// answer, and the answer after the last step, which doesn't exist.
+/// Looks at the film's recording with its answers. Returns the version, the number of steps, the
+/// answer of step 65, which is the last, and the answer of step 66, which doesn't exist.
 fn answered(film: &Film<World>) -> Option<(Version, usize, [Option<Answer>; 2])> {
     let recording = film.with_answers().ok()?;
     let answers = [recording.answer(64), recording.answer(65)];

@@ -1,4 +1,4 @@
-//! Packed worlds with real numbers, and with allocations that fail.
+//! Tests of packed worlds with concrete values, and with allocations that fail.
 
 ghost use Rattle.std.specs.Prelude.{◌≡◌, ◌≤◌, IfOk, length};
 ghost use Rattle.nr_rev.specs.Transaction.{LeadsBack};
@@ -100,8 +100,8 @@ fn applies_all_or_none(rt: HostRuntime) -> Result<(), Fail> {
     Ok(())
 }
 
-/// Applies all the steps and undoes them all. Returns the number of deltas, and the values of a cell in between and
-/// afterwards.
+/// Applies all the steps and undoes them all. Returns the number of deltas, and the value of a cell before and
+/// after the undos.
 fn there_and_back(
     world: &mut World,
     steps: &[Step],
@@ -192,7 +192,7 @@ const DRAIN: Step = Step::Drain {
     count: 2,
 };
 
-/// Returns the step with which two bytes arrive.
+/// Returns a step in which two bytes arrive.
 fn arriving(alloc: Global) -> Result<Step, AllocError> {
     let bytes = Bytes::new(Vec::from_slice(alloc, b"hi")?);
     Ok(Step::Arrive { socket: 0, bytes })
@@ -314,8 +314,8 @@ fn undone(
     is_left(&mut world, steps, count, input)
 }
 
-/// Returns the results of `undone` for zero to three undos after three steps, by which bytes arrive
-/// and one byte is read.
+/// Returns the results of `undone` for zero to three undos. The three steps before the undos open a
+/// socket, let two bytes arrive, and read one of them.
 fn all_undone(alloc: Global, steps: &[Step; 3]) -> Result<[bool; 4], Refusal> {
     Ok([
         undone(alloc, steps, 0, Some(b"i".as_slice()))?,
@@ -332,7 +332,8 @@ fn undoes_one_by_one(rt: HostRuntime) -> Result<(), Fail> {
     Ok(())
 }
 
-/// Applies the steps, and returns the answer of the last one, if copies give the same answers.
+/// Applies the steps, and returns the answer of the last one. Returns `None` if a step has another
+/// answer on a copy of the world.
 fn last_answer_of(world: &mut World, steps: &[Step]) -> Option<Answer>
     requires { IsWorld world.old }
 {
@@ -395,7 +396,7 @@ fn moves_bytes(rt: HostRuntime) -> Result<(), Fail> {
     Ok(())
 }
 
-/// Returns whether the bytes of socket 1 don't exist, and whether the queue of socket 0 is empty.
+/// Returns whether the world has no bytes for socket 1, and whether the queue of socket 0 is empty.
 fn missing_and_empty(world: &World) -> Result<(bool, bool), Refusal> {
     let bytes = world.bytes(1, Side::Read)?;
     let queue = world.queue(0, Side::Read)?;

@@ -32,9 +32,10 @@ fn place(journal: &Journal, pass: &mut Pass, argument: u32) -> bool
     false
 }
 
-/// The results of a pass that fills a journal of two words: the next word before it places any, its
-/// own first word, whether each of its three words was placed, the number of words that it has
-/// seen, and the next word after that.
+/// The results of a pass that tries to place three words in a journal of two. They are the next
+/// word that the pass reads before it places any, its first word, whether each of the three words
+/// was placed, the number of words that the pass has seen, and the next word that it reads at the
+/// end.
 type Filled = (Option<u64>, u64, [bool; 3], usize, Option<u64>);
 
 fn fill(journal: &Journal, one: &mut Pass) -> Filled
@@ -66,8 +67,8 @@ fn come_late(
     (less, greater, journal.next(late))
 }
 
-/// Returns all words, and how the first pass compares with the late pass after it has seen all
-/// words that the late pass has seen.
+/// Lets the late pass see all words, and then the first pass see the words of the late pass.
+/// Returns all words, and how the first pass compares with the late pass at the end.
 fn see_all(journal: &Journal, one: &mut Pass, late: &mut Pass) -> Option<(Vec<u64>, Ordering)>
     requires { (one.old.table ≡ journal.now) × (late.old.table ≡ journal.now) }
 {

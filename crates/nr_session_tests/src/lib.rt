@@ -1,4 +1,5 @@
-//! Tests of the journal, searches, commands and shared sessions by their public calls.
+//! Tests that call the public functions of the journal, of searches, of commands and of shared
+//! sessions.
 #![tactic(auto)]
 
 #[cfg(test)]

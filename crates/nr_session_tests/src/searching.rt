@@ -37,7 +37,8 @@ fn ticking(alloc: Global) -> Option<Film<World>> {
     film_of(alloc, steps)
 }
 
-/// Returns marks: a watch of the descriptor's read word, and a break at a step, unless the step is 0.
+/// Returns marks: a watchpoint on the read word of descriptor 0, and a breakpoint at the given step.
+/// Step 0 adds no breakpoint.
 fn marks(step: u32) -> Marks {
     let mut marks = Marks::new();
     let _ = marks.add_watch(Cell::ReadWord(0));
@@ -138,7 +139,8 @@ fn two_workers_search_at_once(rt: HostRuntime) -> Result<(), Fail> {
     Ok(())
 }
 
-/// Returns what searches find from 192 and 99 backwards, and from 2 and 99 forwards.
+/// Returns the results of four searches: backwards from positions 192 and 99, and forwards from
+/// positions 2 and 99.
 fn four<F: Finder>(finder: &F, film: &Film<World>) -> [Option<Found>; 4] {
     let marks = marks(100);
     [
@@ -183,8 +185,8 @@ fn any_number_of_workers_finds_the_same(rt: HostRuntime) -> Result<(), Fail> {
     Ok(())
 }
 
-/// Workers that start each search with claims that no worker made, and with a hint of a hit that
-/// may not exist.
+/// Workers that start each search with false data: some segments seem to be claimed, though no
+/// worker claimed them, and the hint names a hit that may not exist.
 #[derive(Drop)]
 struct Misled<R: Threads + Sync> {
     many: ManyWorkers<R, Open>,
