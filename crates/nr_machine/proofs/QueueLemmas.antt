@@ -159,7 +159,7 @@ module _ (m : WorldParts) (s : ℕ) (side : Side) where
       ap (λ (o : Option Socket). option_map (λ (socket : Socket). (of_side side socket.semaphores).queue) o)
       (socket_past m.core.locks.items m.core.goroutines.semaphores m.socks s (slice_get_past m.core.locks.items s past))
 
-  -- the queue of an existing socket is that of the table
+  -- an existing socket's queue is the one in the goroutine table
   pub queue_here : s < length m.core.locks.items → queue_of (meant m) s side ≡ Some (queue_at s side m.core.goroutines)
   queue_here below =
       let lock = get_within m.core.locks.items s below in

@@ -6,7 +6,7 @@ use Rattle.serde_json.specs.declared.value.Value.{Value}
 use Rattle.nr_recording.specs.Spelling.{Argument}
 use Rattle.nr_recording.specs.Auxiliary.Spelling.{argument_data, arguments_data, IsInType, AreInTypes, IsSpelling}
 
--- the values, with another value at the end
+-- the values, with one more value at the end
 abbrev push : Items → Data → Items
 push no_items d = item d no_items
 push (item e ds) d = item e (push ds d)

@@ -79,7 +79,8 @@ module _ (hits : ℕ → List ℕ) where
   pub found-whole : (direction : Direction) (low b high : ℕ) (found : Found) → b ≡ high → IsFound direction hits low b found → IsFound direction hits low high found
   found-whole direction low b high found same rest = subst (λ k. IsFound direction hits low k found) same rest
 
-  -- extending the range by position 0, the last on the way back, if no later position has a hit
+  -- extending the range by position 0, the last one that a backward search visits, if no later
+  -- position has a hit
   found-start : (n : ℕ) (here : List ℕ) → 0 < n → here ≡ hits 0 → NoneHits hits 1 n → IsFound Backward hits 0 n (found_after Nothing 0 here)
   found-start n (m ∷ ms) some is none =
       record { above = omega arith; below = some; reported = is; some = omega arith; nearest = λ q a b c. none.none q c b }

@@ -60,7 +60,7 @@ Agrees Unknown found = Unit {0}
 abbrev pub nth_of : Span → ℕ → ℕ
 nth_of span k = nth_on_way span.direction span.first span.count k
 
--- True if the answer isn't known yet: a segment on the way wasn't searched, and no nearer segment
+-- True if the answer isn't known yet: a segment in the range wasn't searched, and no nearer segment
 -- is known to have a hit.
 pub record IsLeftOpen (span : Span) (known : ℕ → Slot) : Type 0 where
   pub place : ℕ
