@@ -29,8 +29,8 @@ socket_of lock rest =
       shut = (buffers_in rest.sock).shut;
     }
 
--- the parts of socket s other than its lock; if a list doesn't contain the socket, its semaphores
--- are new or its buffers are closed
+-- the parts of socket s other than its lock; missing semaphores are new, and missing buffers are
+-- closed
 abbrev pub rest_at : List (Sides Semaphore) → List SockParts → ℕ → SocketRest
 rest_at semaphores socks s =
     record {

@@ -199,8 +199,8 @@ impl World {
         Ok(answer)
     }
 
-    /// Changes only the status of a goroutine inside a wait. With the new status it may have left
-    /// the wait.
+    /// Changes only the status of a goroutine inside a wait. The new status may be one outside the
+    /// wait.
     #[inline(always)]
     fn go_on<K: Keeper<WorldUndo>>(
         &mut self,

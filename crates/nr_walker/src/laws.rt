@@ -1,4 +1,5 @@
-//! The crate's limits, as a law: a public function with an empty body, whose contract is the law.
+//! A law that states the crate's limits. A law is a public function with an empty body; its
+//! contract is the law.
 
 ghost use Rattle.std.specs.Prelude.{◌≡◌};
 ghost use Rattle.nr_walker.specs.declared.walker.TheConstants.{LEAST_DEPTH, MOST_DEPTH};
