@@ -92,7 +92,7 @@ first_within nodes status (x ∷ queue) first last linked f is =
 apart_from : (g h : ℕ) (queue : List ℕ) → times g queue ≡ 0 → 0 < times h queue → h ≢ g
 apart_from g h queue none some e = let same : times h queue ≡ times g queue = ap (λ k. times k queue) e in omega arith
 
--- g joins at the back
+-- g joins the queue at its back
 pub linked_back : (nodes new : List GoroutineNode) (status : Status) (g : ℕ) (last : Option ℕ) → Relinks nodes new g (node_with status None last) last (followed_by (Some g))
     → (previous : Option ℕ) (queue : List ℕ) (first : Option ℕ) → ((k : ℕ) → times k queue ≤ 1) → times g queue ≡ 0
     → IsLinked nodes status previous queue first last → IsLinked new status previous (queue ++ g ∷ []) (or_else first g) (Some g)
@@ -146,7 +146,7 @@ before_member nodes status previous x (y ∷ queue) g first last at is h b befor
     let c = further x b (y ∷ queue) in
     omega arith
 
--- g leaves at the back
+-- g, the last goroutine, leaves the queue
 pub unlinked_back : (nodes new : List GoroutineNode) (status : Status) (g : ℕ) (at left : GoroutineNode) → slice_get nodes g ≡ Some at → Relinks nodes new g left at.previous (followed_by None)
     → (previous : Option ℕ) (queue : List ℕ) (first last : Option ℕ) → ((k : ℕ) → times k (queue ++ g ∷ []) ≤ 1)
     → IsLinked nodes status previous (queue ++ g ∷ []) first last → IsLinked new status previous queue (slice_get queue 0) at.previous
@@ -183,7 +183,7 @@ unlinked_back nodes new status g at left is r previous (x ∷ (y ∷ queue)) fir
       ),
     )
 
--- g joins at the front
+-- g joins the queue at its front
 pub linked_front : (nodes new : List GoroutineNode) (status : Status) (g : ℕ) (queue : List ℕ) (first last : Option ℕ) → Relinks nodes new g (node_with status first None) first (preceded_by (Some g))
     → ((k : ℕ) → times k queue ≤ 1) → times g queue ≡ 0
     → IsLinked nodes status None queue first last → IsLinked new status None (g ∷ queue) (Some g) (or_else last g)
@@ -229,7 +229,7 @@ abbrev pub back_left : List ℕ → Option ℕ → Option ℕ
 back_left [] last = None
 back_left (x ∷ queue) last = last
 
--- g leaves at the front
+-- g, the first goroutine, leaves the queue
 pub unlinked_front : (nodes new : List GoroutineNode) (status : Status) (g : ℕ) (at left : GoroutineNode) (queue : List ℕ) (first last : Option ℕ) → slice_get nodes g ≡ Some at
     → Relinks nodes new g left at.next (preceded_by None)
     → ((k : ℕ) → times k (g ∷ queue) ≤ 1)

@@ -1,4 +1,5 @@
--- Lemmas about the changes of two nodes when a goroutine joins or leaves a queue next to another.
+-- Lemmas about the two nodes that change when a goroutine joins or leaves a queue: its own node and
+-- its neighbour's.
 use Rattle.std.proofs.Common.{◌≡◌, ◌≢◌, ◌⊎◌, inl, inr, ℕ, List, length, length-set, set, Option, Some, None, refl, sym, ap, ◌∙◌}
 use Rattle.std.proofs.lemmas.List.{map-set}
 use Rattle.std.proofs.Math.Seq.{map-set_same}
@@ -39,7 +40,7 @@ module _ (nodes : List GoroutineNode) (g : ℕ) (old at : GoroutineNode) (change
         moved = mid_status;
       }
 
-  -- the change of the neighbour's node, if it has one
+  -- the change to the neighbour's node, if it has one
   one_beside : (b : ℕ) → b ≢ g → (o : Option GoroutineNode) → slice_get (set nodes g at) b ≡ o → Relinks nodes (set_found b change o (set nodes g at)) g at (Some b) change
   one_beside b apart None none =
       record {

@@ -14,7 +14,7 @@ use Rattle.nr_rev.proofs.NumberLemmas.{same_number, number_same}
 use Rattle.nr_laws.proofs.BoolLemmas.{both_true, never_true}
 use Rattle.nr_gsema.specs.Links.{is_waiting}
 
--- true if a status is queued at this semaphore, or isn't queued at all
+-- true if a goroutine with this status is queued at this semaphore, or at none
 abbrev pub Near : ℕ → Side → Status → Type 0
 Near s side status = (status ≡ Queued s side) ⊎ (is_waiting status ≡ false)
 

@@ -43,7 +43,7 @@ module _ {nodes : List GoroutineNode} {semaphores : List (Sides SemaphoreHead)} 
       first-is nodes (Queued s side) None (queues_from nodes semaphores s side) (of_side side x).front (of_side side x).back (is.queues.linked s side x there)
       ∙ ap (λ (q : List ℕ). slice_get q 0) (sym (queue_read s side x there))
 
-  -- the back of a head is the back of the queue
+  -- the back that a semaphore's head stores is the back of the queue
   pub back_read : (s : ℕ) (side : Side) (x : Sides SemaphoreHead) → slice_get semaphores s ≡ Some x → (of_side side x).back ≡ back_of (queue_at s side t)
   back_read s side x there =
       last-is nodes (Queued s side) (queues_from nodes semaphores s side) (of_side side x).front (of_side side x).back (is.queues.linked s side x there)
@@ -77,19 +77,19 @@ module _ {nodes : List GoroutineNode} {semaphores : List (Sides SemaphoreHead)} 
           ∙ sym (ap (λ (o : Option Status). in_queue found o t) (at ∙ ap Some e))
       go _ e = other _ e refl
 
-  -- the next goroutine in the queue is the one in the node
+  -- the next goroutine that a node stores is the next one in the queue
   pub next_read : (g : ℕ) (node : GoroutineNode) → slice_get nodes g ≡ Some node → node.next ≡ next_in_queue g t
   next_read g node there =
       neighbour_read g node node.next (behind g) there (λ none. (is.queues.alone g node there none).0)
       (λ s side queue first last l some. next-is nodes (Queued s side) None queue first last l g node there some)
 
-  -- the previous goroutine in the queue is the one in the node
+  -- the previous goroutine that a node stores is the previous one in the queue
   pub previous_read : (g : ℕ) (node : GoroutineNode) → slice_get nodes g ≡ Some node → node.previous ≡ previous_of g t
   previous_read g node there =
       neighbour_read g node node.previous (before g None) there (λ none. (is.queues.alone g node there none).1)
       (λ s side queue first last l some. previous-is nodes (Queued s side) None queue first last l g node there some)
 
-  -- the queues of a table contain exactly the goroutines with that queued status, each once
+  -- a queue contains a goroutine, once, if and only if the goroutine's status is queued there
   pub queued_up : IsQueuedUp t
   queued_up =
       subst IsQueuedUp is.view (record {

@@ -46,7 +46,7 @@ pub record Requeues (nodes new : List GoroutineNode) (semaphores : List (Sides S
       ≡ set (map (semaphores_from nodes) semaphores) s (with_side side (record { count = head.count; queue = queue }) (semaphores_from nodes both))
   pub size : length new ≡ length nodes
 
--- a change of one queue, and of the status of the goroutine that joins or leaves it
+-- a change to one queue, and to the status of the goroutine that joins or leaves it
 module _ (nodes new : List GoroutineNode) (semaphores : List (Sides SemaphoreHead)) (queues : ℕ → Side → List ℕ) (s : ℕ) (side : Side) (both : Sides SemaphoreHead) (head : SemaphoreHead) (g : ℕ)
     (old at : GoroutineNode) (neighbour : Option ℕ) (change : GoroutineNode → GoroutineNode) (queue : List ℕ) (h : AreQueues nodes semaphores queues) (there : slice_get semaphores s ≡ Some both)
     (is : slice_get nodes g ≡ Some old) (r : Relinks nodes new g at neighbour change) (was_near : Near s side old.status) (near : Near s side at.status)
@@ -216,7 +216,7 @@ module _ (nodes new : List GoroutineNode) (semaphores : List (Sides SemaphoreHea
         size = r.size;
       }
 
--- the four changes of a table's queues
+-- the four changes to a table's queues: a goroutine joins or leaves a queue at either end
 module _ (nodes : List GoroutineNode) (semaphores : List (Sides SemaphoreHead)) (h : AreQueues nodes semaphores (queues_from nodes semaphores)) (s : ℕ) (side : Side) (both : Sides SemaphoreHead)
     (there : slice_get semaphores s ≡ Some both) (g : ℕ) (old : GoroutineNode) (is : slice_get nodes g ≡ Some old) where
   queue : List ℕ

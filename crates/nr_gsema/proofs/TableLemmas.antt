@@ -1,4 +1,4 @@
--- Lemmas about the table of nodes and heads after each change of them.
+-- Lemmas about the table that nodes and heads represent after each change to them.
 use Rattle.std.proofs.Common.{◌≡◌, ℕ, zero, suc, ◌+◌, ◌-◌, ◌<◌, false, List, [], ◌∷◌, ◌++◌, length, replicate, set, map, take, Option, Some, None, refl, sym, ap, ap₂, subst, ◌∙◌, arith}
 use Rattle.std.proofs.lemmas.List.{length-map, map-set, take-map}
 use Rattle.std.proofs.lemmas.Option.{none-some, same_Some, slice_get-map, slice_get_within}
@@ -49,7 +49,7 @@ pub AreTable-same : {nodes : List GoroutineNode} {semaphores : List (Sides Semap
 AreTable-same {nodes} {semaphores} {limit} {t} ys zs is a b =
     subst (λ (r : List GoroutineNode). AreTable r zs limit t) (sym a) (subst (λ (s : List (Sides SemaphoreHead)). AreTable nodes s limit t) (sym b) is)
 
--- a change of a semaphore that exists
+-- a change to a semaphore that exists
 pub on_semaphore_is : (s : ℕ) (side : Side) (change : Semaphore → Semaphore) (t : GoroutineTable) (both : Sides Semaphore) → slice_get t.semaphores s ≡ Some both
     → on_semaphore s side change t ≡ with_semaphore s side both (change (of_side side both)) t
 on_semaphore_is s side change t both is = ap (λ (o : Option (Sides Semaphore)). on_found s side change o t) is
@@ -78,7 +78,8 @@ within_of : (o : Option ℕ) (m n : ℕ) → n ≡ m → ((b : ℕ) → o ≡ So
 within_of None m n same h = tt
 within_of (Some b) m n same h = let below = h b refl in omega arith
 
--- the table after the change; `written` are the nodes that the code wrote, as many as before
+-- The table after a change to a queue. `written` is the list of nodes that the code wrote; it is as
+-- long as the old list.
 requeued_table : {nodes new : List GoroutineNode} {semaphores : List (Sides SemaphoreHead)} {limit s g : ℕ} {t : GoroutineTable} {side : Side} {x : Sides SemaphoreHead} {head : SemaphoreHead}
     {status : Status} {queue : List ℕ} → AreTable nodes semaphores limit t → Requeues nodes new semaphores s side x head g status queue → slice_get semaphores s ≡ Some x
     → (change : Semaphore → Semaphore) → change (record { count = (of_side side x).count; queue = queue_from nodes (of_side side x) }) ≡ record { count = head.count; queue = queue }
@@ -115,7 +116,8 @@ module _ {nodes : List GoroutineNode} {semaphores : List (Sides SemaphoreHead)} 
           let node = status_node nodes g status found in
           (node.0, node.1, ap is_waiting node.2 ∙ same_Some (is_waiting status) false (sym (ap (option_map is_waiting) found) ∙ same))
 
-  -- the heads that were read for a socket below the limit are its heads
+  -- for a socket below the limit, the heads that `get_or` reads are in the list at the socket's
+  -- index
   pub head_read : (s : ℕ) (x : Sides SemaphoreHead) → s < length t.semaphores → x ≡ get_or semaphores s x → slice_get semaphores s ≡ Some x
   head_read s x within read =
       let sizes = length-map semaphores (semaphores_from nodes) in

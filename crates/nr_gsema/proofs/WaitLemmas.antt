@@ -55,7 +55,7 @@ count_there p (x ∷ xs) (suc i) old at =
     let a = count_more p x xs in
     omega arith
 
--- an element passes a test if and only if the number of such elements isn't 0
+-- some element passes a test if and only if the number of elements that pass it isn't 0
 any_counted : {X : Type 0} (p : X → Bool) (xs : List X) → list_any p xs ≡ nat_lt 0 (count_by p xs)
 any_counted p [] = refl
 any_counted p (x ∷ xs) = go (p x) (any_counted p xs) ∙ ap (nat_lt 0) (sym (count_more p x xs))
@@ -67,7 +67,7 @@ any_counted p (x ∷ xs) = go (p x) (any_counted p xs) ∙ ap (nat_lt 0) (sym (c
         above n = grind arith
     go false rest = rest ∙ ap (nat_lt 0) (let n : count_by p xs ≡ 0 + count_by p xs = omega arith in n)
 
--- the counts at a descriptor after a change of one wait's count: no other count is changed
+-- the counts at a descriptor after a change to one wait's count: no other count changes
 abbrev Changed : (ℕ → ℕ) → Option (ℕ × Side) → List (Sides ℕ) → ℕ → Side → Sides ℕ → Type 0
 Changed change place counts d side both =
     (was : Sides ℕ) × (slice_get counts d ≡ Some was) × (of_side side both ≡ (if is_wait_at d side place then change (of_side side was) else of_side side was))
@@ -181,7 +181,7 @@ waited_by_count counts gs d side count counted is = go (slice_get counts d) refl
     go (Some both) found e =
         ap (nat_lt 0) (sym (same_Some (of_side side both) count e) ∙ counted d side both found) ∙ sym (any_counted (λ (status : Status). is_wait_at d side (wait_of status)) gs)
 
--- a change of a semaphore leaves the goroutines' statuses unchanged
+-- a change to a semaphore leaves the goroutines' statuses unchanged
 on_semaphore_leaves : (s : ℕ) (side : Side) (change : Semaphore → Semaphore) (t : GoroutineTable) → (on_semaphore s side change t).goroutines ≡ t.goroutines
 on_semaphore_leaves s side change t = go (slice_get t.semaphores s)
   where
@@ -189,7 +189,7 @@ on_semaphore_leaves s side change t = go (slice_get t.semaphores s)
     go None = refl
     go (Some both) = refl
 
--- the statuses of the nodes after a change of a queue
+-- the statuses of the nodes after a change to a queue
 pub statuses_requeued : (nodes new : List GoroutineNode) (semaphores zs : List (Sides SemaphoreHead)) (limit g s : ℕ) (after : Status) (side : Side) (change : Semaphore → Semaphore) (t : GoroutineTable)
     → AreTable nodes semaphores limit t → AreTable new zs limit (with_status g after (on_semaphore s side change t)) → statuses new ≡ set (statuses nodes) g after
 statuses_requeued nodes new semaphores zs limit g s after side change t is becomes =

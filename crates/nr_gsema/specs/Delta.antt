@@ -46,7 +46,7 @@ undone (undo.Released g s reads writes front) t =
 abbrev pub IsOutside : ℕ → GoroutineTable → Type 0
 IsOutside g t = option_map is_waiting (slice_get t.goroutines g) ≡ Some false
 
--- true if socket s is below the limit, and its semaphore of a side has this property
+-- true if socket s is below the limit, and the semaphore at one side of it has this property
 abbrev pub HasSemaphore : ℕ → Side → (Semaphore → Type 0) → GoroutineTable → Type 0
 HasSemaphore s side P t =
     (both : Sides Semaphore) × (slice_get t.semaphores s ≡ Some both) × P (of_side side both)

@@ -43,7 +43,7 @@ abbrev pub semaphores_from : List GoroutineNode → Sides SemaphoreHead → Side
 semaphores_from nodes both =
     record { read = semaphore_from nodes both.read; write = semaphore_from nodes both.write }
 
--- the table that contracts see
+-- the table in contracts
 abbrev pub table_from : Inside → GoroutineTable
 table_from t =
     record {
@@ -56,8 +56,9 @@ table_from t =
 abbrev pub node_with : Status → Option ℕ → Option ℕ → GoroutineNode
 node_with status next previous = record { status = status; next = next; previous = previous }
 
--- true if the rest of a queue is linked: each node has the status and the neighbours before and
--- after it, with none at the end
+-- True if the rest of a queue is linked from `first` to `last`. Each goroutine's node has this
+-- status, and stores the goroutines before and after it in the queue. The last node stores no next
+-- goroutine.
 abbrev pub IsLinked : List GoroutineNode → Status → Option ℕ → List ℕ → Option ℕ → Option ℕ → Type 0
 IsLinked nodes status previous [] first last = (first ≡ None) × (last ≡ previous)
 IsLinked nodes status previous (g ∷ queue) first last =
@@ -78,7 +79,7 @@ pub record AreQueues (nodes : List GoroutineNode) (semaphores : List (Sides Sema
       → slice_get semaphores s ≡ Some both
       → IsLinked nodes (Queued s side) None (queues s side) (of_side side both).front
       (of_side side both).back
-  -- each queue contains exactly the goroutines with that queued status, each once
+  -- a queue contains a goroutine, once, if and only if the goroutine's status is queued there
   pub queued : (s : ℕ) (side : Side) → s < length semaphores → (g : ℕ)
       → count_by (λ h. h == g) (queues s side)
       ≡ bit (is_queued s side (slice_get (statuses nodes) g))

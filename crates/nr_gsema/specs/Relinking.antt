@@ -10,23 +10,23 @@ followed_by next node = record node { next = next }
 abbrev pub preceded_by : Option ℕ → GoroutineNode → GoroutineNode
 preceded_by previous node = record node { previous = previous }
 
--- the nodes after a change of g's node, if it has one
+-- the nodes after a change to g's node, if g has one
 abbrev pub set_found : ℕ → (GoroutineNode → GoroutineNode) → Option GoroutineNode
     → List GoroutineNode → List GoroutineNode
 set_found g change None nodes = nodes
 set_found g change (Some node) nodes = slice_set nodes g (change node)
 
--- the nodes after a change of a goroutine's node, if a goroutine is given
+-- the nodes after a change to a goroutine's node, if a goroutine is given
 abbrev pub with_node : Option ℕ → (GoroutineNode → GoroutineNode) → List GoroutineNode
     → List GoroutineNode
 with_node None change nodes = nodes
 with_node (Some g) change nodes = set_found g change (slice_get nodes g) nodes
 
--- the nodes with another next goroutine in the node of `goroutine`, if `goroutine` is given
+-- the nodes after the node of `goroutine`, if given, gets another next goroutine
 abbrev pub with_next : Option ℕ → Option ℕ → List GoroutineNode → List GoroutineNode
 with_next goroutine next nodes = with_node goroutine (followed_by next) nodes
 
--- the nodes with another previous goroutine in the node of `goroutine`, if `goroutine` is given
+-- the nodes after the node of `goroutine`, if given, gets another previous goroutine
 abbrev pub with_previous : Option ℕ → Option ℕ → List GoroutineNode → List GoroutineNode
 with_previous goroutine previous nodes = with_node goroutine (preceded_by previous) nodes
 

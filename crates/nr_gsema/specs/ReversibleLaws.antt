@@ -36,7 +36,7 @@ pub steps_unique : (old : GoroutineTable) (op : GOperation) (a b : Answer)
     → StepTo old op a new → StepTo old op b other → (a ≡ b) × (new ≡ other)
 steps_unique old op a b new other p q = same_parts a b new other (sym p ∙ q)
 
--- undoing a delta restores only one table
+-- a delta and the new table determine the old table
 pub LeadsBack-unique : (delta : GDelta) (new a b : GoroutineTable) → LeadsBack delta new a
     → LeadsBack delta new b → a ≡ b
 LeadsBack-unique delta new a b p q = p.1 ∙ sym q.1
@@ -56,7 +56,7 @@ status_is_short (Swapping d side) = lit≤ tt
 status_is_short (Checking d side) = lit≤ tt
 status_is_short Gone = lit≤ tt
 
--- no operation is allowed more words than the maximum of all operations
+-- the allowance of each operation is at most `MOST_WORDS`
 pub weight_is_within : (op : GOperation) → weight_allowed op ≤ MOST_WORDS
 weight_is_within operation.Spawn = lit≤ tt
 weight_is_within (operation.Exit g) = lit≤ tt

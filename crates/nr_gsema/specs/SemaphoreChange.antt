@@ -15,16 +15,17 @@ abbrev pub without_last : Semaphore → Semaphore
 without_last semaphore =
     record semaphore { queue = take (length semaphore.queue - 1) semaphore.queue }
 
--- a semaphore after a release, without the front of its queue
+-- a semaphore after a release: the count is one greater, and the first goroutine, if any, has left
+-- the queue
 abbrev pub released_once : Semaphore → Semaphore
 released_once semaphore = record { count = semaphore.count + 1; queue = drop 1 semaphore.queue }
 
--- a semaphore with the count before an acquire
+-- a semaphore after an acquire is undone: the count is one greater
 abbrev pub unacquired : Semaphore → Semaphore
 unacquired semaphore = record semaphore { count = semaphore.count + 1 }
 
--- a semaphore with the count before a release, and with the goroutine that left the queue at its
--- front again
+-- a semaphore after a release is undone: the count is one less, and the goroutine that had left the
+-- queue, if any, is at the front again
 abbrev pub unreleased : Option ℕ → Semaphore → Semaphore
 unreleased None semaphore = record semaphore { count = semaphore.count - 1 }
 unreleased (Some g) semaphore = record { count = semaphore.count - 1; queue = g ∷ semaphore.queue }

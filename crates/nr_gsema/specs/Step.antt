@@ -20,7 +20,7 @@ use Rattle.nr_gsema.specs.declared.operation.GOperation.TheVariants as operation
 use Rattle.nr_gsema.specs.Table.{GoroutineTable}
 use Rattle.nr_gsema.specs.Auxiliary.Table.{with_status, with_semaphore}
 
--- the answer and the next table, or the reason of a refusal
+-- the answer and the next table, or the reason for a refusal
 abbrev pub Outcome : Type 0
 Outcome = Result (Answer × GoroutineTable) Refusal
 
@@ -100,7 +100,7 @@ abbrev pub tries_again : ℕ → Side → Option ℕ → GoroutineTable → Goro
 tries_again s side None t = t
 tries_again s side (Some g) t = with_status g (Acquiring s side) t
 
--- the side of the next release of a goroutine that owes these releases: reading comes first
+-- the side of the next release, given the releases that a goroutine owes: the read side comes first
 abbrev pub side_owed : Sides ℕ → Side
 side_owed owed = if nat_lt 0 owed.read then Read else Write
 
@@ -129,7 +129,7 @@ outcome t (operation.Release g) = release g t
 abbrev pub StepTo : GoroutineTable → GOperation → Answer → GoroutineTable → Type 0
 StepTo t op answer next = outcome t op ≡ Ok (answer, next)
 
--- the reason of an outcome, if there is one
+-- the reason for a refusal, if the outcome is one
 abbrev pub refusal_of : Outcome → Option Refusal
 refusal_of (Ok left) = None
 refusal_of (Err reason) = Some reason

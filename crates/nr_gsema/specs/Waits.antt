@@ -14,13 +14,13 @@ waiting_at d side goroutines = count_by (λ status. is_wait_at d side (wait_of s
 abbrev pub waiting_of : ℕ → Side → List (Sides ℕ) → Option ℕ
 waiting_of d side counts = option_map (of_side side) (slice_get counts d)
 
--- the counts after a change of the count at a side of descriptor d, if it was found
+-- the counts after a change to the count at one side of descriptor d, if d has counts
 abbrev pub on_count : ℕ → Side → (ℕ → ℕ) → Option (Sides ℕ) → List (Sides ℕ) → List (Sides ℕ)
 on_count d side change None counts = counts
 on_count d side change (Some both) counts =
     slice_set counts d (with_side side (change (of_side side both)) both)
 
--- the counts after a change of the count of a wait, if there is a wait
+-- the counts after a change to the count for a wait, if there is a wait
 abbrev pub on_wait : (ℕ → ℕ) → Option (ℕ × Side) → List (Sides ℕ) → List (Sides ℕ)
 on_wait change None counts = counts
 on_wait change (Some place) counts =

@@ -13,8 +13,8 @@ ghost use Rattle.nr_gsema.specs.Delta.{undo_weight};
 ghost use Rattle.nr_gsema.specs.Step.{outcome, same_status};
 ghost use Rattle.nr_gsema.specs.Worked.{one_at};
 
-/// `same_status`, which decides whether a goroutine has the status from which it is moved, holds if
-/// and only if the two statuses are equal.
+/// `same_status` is true if and only if the two statuses are equal. `Move` uses it to compare a goroutine's status with
+/// `from`.
 pub fn just_equals_are_the_same()
     ensures { (a b : Status) → (same_status a b ≡ true) ↔ (a ≡ b) }
 {}
@@ -24,8 +24,7 @@ pub fn delta_is_its_undo()
     ensures { (delta : GDelta) → delta ≡ record { undo = delta.undo } }
 {}
 
-/// A delta has at most seven words, and the delta of a release after which a goroutine left the queue has exactly
-/// seven.
+/// A delta has at most seven words. It has exactly seven if it undoes a release that let a goroutine leave the queue.
 pub fn the_numbers()
     ensures words { MOST_WORDS ≡ 7 }
     ensures reached { (g s reads writes front : ℕ)

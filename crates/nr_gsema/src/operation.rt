@@ -28,10 +28,10 @@ pub enum GOperation {
     Acquire {
         goroutine: u32,
     },
-    /// A goroutine that owes releases makes one of them, first for reading. The count grows by one, and the goroutine
-    /// at the front of the queue, if any, leaves it and must acquire again. Answers `Done`. Fails with `NotThere` if it
-    /// owes none, with `NoSuchSocket` if its socket isn't below the limit, and with `FieldOverflow` if the count is
-    /// 4,294,967,295.
+    /// Makes one of the releases that the goroutine owes, the read side's first. The count grows by one, and the first
+    /// goroutine in the queue, if any, leaves it and must acquire again. Answers `Done`. Fails with `NotThere` if the
+    /// goroutine owes none, with `NoSuchSocket` if its socket isn't below the limit, and with `FieldOverflow` if the
+    /// count is 4,294,967,295.
     Release {
         goroutine: u32,
     },

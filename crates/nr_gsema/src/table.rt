@@ -11,11 +11,11 @@ use nr_rev::{Memory, Sides};
 use std::alloc::Global;
 use std::marker::Model;
 
-/// The goroutines made so far and the semaphores of all sockets below the limit, in memory that is
-/// allocated once. Contracts see the statuses, and for each semaphore its count and the list of
-/// queued goroutines. Neighbours in a queue are stored in the goroutines' nodes, so joining or
-/// leaving a queue at either end changes two nodes, whatever its length. Goroutines inside a wait
-/// are counted, so `is_waited` reads no node for a descriptor with counts.
+/// The goroutines made so far and the semaphores of all sockets below the limit, in memory that is allocated once. In
+/// contracts, a table has the statuses, and for each semaphore its count and the list of queued goroutines. Neighbours
+/// in a queue are stored in the goroutines' nodes, so joining or leaving a queue at either end changes two nodes,
+/// whatever its length. Goroutines inside a wait are counted, so `is_waited` reads no node for a descriptor with
+/// counts.
 #[derive(Drop)]
 pub struct GTable {
     pub(crate) alloc: Global,
@@ -52,9 +52,9 @@ impl GTable {
         GTable::with_descriptors(alloc, goroutines, sockets, 0)
     }
 
-    /// Makes a table as `with_limits` does, which also counts the goroutines inside a wait for each
-    /// side of this many descriptors. For these descriptors, `is_waited` reads no goroutine. This
-    /// only saves time; no contract mentions it. Fails with `Memory` if memory runs out.
+    /// Makes a table as `with_limits` does. The table also counts the goroutines that are inside a wait at each side of
+    /// this many descriptors. For these descriptors, `is_waited` reads no goroutine. This only saves time; no contract
+    /// mentions it. Fails with `Memory` if memory runs out.
     pub fn with_descriptors(
         alloc: Global,
         goroutines: u32,

@@ -9,7 +9,7 @@ use crate::table::GTable;
 use nr_rev::{Side, Sides, Status};
 
 impl GTable {
-    /// Increases the count again, and sets the goroutine to acquire.
+    /// Increases the count again, and sets the goroutine's status to `Acquiring`.
     #[inline(always)]
     pub(crate) fn unacquire(&mut self, goroutine: u32, socket: u32, side: Side)
         requires { CanUndo (undo.Acquired goroutine socket side) self.old }
@@ -22,8 +22,8 @@ impl GTable {
         self.set_status(goroutine, Status::Acquiring { socket, side });
     }
 
-    /// Puts the goroutine that left the queue back at its front, decreases the count, and sets the goroutine to owe
-    /// these releases.
+    /// Decreases the count, and puts the goroutine that left the queue, if any, at the front again. Sets the status of
+    /// the goroutine that made the release to `Owing`, with these releases.
     #[inline(always)]
     pub(crate) fn unrelease(
         &mut self,

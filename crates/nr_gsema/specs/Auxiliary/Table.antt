@@ -12,20 +12,21 @@ use Rattle.nr_gsema.specs.Table.{GoroutineTable}
 abbrev pub with_status : ℕ → Status → GoroutineTable → GoroutineTable
 with_status g status t = record t { goroutines = slice_set t.goroutines g status }
 
--- the table with a new semaphore at a side of socket s, which had these semaphores
+-- the table with a new semaphore at one side of socket s; `semaphores` has the socket's old
+-- semaphores
 abbrev pub with_semaphore : ℕ → Side → Sides Semaphore → Semaphore → GoroutineTable → GoroutineTable
 with_semaphore s side semaphores semaphore t =
     record t { semaphores = slice_set t.semaphores s (with_side side semaphore semaphores) }
 
--- the table with the semaphore of a side of socket s changed, if the socket was found
+-- the table after a change to the semaphore at one side of socket s, if the socket was found
 abbrev pub on_found : ℕ → Side → (Semaphore → Semaphore) → Option (Sides Semaphore)
     → GoroutineTable → GoroutineTable
 on_found s side change None t = t
 on_found s side change (Some semaphores) t =
     with_semaphore s side semaphores (change (of_side side semaphores)) t
 
--- the table with the semaphore of a side of socket s changed, or the same table if there is no such
--- socket
+-- the table after a change to the semaphore at one side of socket s; the same table if the socket
+-- doesn't exist
 abbrev pub on_semaphore : ℕ → Side → (Semaphore → Semaphore) → GoroutineTable → GoroutineTable
 on_semaphore s side change t = on_found s side change (slice_get t.semaphores s) t
 
@@ -52,7 +53,8 @@ abbrev pub before : ℕ → Option ℕ → List ℕ → Option ℕ
 before g first [] = None
 before g first (h ∷ queue) = if h == g then first else before g (Some h) queue
 
--- what a search finds in the queue of a goroutine with this status, or none if it isn't queued
+-- what a search finds in the queue that a goroutine with this status is in; none if the goroutine
+-- isn't queued
 abbrev pub in_queue : (List ℕ → Option ℕ) → Option Status → GoroutineTable → Option ℕ
 in_queue found (Some (Queued s side)) t = found (queue_at s side t)
 in_queue found _ t = None

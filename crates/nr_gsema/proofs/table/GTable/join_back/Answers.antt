@@ -29,7 +29,7 @@ set_next-requires c =
     back_within (is p) c.args.socket c.args.side c.index-semaphores.result.now c.of-queue.result (there p) c.of-queue.ensures
     (length c.deref_mut.result.now) (c.deref_mut.ensures.len ∙ c.self.inside.nodes.ok.0)
 
--- the table after the code
+-- the table when `join_back` returns
 left : (c : goal.After-with)
     → AreTable (with_items (with_item c.self.inside.nodes c.args.goroutine (node_with (Queued c.args.socket c.args.side) None c.of-queue.result.back)) c.set_next.new.nodes).items
     (set c.self.inside.semaphores.items c.args.socket c.with.result)
