@@ -8,7 +8,7 @@ use Rattle.nr_lock.specs.declared.op.LockAnswer.{LockAnswer}
 use Rattle.nr_lock.specs.declared.op.LockOp.{LockOp}
 use Rattle.nr_lock.specs.declared.op.LockOp.TheVariants.{Incref, IncrefClose, Decref, RwLock, RwUnlock}
 
--- the answer and the resulting lock, or the reason of a refusal
+-- the answer and the resulting lock, or the reason for a refusal
 abbrev pub outcome : Lock → LockOp → Result LockOutcome Refusal
 outcome lock Incref = incref lock
 outcome lock IncrefClose = incref_close lock
@@ -24,7 +24,7 @@ left answer lock = record { answer = answer.answer; owed = answer.owed; lock = l
 abbrev pub StepTo : Lock → LockOp → LockAnswer → Lock → Type 0
 StepTo old op answer new = outcome old op ≡ Ok (left answer new)
 
--- the reason of an outcome that is a refusal
+-- the reason for a refusal, if the outcome is one
 abbrev pub refusal_of : Result LockOutcome Refusal → Option Refusal
 refusal_of (Ok left) = None
 refusal_of (Err reason) = Some reason
