@@ -7,8 +7,8 @@ use std::alloc::Global;
 use std::marker::Model;
 use std::sync::Arc;
 
-/// Immutable bytes that several owners may share. Contracts see them as a list. They use only the
-/// memory that they need, and none if the list is empty.
+/// Immutable bytes that several owners may share. In contracts, they are a list. They use only the memory that they
+/// need, and none if the list is empty.
 #[derive(Drop)]
 pub(crate) struct SharedBytes {
     block: Option<Arc<Vec<u8>>>,

@@ -9,8 +9,8 @@ use nr_rev::Memory;
 use std::alloc::Global;
 use std::marker::Model;
 
-/// A snapshot of a socket's buffers: the marks, and the bytes in only the memory that they need.
-/// Snapshots of the same socket may share bytes. Contracts see it as the buffers.
+/// A snapshot of a socket's buffers: the marks and the bytes. The bytes use only the memory that they need. Snapshots
+/// of the same socket may share bytes. In contracts, a snapshot is the buffers.
 #[derive(Drop)]
 pub struct SockSnapshot {
     limit: u32,

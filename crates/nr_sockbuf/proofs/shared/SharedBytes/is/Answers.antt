@@ -4,7 +4,8 @@ use Rattle.std.proofs.lemmas.List.{append_cancel_left}
 use Rattle.std.proofs.lemmas.Slice.Eq.{slice_eq-Decides, strip_prefix_is}
 use Rattle.nr_sockbuf.proofs.shared.SharedBytes.is.Goals as goal
 
--- if the bytes start with the first piece, the rest decides
+-- if the bytes start with the first piece, they are the concatenation if and only if the rest is
+-- the second piece
 pub returns-in-Some : goal.returns-in-Some
 returns-in-Some c =
     let front = c.args.front.now in
