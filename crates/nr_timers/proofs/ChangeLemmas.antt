@@ -1,5 +1,5 @@
--- Lemmas that take an insertion or a removal apart: a push or a pop, an exchange, and a move up or
--- down.
+-- Lemmas that split an insertion or a removal into its parts: a push or a pop, a swap, and a sift
+-- up or down.
 use Rattle.std.proofs.Common.{◌≡◌, ◌≢◌, ◌⊎◌, inl, inr, ⊎_elim, ℕ, zero, suc, ◌+◌, ◌-◌, ◌<◌, ◌≤◌, Bool, true, false, List, [], ◌∷◌, ◌++◌, length, take, refl, sym, ap, ◌∙◌, subst, arith}
 use Rattle.std.specs.List.{swap}
 use Rattle.std.proofs.lemmas.List.{ext_get_or, get_or_append_left, get_or_push, length_push, take_at, take_all, take_more, get_or-take, length-take-le}

@@ -136,7 +136,7 @@ Timers = List (Sides (Option Timer))
 abbrev armed_in : Timers → ℕ → Side → Option Timer
 armed_in timers k side = of_side side (slice_index_or timers k (twice None))
 
--- an entry of a descriptor has its number, and its side's timer
+-- each entry of descriptor d has the number d, and the timer of the entry's side
 at_in : (d : ℕ) (sides : Sides (Option Timer)) (e : Entry) → In e (entries_at d sides) → (e.descriptor ≡ d) × (of_side e.side sides ≡ Some e.timer)
 at_in d sides e p =
     ⊎_elim (λ q. let r = entry_in d Read sides.read e q in (r.1, ap (λ s. of_side s sides) r.2 ∙ r.0))

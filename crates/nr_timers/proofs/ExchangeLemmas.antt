@@ -1,4 +1,4 @@
--- One exchange in an entry's move up or down.
+-- Lemmas about one swap while an entry is sifted up or down.
 use Rattle.std.proofs.Common.{◌≡◌, ◌⊎◌, inl, inr, ⊎_elim, ℕ, suc, ◌<◌, ◌≤◌, true, false, List, length, refl, sym, ap, ◌∙◌, subst, arith}
 use Rattle.std.proofs.lemmas.List.Edits.{Swapped}
 use Rattle.std.proofs.lemmas.Bool.{cases_eq, cases_lt}

@@ -1,4 +1,4 @@
--- Lemmas about exchanges along paths to the root.
+-- Lemmas about swaps along paths to the root.
 use Rattle.std.proofs.Common.{◌≡◌, ⊎_elim, ℕ, zero, suc, ◌<◌, ◌≤◌, List, length, refl, sym, ap, ◌∙◌, subst, arith}
 use Rattle.std.specs.List.{swap}
 use Rattle.std.proofs.lemmas.List.{ext_get_or}
@@ -16,11 +16,11 @@ Leads-between zero m p q k a b le = (m, subst (λ x. Leads m x k) (sym a) b)
 Leads-between (suc n) zero p q k a b le = let below = Leads-lt n p q a in absurd (omega arith)
 Leads-between (suc n) (suc m) p q k a b le = Leads-between n m (parent p) q k a.1 b.1 le
 
--- the entries after an exchange
+-- the entries after a swap
 pub at-swap : (places : List Entry) (a b : ℕ) → a < length places → b < length places → Swapped (at places) (at (swap places a b)) a b
 at-swap places a b p q = swapped_from_swap places (swap places a b) a b blank p q refl
 
--- an exchange made twice changes nothing
+-- a swap made twice changes nothing
 pub swap-swap : (places : List Entry) (a b : ℕ) → a < length places → b < length places → swap (swap places a b) a b ≡ places
 swap-swap places a b p q =
     let once = at-swap places a b p q in
@@ -56,7 +56,7 @@ moved_up-moved_down (suc n) places p h =
     ap (λ xs. moved_up n xs (parent p)) (swap-swap (moved_down n places (parent p)) p (parent p) (omega arith) (omega arith))
     ∙ moved_up-moved_down n places (parent p) (omega arith)
 
--- a move down makes its topmost exchange first
+-- a sift down makes its topmost swap first
 pub moved_down-more : (n : ℕ) (places : List Entry) (q c : ℕ) → Leads n q c → moved_down (suc n) places q ≡ moved_down n (swap places c (parent c)) q
 moved_down-more zero places q c h = rw h refl
 moved_down-more (suc n) places q c h = ap (λ xs. swap xs q (parent q)) (moved_down-more n places (parent q) c h.1)

@@ -1,4 +1,4 @@
--- Lemmas that build an entry's move up or down from one exchange and the rest of the move.
+-- Lemmas that derive a sift up or down from one swap and the rest of the sift.
 use Rattle.std.proofs.Common.{◌≡◌, ⊎_elim, ℕ, suc, ◌+◌, ◌<◌, ◌≤◌, true, false, List, length, refl, sym, ap, ◌∙◌, subst, arith}
 use Rattle.std.specs.List.{swap}
 use Rattle.std.proofs.lemmas.List.Edits.{Swapped, length-swap}
@@ -85,12 +85,12 @@ module _ (old : List Entry) (p : ℕ) (within : p < length old) (lowest : (i : �
   pub OrderedBelow-none : OrderedBelow old p → Ordered old
   OrderedBelow-none h i above within = ⊎_elim (λ e. rw e (lowest i above within e)) (λ other. h.others i above within other) (cases_eq (parent i) p)
 
--- if the least child isn't less, no child is
+-- if the least child isn't less than its parent, no child is
 pub none_less : (old : List Entry) (p c : ℕ) → is_less (at old c) (at old p) ≡ false → ((i : ℕ) → 0 < i → i < length old → parent i ≡ p → is_less (at old i) (at old c) ≡ false) → (i : ℕ) → 0 < i
     → i < length old → parent i ≡ p → is_less (at old i) (at old p) ≡ false
 none_less old p c not_less least i above within child = not_less-trans (at old p) (at old c) (at old i) not_less (least i above within child)
 
--- a move that is longer by an exchange
+-- a sift that is longer by one swap
 pub lower_more : (old mid new : List Entry) (p q : ℕ) → q < p → ((n : ℕ) × Leads n (parent p) q × (mid ≡ moved_down n old (parent p))) → new ≡ swap mid p (parent p)
     → (n : ℕ) × Leads n p q × (new ≡ moved_down n old p)
 lower_more old mid new p q lt h e = (suc h.0, (omega arith, h.1), e ∙ ap (λ xs. swap xs p (parent p)) h.2)
@@ -99,7 +99,7 @@ pub lift_more : (old mid new : List Entry) (p q : ℕ) → q < p → mid ≡ swa
     → (n : ℕ) × Leads n p q × (new ≡ moved_up n old p)
 lift_more old mid new p q lt e h = (suc h.0, (omega arith, h.1), h.2 ∙ ap (λ xs. moved_up h.0 xs (parent p)) e)
 
--- a place on the path from p whose number isn't lower than p is p itself
+-- each place on the path from p to the root, except p itself, has a lower number than p
 pub path_end : (p q : ℕ) → OnPath p q → p ≤ q → q ≡ p
 path_end p q on le = let ge = OnPath-le p q on in omega arith
 

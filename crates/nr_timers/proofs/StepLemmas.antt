@@ -1,4 +1,4 @@
--- Lemmas that derive the result of an operation from the changes of the heap.
+-- Lemmas that derive the result of an operation from the changes to the heap.
 use Rattle.std.proofs.Common.{◌≡◌, ◌≢◌, ◌⊎◌, inl, inr, ⊎_elim, ℕ, ℤ, ◌+◌, ◌-◌, ◌*◌, ◌^◌, ◌<◌, true, List, [], ◌∷◌, ◌++◌, length, Option, Some, None, refl, sym, ap, ◌∙◌, subst, arith}
 use Rattle.std.specs.Prelude.{int_le}
 use Rattle.std.specs.Prelude.{slice_get}
@@ -235,8 +235,8 @@ module _ (old : State) (well : IsTimers old) (e : Entry) (mid new : List Entry) 
         in_range = omega arith;
       }
 
--- if the armed entry has the key of the removed entry and gets its timer, it equals the removed
--- entry
+-- if the armed entry has the same key as the removed entry, giving it the removed entry's timer
+-- makes the two equal
 pub with_old_timer : (new : List Entry) (to : ℕ) (e gone : Entry) → at new to ≡ e → key gone ≡ key e → with_timer new to gone.timer ≡ gone
 with_old_timer new to e gone arrives same =
     let both = one_side e.descriptor gone.descriptor e.side gone.side (sym (key_is e) ∙ sym same ∙ key_is gone) in

@@ -1,4 +1,4 @@
--- Undoing an insertion or a removal restores only one heap.
+-- After an insertion or a removal, the undo and the new heap determine the old heap.
 use Rattle.std.proofs.Common.{◌≡◌, inl, inr, ℕ, zero, suc, ◌-◌, List, [], ◌∷◌, ◌++◌, length, take, sym, ap, ◌∙◌, arith}
 use Rattle.std.specs.List.{swap}
 use Rattle.nr_rev.specs.declared.timer.Entry.{Entry}

@@ -1,5 +1,5 @@
--- An insertion or a removal has only one resulting heap and place, if no two entries are equal in
--- the order.
+-- If one of any two entries is less than the other, an insertion or a removal determines the
+-- resulting heap and place.
 use Rattle.std.proofs.Common.{◌≡◌, ◌⊎◌, inl, inr, ⊎_elim, ℕ, zero, suc, ◌-◌, ◌<◌, ◌≤◌, Bool, true, false, true≢false, List, length, refl, sym, ap, ◌∙◌, subst, arith}
 use Rattle.std.proofs.lemmas.List.{ext_get_or}
 use Rattle.std.proofs.lemmas.Bool.{cases_eq, cases_lt}

@@ -26,12 +26,14 @@ abbrev pub ClearedBack : Option Gone → List Entry → List Entry → Type 0
 ClearedBack None new old = old ≡ new
 ClearedBack (Some gone) new old = RemovedBack gone.place gone.last gone.entry new old
 
--- the undo of an arming that removed the key's old entry, if any, and put the new one at a place
+-- The undo of an operation that armed a timer. The operation removed the old entry with the timer's
+-- key, if any, and put the new entry at place `to`.
 abbrev pub armed_undo : ℕ → Option Gone → TimersUndo
 armed_undo to None = Armed to
 armed_undo to (Some gone) = Rearmed to gone.place gone.last gone.entry.timer
 
--- the undo of a stop, which removed the key's entry, if any
+-- The undo of an operation that stopped a timer. The operation removed the entry with the timer's
+-- key, if any.
 abbrev pub stopped_undo : Option Gone → TimersUndo
 stopped_undo None = Still
 stopped_undo (Some gone) = Stopped gone.place gone.last gone.entry

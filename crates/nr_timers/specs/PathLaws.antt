@@ -32,7 +32,7 @@ Leads-last zero p q h = (p, refl, h.0, sym h.1)
 Leads-last (suc n) p q h =
     let rest = Leads-last n (parent p) q h.1 in (rest.0, (h.0, rest.1), rest.2, rest.3)
 
--- a place on a path is its start or on the path of the start's parent
+-- a place on the path from p to the root is p itself, or is on the path from p's parent
 pub OnPath-cases : (p k : ℕ) → OnPath p k → (k ≡ p) ⊎ ((0 < p) × OnPath (parent p) k)
 OnPath-cases p k (zero, h) = inl h
 OnPath-cases p k (suc n, h) = inr (h.0, (n, h.1))
@@ -40,7 +40,8 @@ OnPath-cases p k (suc n, h) = inr (h.0, (n, h.1))
 pub OnPath-more : (p k : ℕ) → 0 < p → OnPath (parent p) k → OnPath p k
 OnPath-more p k above h = (suc h.0, (above, h.1))
 
--- a place on a path is its start or the parent of another place on it
+-- a place on the path from p to the root is p itself, or is the parent of another place on this
+-- path
 pub OnPath-ends : (p k : ℕ) → OnPath p k
     → (k ≡ p) ⊎ ((r : ℕ) × OnPath p r × (0 < r) × (parent r ≡ k))
 OnPath-ends p k (zero, h) = inl h

@@ -98,7 +98,7 @@ weight_is_within (Stop d side) = lit≤ tt
 weight_is_within (Pop now) = lit≤ tt
 weight_is_within (TakeFiring place) = lit≤ tt
 
--- an undo restores only one state
+-- an undo and the new state determine the old state
 pub UndoBack-unique : (delta : TimersUndo) (new a b : State) → UndoBack delta new a
     → UndoBack delta new b → a ≡ b
 UndoBack-unique (Armed to) new a b x y =
@@ -127,7 +127,7 @@ UndoBack-unique (Popped last) new a b x y =
     ∙ sym y.rest
 UndoBack-unique (Taken place entry) new a b x y = x.rest ∙ sym y.rest
 
--- undoing a delta restores only one state
+-- a delta and the new state determine the old state
 pub TimersBack-unique : (delta : TimersDelta) (new a b : State) → TimersBack delta new a
     → TimersBack delta new b → a ≡ b
 TimersBack-unique delta new a b x y = UndoBack-unique delta.undo new a b x y

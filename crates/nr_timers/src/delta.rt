@@ -41,7 +41,7 @@ pub enum TimersUndo {
     Popped {
         last: u32,
     },
-    /// The firing was removed from `place` of the firings.
+    /// The firing was removed from `place` in the list of firings.
     Taken {
         place: u32,
         entry: Entry,
@@ -63,8 +63,8 @@ impl Default for TimersDelta {
 }
 
 impl TimersUndo {
-    /// Returns the undo of an arming that put its entry at the place `to`, after an earlier entry
-    /// of the same descriptor's side, if any, was removed.
+    /// Returns the undo of an operation that armed a timer and put its entry at the place `to`.
+    /// `gone` is the earlier entry of the same side, if one was removed.
     #[inline(always)]
     pub(crate) fn of_arming(to: u32, gone: Option<Gone>) -> TimersUndo
         ensures { result ≡ armed_undo to gone }
@@ -80,7 +80,8 @@ impl TimersUndo {
         }
     }
 
-    /// Returns the undo of a stop, which removed an entry or found none.
+    /// Returns the undo of an operation that stopped a timer. `gone` is the removed entry, if there
+    /// was one.
     #[inline(always)]
     pub(crate) fn of_stop(gone: Option<Gone>) -> TimersUndo
         ensures { result ≡ stopped_undo gone }

@@ -23,9 +23,9 @@ pub enum TimersOp {
         descriptor: u32,
         side: Side,
     },
-    /// Moves the least entry to the end of the firings. Fails with `Refusal::NoTimerDue` if there is no entry or the
-    /// least is due after this time, in nanoseconds; or else with `Refusal::FiringsFull` if two firings already wait
-    /// for each descriptor of the limit.
+    /// Moves the least entry to the end of the firings. Fails with `Refusal::NoTimerDue` if there is no entry, or if
+    /// the least entry is due after this time, in nanoseconds. Otherwise fails with `Refusal::FiringsFull` if the
+    /// number of waiting firings is twice the maximum number of descriptors.
     Pop {
         now: i64,
     },

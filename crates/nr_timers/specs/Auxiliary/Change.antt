@@ -5,7 +5,7 @@ use Rattle.nr_rev.specs.declared.timer.Entry.{Entry}
 use Rattle.nr_timers.specs.PathToRoot.{Leads}
 use Rattle.nr_timers.specs.Auxiliary.PathToRoot.{moved_up, moved_down}
 
--- the entries after the one at p was removed and the last one moved to p
+-- the entries after the entry at p is removed and the last entry takes its place
 abbrev pub refilled : List Entry → ℕ → List Entry
 refilled old p = take (length old - 1) (swap old p (length old - 1))
 

@@ -10,31 +10,31 @@ abbrev pub moved_up : ℕ → List Entry → ℕ → List Entry
 moved_up zero places p = places
 moved_up (suc n) places p = moved_up n (swap places p (parent p)) (parent p)
 
--- the entries after the entry n places above p moved down the path to p
+-- the entries after an entry moved n steps down a path, to p
 abbrev pub moved_down : ℕ → List Entry → ℕ → List Entry
 moved_down zero places p = places
 moved_down (suc n) places p = swap (moved_down n places (parent p)) p (parent p)
 
--- each child of p is in order with p's parent
+-- true if no child of p is less than p's parent
 abbrev pub InOrderAcross : List Entry → ℕ → Type 0
 InOrderAcross places p =
     (i : ℕ) → 0 < i → i < length places → parent i ≡ p → 0 < p
     → is_less (at places i) (at places (parent p)) ≡ false
 
--- each entry except the one at p is in order with its parent, and each child of p is also in order
--- with p's parent
+-- True if no entry is less than its parent, except perhaps the entry at p, and no child of p is
+-- less than p's parent.
 pub record OrderedAbove (places : List Entry) (p : ℕ) : Type 0 where
   pub others : (i : ℕ) → 0 < i → i < length places → (i ≡ p → ⊥) → InOrder places i
   pub across : InOrderAcross places p
 
--- each entry except the children of p is in order with its parent, and each child of p is in order
--- with p's parent
+-- True if no entry is less than its parent, except perhaps the children of p, and no child of p is
+-- less than p's parent.
 pub record OrderedBelow (places : List Entry) (p : ℕ) : Type 0 where
   pub others : (i : ℕ) → 0 < i → i < length places → (parent i ≡ p → ⊥) → InOrder places i
   pub across : InOrderAcross places p
 
--- each entry except the one at p and its children is in order with its parent, and each child of p
--- is in order with p's parent
+-- True if no entry is less than its parent, except perhaps the entry at p and the children of p,
+-- and no child of p is less than p's parent.
 pub record OrderedAround (places : List Entry) (p : ℕ) : Type 0 where
   pub others : (i : ℕ) → 0 < i → i < length places → (i ≡ p → ⊥) → (parent i ≡ p → ⊥)
       → InOrder places i
