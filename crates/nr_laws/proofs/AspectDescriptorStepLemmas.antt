@@ -144,7 +144,7 @@ waitcheck_changes w g =
     ComesTo-bind (ComesTo-any (row_of place.0 w)) λ row _.
     ComesTo-ok (goroutines_set _ w _ refl)
 
--- ---- changes of a descriptor with its timers
+-- ---- changes to a descriptor and its timers
 
 -- a change modifies only these aspects of the descriptor, and has timer orders only if Timers is
 -- among them

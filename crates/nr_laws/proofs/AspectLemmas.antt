@@ -1,4 +1,4 @@
--- A change of a world modifies only cells of certain aspects.
+-- A change to a world modifies only cells of certain aspects.
 use Rattle.std.proofs.Common.{◌≡◌, ℕ, ◌+◌, Bool, true, false, List, [], ◌∷◌, ◌++◌, map, length, Some, Result, Ok, Err, refl, sym, ap, subst, ◌∙◌, true≢false, zero, suc}
 use Rattle.std.specs.Prelude.{slice_get, slice_set, if◌then◌else◌, ℤ}
 use Rattle.nr_rev.specs.declared.answer.Answer.{Answer}
@@ -73,7 +73,7 @@ Leaves-same = record { each = λ c _. refl }
 pub Leaves-then : {aspects : List Aspect} {w between next : World} → Leaves aspects w between → Leaves aspects between next → Leaves aspects w next
 Leaves-then first second = record { each = λ c e. second.each c e ∙ first.each c e }
 
--- a change of the world, followed by a step
+-- a change to the world, followed by a step
 pub Changes-after : {aspects : List Aspect} {w between : World} {o : Result (Answer × World) Refusal} → Leaves aspects w between → Changes aspects between o → Changes aspects w o
 Changes-after first step = record { value = λ left is. Leaves-then first (step.value left is) }
 

@@ -1,4 +1,4 @@
--- A change of a descriptor, which sets its timers and then unblocks its words, keeps a world well
+-- A change to a descriptor, which sets its timers and then unblocks its words, keeps a world well
 -- formed.
 use Rattle.std.proofs.Common.{◌≡◌, ℕ, zero, suc, Bool, true, false, List, [], ◌∷◌, ◌++◌, Option, Some, refl, sym, ap, subst, ◌∙◌, set, None, true≢false}
 use Rattle.std.specs.Prelude.{slice_get}

@@ -1,4 +1,4 @@
--- The words and timers of a descriptor after a change of its words, event error or fdseq.
+-- The words and timers of a descriptor after a change to its words, event error or fdseq.
 use Rattle.std.proofs.Common.{◌≡◌, ◌≢◌, ℕ, ◌^◌, ◌<◌, Bool, List, Some, ◌⊎◌, inl, inr, refl, sym, ap, ◌∙◌, set}
 use Rattle.std.proofs.lemmas.Option.{same_Some}
 use Rattle.std.specs.Prelude.{slice_get, option_map}

@@ -67,7 +67,7 @@ module _ {X : Type 0} where
   append-next xs i x within read =
       ap (λ y. take i xs ++ (y ∷ drop (suc i) xs)) read ∙ ap (λ ys. take i xs ++ ys) (sym (drop-cons xs i x within)) ∙ take-append-drop i xs
 
--- if undoing a single delta restores only one state, so does undoing a list of deltas
+-- if a delta and the new state determine the old state, so do a list of deltas and the new state
 pub LeadsBack-unique : {State Delta : Type 0} (back : Delta → State → State → Type 0) → ((delta : Delta) (new a b : State) → back delta new a → back delta new b → a ≡ b)
     → (deltas : List Delta) (new a b : State) → LeadsBack back deltas new a → LeadsBack back deltas new b → a ≡ b
 LeadsBack-unique back unique [] new a b p q = sym p ∙ q
