@@ -54,7 +54,7 @@ impl From<AllocError> for Unstarted {
 }
 
 impl Unstarted {
-    /// Returns why no program ran after an error of this kind: `Memory` for lack of memory, and
+    /// Returns why no program ran after an error of this kind: `Memory` if memory ran out, and
     /// otherwise `other`.
     pub fn of_kind(kind: ErrorKind, other: Unstarted) -> Unstarted
         ensures { result ≡ unstarted_by kind other }

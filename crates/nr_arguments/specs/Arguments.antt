@@ -125,7 +125,7 @@ file_of (program.Changes file) = file.now
 file_of (program.Suspects file) = file.now
 file_of (program.Serve file sharing) = file.now
 
--- `Memory` if the error is lack of memory, and otherwise `Usage`
+-- `Memory` if the error says that memory ran out, and otherwise `Usage`
 abbrev pub fault_of_kind : ErrorKind → ArgumentsFault
 fault_of_kind kind.OutOfMemory = fault.Memory refused_memory
 fault_of_kind _ = fault.Usage

@@ -51,8 +51,8 @@ fn step_and_wait<R: Threads + Sync>(journal: &Journal, mut front: Lone<'_, R>) -
     front.end()
 }
 
-/// Lets two fronts place a hundred commands each at the same time. Returns whether one front has
-/// seen fewer words than the other, as many or more, and all words.
+/// Lets two fronts place a hundred commands each at the same time. Compares how many words the two
+/// fronts have seen. Returns the result of this comparison, and all words.
 fn step_at_once<R: Threads + Send + Sync>(
     rt: &R,
     alloc: Global,

@@ -286,7 +286,7 @@ fn is_checked(alloc: Global, report: &Report) -> Result<bool, AllocError> {
     Ok(played.is(report.status, report.line))
 }
 
-/// Runs `run` over a recording that is refused. Returns whether `run` gives the result in the
+/// Calls `run` with a recording that is refused. Returns whether `run` gives the result in the
 /// report and reads no input.
 fn is_refused<R: Threads + Sync>(
     rt: &R,

@@ -41,8 +41,8 @@ struct Part {
 #[derive(Drop)]
 struct Seen {
     reads: AtomicU32,
-    /// The number of bytes in all writes that match the expected replies at the position of the
-    /// write.
+    /// The number of bytes in correct writes. A write is correct if it equals the expected replies
+    /// from the position at which it starts.
     right: AtomicU32,
     written: AtomicU32,
 }

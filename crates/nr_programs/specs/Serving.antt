@@ -37,8 +37,8 @@ SharesAll r sharing before after history failed =
     × IsShared r sharing.journal sharing.fronts DELTAS_KEPT sharing.workers passed history failed
 
 -- The number of commands that the fronts placed was printed, or `fault 108 memory` if memory ran
--- out while the history was collected. If memory ran out before the recording was shared, `fault
--- 108 memory` was printed, and no port was opened.
+-- out while the history was collected. If memory ran out before the recording was shared, the same
+-- fault was printed, and no port was opened.
 abbrev pub Shares : Recording → Sharing → FrontsLog → FrontsLog → Outgoing → Outgoing → ExitStatus
     → Type 0
 Shares r sharing before after old new status =
@@ -49,8 +49,8 @@ Shares r sharing before after old new status =
     ⊎ ((after ≡ before) × EndsPrinting memory_line Refused old new status)
 
 -- Either the bytes are a recording whose steps all apply and give their recorded answers, and the
--- recording was shared; or the first fault of the bytes was printed, or `fault 108 memory`, and no
--- port was opened.
+-- recording was shared. Or the program printed the first fault of the bytes, or `fault 108 memory`,
+-- and opened no port.
 abbrev pub ServesAll : List ℕ → Sharing → FrontsLog → FrontsLog → Outgoing → Outgoing → ExitStatus
     → Type 0
 ServesAll bytes sharing before after old new status =

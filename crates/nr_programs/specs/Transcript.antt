@@ -28,9 +28,8 @@ use Rattle.nr_programs.specs.declared.run.ExitStatus.TheVariants.{Done, Refused,
 
 -- ---- the memory and room for a line
 
--- The memory and room that a line has: `enough` of both; `no_memory` before a command is placed;
--- `no_memory_to_search` for a command that is placed and then searches; or `no_room` in the
--- journal.
+-- The memory and room that a line has: `enough` of both; `no_memory`; `no_memory_to_search`, if its
+-- command is placed and then runs out of memory while it searches; or `no_room` in the journal.
 pub data Supply : Type 0 where
   enough : Supply
   no_memory : Supply
@@ -122,9 +121,8 @@ journal_of_one = record { room = 65536; passes = 1 }
 
 -- True if a command can have this memory and room when the session is in this state. A command can
 -- run out of memory before it is placed only if the journal has more than one pass, because only
--- then can it have words of other fronts. A placed command can run out of memory only if it
--- searches through copies of worlds. The journal is full only if the number of placed words is the
--- number for which it has room.
+-- then can other fronts have placed words. A placed command can run out of memory only if it
+-- searches through copies of worlds. The journal is full only if it has no room for another word.
 abbrev pub CommandMayHave : Recording → JournalSize → Command → Supply → SessionState → Type 0
 CommandMayHave r journal command enough s = ⊤
 CommandMayHave r journal command no_memory s = journal.passes ≢ 1

@@ -22,8 +22,8 @@ WritesAnswered r old new status =
     status)
 
 -- Either the bytes are a recording whose steps all apply and give their recorded answers, and the
--- recording was written with its answers; or the first fault of the bytes was printed, or `fault
--- 108 memory`.
+-- recording was written with its answers. Or the program printed the first fault of the bytes, or
+-- `fault 108 memory`.
 abbrev pub Upgrades : List ℕ → Outgoing → Outgoing → ExitStatus → Type 0
 Upgrades bytes old new status =
     ((r : Recording) × IsGoodText bytes r × WritesAnswered r old new status)

@@ -52,7 +52,7 @@ impl Text for OpenFault {
 }
 
 /// The number of steps between two copies of the world in a session. `check` and `upgrade` never go
-/// back, so they keep as few copies as a film may have.
+/// back, so they keep a copy only every 65536 steps, which is the longest interval for a film.
 pub(crate) const COPY_EVERY: usize = 1_024;
 
 /// Reads the recording from the bytes and replays it once, with a copy of the world every `every`

@@ -44,7 +44,8 @@ where
     }
 }
 
-// Writes the film's steps with their answers. The film keeps as few copies as a film may have.
+// Writes the film's steps with their answers. The film keeps a copy of the world every 65536 steps,
+// which is the longest interval for a film.
 fn write_answered<W: Worlds + Drop, O: Write>(
     alloc: Global,
     film: &Film<W>,

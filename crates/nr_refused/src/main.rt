@@ -3,10 +3,10 @@
 //!
 //! The program refuses nothing itself. It prints the line `refuse` when requests for memory may be
 //! refused from then on, and `grant` when they may no longer be refused.
-//! python/tests/program/each_call.py uses LD_PRELOAD to load scripts/refused.c before the C
-//! library, and scripts/refused.c obeys these two lines. If a call was refused, the program also
-//! checks that the call changed nothing that it had to preserve. After the second call, the program
-//! prints a line with the result of both calls.
+//! python/tests/program/each_call.py preloads a library, built from scripts/refused.c, which comes
+//! before the C library and obeys these lines. If a call was refused, the program also checks that
+//! the call changed nothing that it had to preserve. After the second call, the program prints a
+//! line with the result of both calls.
 #![tactic(auto)]
 
 mod calls;

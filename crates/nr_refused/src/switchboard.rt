@@ -16,8 +16,8 @@ pub(crate) struct Part {
 #[derive(Drop)]
 pub(crate) struct Seen {
     reads: AtomicU32,
-    // the number of bytes in all writes that matched the expected replies at the position of the
-    // write
+    // The number of bytes in correct writes. A write is correct if it equals the expected replies
+    // from the position at which it starts.
     right: AtomicU32,
     written: AtomicU32,
 }

@@ -101,9 +101,9 @@ next_of_setting n d side notices.Nothing y = refl
 
 -- ---- the source of a setting
 
--- Either the notice leaves the recorded move unchanged and sets no deadline of descriptor d; or it
--- sets only the other side's deadline, and becomes the recorded move unless there is an earlier
--- one.
+-- The recorded move is the first step that set only the other side's deadline. Either the notice
+-- sets no deadline of descriptor d, and the move is unchanged; or it sets only the other side's
+-- deadline, and its step becomes the move unless there is an earlier one.
 abbrev pub MoveFrom : ℕ → ℕ → Side → Notice → Option StepBy → Option StepBy → Type 0
 MoveFrom n d side x old new =
     ((new ≡ old) × ((g : ℕ) (mode : Mode) → x ≢ notices.SetDeadline g d mode))

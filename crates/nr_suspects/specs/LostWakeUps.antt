@@ -1,5 +1,5 @@
 -- Lost wake-ups: a goroutine is parked at a side although an event came for the side, and no read
--- or write since then was answered `Again`.
+-- or write at that side has been answered `Again` since.
 use Rattle.std.specs.Prelude.{◌≡◌, ◌⊎◌, ℕ, zero, suc, ◌<◌, List, [], ◌∷◌, ◌++◌, Option, Some, None, option_and_then, codes, decimal}
 use Rattle.nr_rev.specs.declared.answer.Answer.{Answer}
 use Rattle.nr_rev.specs.declared.cell_value.CellValue.{CellValue}
@@ -30,7 +30,7 @@ pub record HasLost (r : Recording) (n g d : ℕ) (side : Side) : Type 0 where
   pub owed : Owed r n d side
 
 -- A step consumed the readiness notification of a side of descriptor d, or reopened the descriptor.
--- Three kinds of steps consume it: a reset, and the two steps of a wait that consume the word.
+-- Three kinds of steps consume it: `pollreset`, `blockarm` and `blockswap`.
 pub data IsTakenBy (w : World) (step : Step) (answer : Answer) (next : World) (d : ℕ)
     (side : Side) : Type 0 where
   Anew : (s : ℕ) → notice w step answer next ≡ Opened d s → IsTakenBy w step answer next d side

@@ -95,8 +95,8 @@ abbrev pub held_goroutine : CellValue → Option ℕ
 held_goroutine (CellValue.WaitWord (Held g)) = Some g
 held_goroutine _ = None
 
--- If the deadline of a side passed in this step, the goroutine that the passing wakes: the one that
--- the side's word held before the step, if any. `None` if the deadline didn't pass in this step.
+-- `Some` if the deadline of a side passed in this step. `woken` is then the goroutine that the
+-- side's word held before the step, if it held one.
 abbrev pub passing : World → World → ℕ → Side → Option Passing
 passing w next d side =
     if not (has_passed w d side) && has_passed next d side

@@ -62,8 +62,8 @@ pub fn if_none_is_listed_each_event_was_tried()
         → (k : ℕ) × (event < k) × (k < n) × IsPayment r d side k }
 {}
 
-/// Only a reset and the two steps of a wait that consume the word consume a readiness notification. Apart from these,
-/// only reopening the descriptor clears it.
+/// Only `pollreset`, `blockarm` and `blockswap` consume a readiness notification. Apart from these steps, only
+/// reopening the descriptor clears it.
 pub fn three_kinds_take_readiness()
     ensures { (w next : World) (step : Step) (answer : Answer) (d : ℕ) (side : Side)
         → outcome w step ≡ Ok (answer, next) → is_ready w d side ≡ true → is_ready next d side ≡ false

@@ -1,5 +1,5 @@
 //! Lost wake-ups: a goroutine is parked at a side although an event came for the side, and no read
-//! or write since then was answered `Again`.
+//! or write at that side has been answered `Again` since.
 
 ghost use Rattle.std.specs.Prelude.{◌≡◌, ◌++◌, ◌≤◌, ◌<◌, ◌+◌, length, option_and_then};
 ghost use Rattle.nr_rev.specs.Sides.{of_side};

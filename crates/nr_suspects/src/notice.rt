@@ -261,8 +261,8 @@ impl SideBefore {
         }
     }
 
-    // Returns which goroutine is woken if the side's deadline passed in this step: it has passed in
-    // this world, and hadn't before the step. Otherwise returns `None`.
+    // Returns `Some` if the side's deadline passed in this step: it hadn't passed before the step,
+    // and has passed in this world.
     fn passing<W: Worlds>(self, world: &W, descriptor: u32, side: Side) -> Option<Passing>
         requires { W.is_well_formed world.now }
         ensures { result ≡ (if not self.has_passed && has_passed (W.world world.now) descriptor side
