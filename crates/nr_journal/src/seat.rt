@@ -1,4 +1,4 @@
-//! Seats: the handles with which threads enter a journal.
+//! Seats: a thread uses a seat to enter a journal.
 
 use crate::view::View;
 use std::marker::Model;

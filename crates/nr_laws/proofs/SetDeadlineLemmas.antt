@@ -1,5 +1,5 @@
--- setdeadline, which adjusts each side's timer and unblocks a side if its deadline is past, keeps a
--- world well formed.
+-- setdeadline keeps a world well formed. It adjusts each side's timer, and unblocks a side if the
+-- side's deadline is past.
 use Rattle.std.proofs.Common.{lit<, pos, negsuc, ◌≡◌, ◌≢◌, ℕ, ◌+◌, ◌^◌, ◌<◌, ◌≤◌, ℤ, int_eq, Bool, true, false, not, ◌&&◌, List, [], ◌∷◌, ◌++◌, Option, Some, None, Result, Ok, Err, ◌⊎◌, inl, inr, refl, sym, ap, ap₂, subst, ◌∙◌, arith, true≢false}
 use Rattle.std.proofs.lemmas.Option.{same_Some}
 use Rattle.std.specs.Prelude.{slice_get, if◌then◌else◌, ◌≤ℤ◌, ◌-◌, nat_lt}

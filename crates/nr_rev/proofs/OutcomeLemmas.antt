@@ -72,7 +72,7 @@ pub Ends-refused_unless : (test : Bool) (reason : Refusal) → is_never_given re
 Ends-refused_unless true reason given = Ends-ok refl
 Ends-refused_unless false reason given = Ends-refused given
 
--- a test that holds never refuses the step
+-- if the test is true, `refused_unless` doesn't refuse the step
 pub Ends-certain : (test : Bool) (reason : Refusal) → test ≡ true → Ends (λ _. Unit {0}) (refused_unless test reason)
 Ends-certain true reason so = Ends-ok tt
 Ends-certain false reason so = cc

@@ -35,7 +35,7 @@ entry_of d side (Some timer) = record { descriptor = d; side = side; timer = tim
 abbrev pub entries_at : ℕ → Sides (Option Timer) → List Entry
 entries_at d timers = entry_of d Read timers.read ++ entry_of d Write timers.write
 
--- the entries of the descriptors from number d on, which have these timers
+-- the entries of consecutive descriptors, numbered from d, given the timers of each
 abbrev pub entries_from : ℕ → List (Sides (Option Timer)) → List Entry
 entries_from d [] = []
 entries_from d (timers ∷ rest) = entries_at d timers ++ entries_from (d + 1) rest

@@ -64,7 +64,7 @@ entries_of descriptors = entries_from 0 (map (λ row. row.timers) descriptors)
 abbrev pub least_entry : World → Option Entry
 least_entry w = least_of (entries_of w.descriptors)
 
--- the descriptor and side of the wait that a goroutine is inside
+-- if a goroutine with this status is inside a wait, the descriptor and side of the wait
 abbrev pub wait_of : Status → Option (ℕ × Side)
 wait_of (Entering d side) = Some (d, side)
 wait_of (Armed d side) = Some (d, side)

@@ -76,7 +76,7 @@ impl Status {
         self == other
     }
 
-    /// Returns the descriptor and side of the wait that the goroutine is inside, if any.
+    /// If the goroutine is inside a wait, returns the descriptor and side of the wait.
     #[inline(always)]
     pub fn wait(self) -> Option<(u32, Side)>
         ensures { result ≡ wait_of self }
@@ -92,7 +92,7 @@ impl Status {
         }
     }
 
-    /// Returns whether the goroutine is inside a wait of the descriptor and side.
+    /// Returns whether the goroutine is inside a wait at this side of the descriptor.
     #[inline(always)]
     pub fn is_inside(self, descriptor: u32, side: Side) -> bool
         ensures { result ≡ is_wait_at descriptor side (wait_of self) }

@@ -125,8 +125,8 @@ pub enum Step {
     ParkCommit {
         goroutine: u32,
     },
-    /// `netpollblock`, after parking: the word becomes nil. Answers `Yes` if it was ready, which
-    /// ends the wait, or else `No`.
+    /// `netpollblock`, after parking: the word becomes nil. If the word was ready, the wait ends, and the answer is
+    /// `Yes`; otherwise the answer is `No`.
     BlockSwap {
         goroutine: u32,
     },

@@ -25,8 +25,8 @@ where
 
 /// Applies all the operations in order, or none of them: if one doesn't apply, it undoes those
 /// before it. On success, `out` has a delta for each operation, in order, so that `undo_all` can
-/// undo them. Otherwise, returns the reason of the first operation that doesn't apply; the state is
-/// as it was before, and `out` is empty.
+/// undo them. Otherwise, returns the reason for the first refusal; the state is as it was before,
+/// and `out` is empty.
 pub fn transact<S: Reversible>(
     state: &mut S,
     ops: &[S::Op],
@@ -46,8 +46,7 @@ where
         (IsLight S.weight S.allowance S.bytes_out) state.old ops.now out.new.items state.new) }
     ensures leads_back { OnOk result (LeadsBack S.back out.new.items state.new state.old) }
 
-    // Otherwise, no operation is applied, and the error is the reason of the first one that is
-    // refused.
+    // Otherwise, no operation is applied, and the error is the reason for the first refusal.
     ensures refusal { IfErr result
         (FirstRefused S.steps (Refuses S.reason S.takes_memory) state.old ops.now) }
     ensures unchanged { OnErr result (state.new ≡ state.old) }

@@ -207,8 +207,8 @@ pub fn deadline_limits_hold()
     ensures too_many { first_refused_of a_firing_too_many ≡ Some (11, Refusal.FiringsFull) }
 {}
 
-/// The reasons, each with the number of the step that it refuses, from 1. Of the reasons that are missing here,
-/// `FieldOverflow` and `FiringsFull` occur in the examples above, `Memory` is not a reason of the machine, and
+/// The reasons, each with the number of the refused step, counted from 1. Of the reasons that are missing here,
+/// `FieldOverflow` and `FiringsFull` occur in the examples above, the machine's definition never gives `Memory`, and
 /// `CorruptedDescriptor` occurs in no well-formed world.
 pub fn reasons_are_met()
     ensures no_such_goroutine { reason_of (Step.Exit 1 ∷ []) ≡ Some (1, Refusal.NoSuchGoroutine) }

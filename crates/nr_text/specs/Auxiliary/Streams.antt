@@ -39,8 +39,8 @@ abbrev pub ReadsSome : {E : Type 0} → Incoming → Incoming → List ℕ → R
 ReadsSome old new buffer (Ok n) = Reads old new buffer (Moved n)
 ReadsSome old new buffer (Err _) = Reads old new buffer Failed
 
--- True if a write sent the first of the bytes, or failed. If it sent none, though there were some,
--- the sink counts as failed.
+-- True if a write sent the first of the bytes, or failed. If there were bytes to send and the write
+-- sent none, the write counts as failed.
 abbrev pub TakesSome : {E : Type 0} → Outgoing → Outgoing → List ℕ → Result ℕ E → Type 0
 TakesSome old new bytes (Ok n) = Takes old new bytes (Moved n)
 TakesSome old new bytes (Err _) = Takes old new bytes Failed

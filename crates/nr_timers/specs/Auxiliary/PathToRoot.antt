@@ -5,7 +5,7 @@ use Rattle.nr_rev.specs.declared.timer.Entry.{Entry}
 use Rattle.nr_timers.specs.Order.{is_less, at}
 use Rattle.nr_timers.specs.PathToRoot.{InOrder, Raised, Sunk, parent}
 
--- the entries after the entry at p moved n places up the path
+-- the entries after an entry moved n steps up a path, from p
 abbrev pub moved_up : ℕ → List Entry → ℕ → List Entry
 moved_up zero places p = places
 moved_up (suc n) places p = moved_up n (swap places p (parent p)) (parent p)
