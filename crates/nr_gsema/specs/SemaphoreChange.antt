@@ -20,12 +20,12 @@ without_last semaphore =
 abbrev pub released_once : Semaphore → Semaphore
 released_once semaphore = record { count = semaphore.count + 1; queue = drop 1 semaphore.queue }
 
--- a semaphore after an acquire is undone: the count is one greater
+-- the undo of an acquire: the count grows by one
 abbrev pub unacquired : Semaphore → Semaphore
 unacquired semaphore = record semaphore { count = semaphore.count + 1 }
 
--- a semaphore after a release is undone: the count is one less, and the goroutine that had left the
--- queue, if any, is at the front again
+-- the undo of a release: the count drops by one, and the goroutine that had left the queue, if any,
+-- is at the front again
 abbrev pub unreleased : Option ℕ → Semaphore → Semaphore
 unreleased None semaphore = record semaphore { count = semaphore.count - 1 }
 unreleased (Some g) semaphore = record { count = semaphore.count - 1; queue = g ∷ semaphore.queue }
