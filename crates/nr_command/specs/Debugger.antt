@@ -38,7 +38,7 @@ Ran = Reply × Debugger
 abbrev pub moved_to : ℕ → Debugger → Debugger
 moved_to p d = record d { position = p }
 
--- goes to the end of the recording in that direction, and replies that it is there
+-- goes to the end of the recording in this direction, and replies that the debugger is at that end
 abbrev pub to_end : Direction → ℕ → Debugger → Ran
 to_end Forward last d = (replies.AtEnd last, moved_to last d)
 to_end Backward last d = (replies.AtStart, moved_to 0 d)

@@ -21,7 +21,7 @@ trait Listed {
         ensures { Writes w.old w.new (line self.now) result };
 }
 
-/// The line of a mark has its number and the command that makes such a mark.
+/// A mark prints as its number, followed by the command that made it.
 impl Listed for NumberedMark {
     ghost line = { mark_line };
 

@@ -1,8 +1,8 @@
 -- The state of a replica's walker.
 use Rattle.std.specs.Prelude.{ℕ}
 
--- The abstract value of a walker: its position, the number of deltas that it keeps, the maximum of
--- that number, and the number of steps between two copies in its film.
+-- The abstract value of a walker: its position, how many deltas it keeps, how many it keeps at
+-- most, and the number of steps between two copies in its film.
 pub record WalkerState : Type 0 where
   pub position : ℕ
   pub kept : ℕ

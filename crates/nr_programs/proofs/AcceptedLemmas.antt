@@ -25,7 +25,7 @@ shows_one r queries.Position d e looks same = absurd cc
 shows_one r queries.Breakpoints d e looks same = absurd cc
 shows_one r queries.Checkpoints d e looks same = absurd cc
 
--- a step that applies turns the world of its position into the world of the next
+-- a step that applies turns the world at its position into the world at the next position
 leads_on : (r : Recording) (n : ℕ) (step : Step) (came : Outcome) → slice_get r.steps n ≡ Some step → outcome (world_at r n) step ≡ came → IsOk came → LeadsOnAt r n step
 leads_on r n step (Ok (answer, next)) read is ok =
     let there = IsWorldAt-next (λ (w : World). Unit {0}) (λ (w : World). w) r n step answer (world_at r n) next (record { well_formed = tt; there = refl }) read is tt in

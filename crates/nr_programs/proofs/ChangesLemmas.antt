@@ -61,7 +61,7 @@ texts_of_changes n changes = text_of_parts_is change_text (as_lines n changes) �
 texts_behind : (n : ℕ) (lines after : List ChangeLine) (changes : List CellWithValue) → after ≡ lines ++ as_lines n changes → texts_of after ≡ texts_of lines ++ lines_of_changes n changes
 texts_behind n lines after changes is = ap texts_of is ∙ texts-append lines (as_lines n changes) ∙ ap (λ t. texts_of lines ++ t) (texts_of_changes n changes)
 
--- the first part of the remaining lines becomes waiting lines
+-- the first of the remaining lines now wait to be written
 moved_on : (sent lines after more later rest all : List ℕ) → after ≡ lines ++ more → rest ≡ more ++ later → sent ++ (lines ++ rest) ≡ all → sent ++ (after ++ later) ≡ all
 moved_on sent lines after more later rest all waits cut is =
     ap (λ t. sent ++ (t ++ later)) waits ∙ ap (λ t. sent ++ t) (append_assoc lines more later) ∙ ap (λ t. sent ++ (lines ++ t)) (sym cut) ∙ is
@@ -71,7 +71,7 @@ pub calm_still : (a b : Bool) → b ≡ a → b ≡ (a || false)
 calm_still true b e = e
 calm_still false b e = e
 
--- if a prefix of a text was written, so was a prefix of any longer text
+-- if a prefix of a text was written, it is also a prefix of the text followed by more bytes
 pub cut_short : (text more : List ℕ) (wanted : ExitStatus) (old new : Outgoing) (count : ℕ) → WritesPrefix old new text count → EndsPrinting (text ++ more) wanted old new StreamFailed
 cut_short text more wanted old new count part =
     let longer : WritesPrefix old new (text ++ more) count = record {
@@ -117,7 +117,7 @@ module _ (r : Recorded) where
         fault = ap (λ x. first_fault 1 x r.steps) is;
       }
 
-  -- the steps from a position on are the next step and the steps after it
+  -- the steps from position n on are the step at n, followed by the steps from n + 1 on
   steps_there : (n : ℕ) (s : RecordedStep) → slice_get r.steps n ≡ Some s → drop n r.steps ≡ s ∷ drop (n + 1) r.steps
   steps_there n s read = drop_more r.steps n s (slice_get_within r.steps n s read) ∙ ap (λ x. x ∷ drop (n + 1) r.steps) (get_or_from_slice_get r.steps n s s read)
 

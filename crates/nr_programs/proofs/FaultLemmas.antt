@@ -145,7 +145,8 @@ module _ (r : Recorded) where
       from None is e = absurd cc
       from (Some step) is e = let o = answers_so step (outcome (world_at (run_of r) k) step) refl e in (step, o.0, is, o.1)
 
-  -- the computed fault is that a step's answer differs, if the earlier steps are good
+  -- if a step has another answer than the recorded one, and all earlier steps apply and give their
+  -- recorded answers, the computed fault says so
   other_found : (k : ℕ) → AnswersOtherwiseAt r k → fault_from r 0 ≡ Some (load.OtherAnswer (k + 1))
   other_found k other =
       let g = gives_so k other.given other.gives in

@@ -38,10 +38,10 @@ pub fn a_calm_session_has_one_transcript()
 
 /// Each caller of a shared session gets the transcript of what was received from it, starting from
 /// the state of its front. All fronts share one history, whose length `placed K` prints. With each
-/// line that it runs, a front sees the words that other fronts placed before the line, and then the
-/// line's own word, once, if the line places a command. So a front sees all of its own words in the
-/// history, and each word of the history belongs to one front. The callers are those of the ports,
-/// and no other conversations took place.
+/// line that it runs, a front first sees the words that other fronts placed before the line. If the
+/// line places a command, the front then sees that command's word, once. So a front sees all of its
+/// own words in the history, and each word of the history belongs to one front. The callers are
+/// those of the ports, and no other conversations took place.
 pub fn callers_are_answered_in_one_history()
     ensures answered { (r : Recording) (room fronts depth workers : ℕ) (passed : List Passed) (history : List ℕ) (failed : Bool)
         → (shared : IsShared r room fronts depth workers passed (Some history) failed)

@@ -35,7 +35,7 @@ pub(crate) const DELTAS_KEPT: usize = 4_096;
 pub enum ExitStatus {
     /// The program completed.
     Done,
-    /// The recording was refused, or memory ran out for it.
+    /// The program printed the first fault of the recording, or `fault 108 memory`.
     Refused,
     /// Usage error: the arguments don't select a program.
     Usage,

@@ -70,7 +70,8 @@ pub fn short_runs_have_their_replies()
 {}
 
 /// Two fronts, one with `stepi 3` and one with `reverse-stepi`, in both orders and with a journal
-/// of one word. There is also a search that runs out of memory, until `resume` has enough.
+/// of one word. There is also a search that runs out of memory, and a later `resume` that completes
+/// it.
 pub fn what_two_fronts_meet_is_answered()
     ensures forward_first { replies woken_run start true (codes "stepi 3\n") [] ≡ codes "at 3\n" }
     ensures then_back { replies_among woken_run start true

@@ -330,7 +330,7 @@ fn exec_behind<H: Threads + Sync>(
     }
 }
 
-// Tests a dump of bytes for which the walker must go back a long way.
+// Tests a dump of bytes. Before it can print them, the walker must go back a long way.
 fn look<H: Threads + Sync>(rt: &HostRuntime, journal: &Journal, front: &mut Lone<'_, H>) -> Twice
     requires { front.old.table ≡ journal.now }
 {

@@ -120,13 +120,13 @@ fn write_into(
     (result, all.saturating_sub(left))
 }
 
-// Returns whether these bytes are the first lines of a text, each of them whole.
+// Returns whether these bytes are the first lines of the text and end with a whole line.
 fn are_first_lines(out: &[u8], text: &str) -> bool {
     matches!(out.last(), None | Some(b'\n')) && text.as_bytes().starts_with(out)
 }
 
-// Returns the result of writing. If memory was refused, only some of the first lines may be
-// written, each of them whole.
+// Returns the result of writing. If memory was refused, the bytes written must be the first lines
+// of the text and end with a whole line.
 fn came_of_writing(outcome: Result<(), WriteFault>, out: Option<&[u8]>, text: &str) -> Came {
     let Some(out) = out else {
         return Came::Wrong;

@@ -49,7 +49,7 @@ impl<C: Connections> Model for LoggedCallers<C> {
 }
 
 impl<C: Connections + Drop> LoggedCallers<C> {
-    // Makes the callers of a front, before any of them has come.
+    // Wraps the connections of a front, to which no caller has come yet.
     fn new(connections: C) -> LoggedCallers<C>
         requires { C.arrivals connections ≡ [] }
         ensures { result ≡ none_passed }

@@ -91,7 +91,7 @@ KeepsPeers w left = (s : ℕ) → seen_peer left.1 s ≡ seen_peer w s
 by_sockets : (w : World) (o : Outcome) → ComesTo (KeepsSockets w) o → ComesTo (KeepsPeers w) o
 by_sockets w o kept = record { value = λ left is s. ap (λ (xs : List Socket). option_map peer_of (slice_get xs s)) (kept.value left is) }
 
--- changing a socket without its other end changes no other end
+-- if a socket changes but its other end doesn't, no socket's other end changes
 peers_set : (w : World) (k : ℕ) (old new : Socket) → slice_get w.sockets k ≡ Some old → peer_of new ≡ peer_of old → (s : ℕ) → option_map peer_of (slice_get (slice_set w.sockets k new) s) ≡ seen_peer w s
 peers_set w k old new at same s = slice_get-set_unseen (option_map peer_of) w.sockets k old new s at (ap Some same)
 

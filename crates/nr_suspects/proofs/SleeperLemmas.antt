@@ -79,7 +79,7 @@ from_word n d side (CellValue.Time x) why s at = absurd (nowhere s at)
 from_word n d side (CellValue.Status x) why s at = absurd (nowhere s at)
 
 module _ (n : ℕ) (w : World) (reasons : ℕ → Side → Option Reason) where
-  -- the sleeper at a side names that side
+  -- each sleeper found at a side of a descriptor names that descriptor and side
   at_own : (d : ℕ) (side : Side) (s : Sleeper) → Contains (sleeper_at n w d side (reasons d side)) s → Contains (sleeper_at n w s.descriptor s.side (reasons s.descriptor s.side)) s
   at_own d side s at =
       let is = from_word n d side (cell w (word_cell d side)) (reasons d side) s at in

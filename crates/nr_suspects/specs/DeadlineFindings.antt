@@ -36,8 +36,8 @@ side_setting side a = option_and_then (λ (x : Deadline). x.setting) (deadline_o
 abbrev pub woken_of : Side → Option Account → Option ℕ
 woken_of side a = option_and_then (λ (x : Deadline). x.woken) (deadline_of side a)
 
--- the finding that step n had this consequence for the deadline of a side of descriptor d, if the
--- account says which step set the deadline
+-- The finding that step n had this consequence for the deadline of a side of descriptor d. If the
+-- account doesn't say which step set the deadline, the list is empty.
 abbrev pub finding : ℕ → ℕ → Side → Consequence → Option Account → List DeadlineFinding
 finding n d side consequence a =
     option_map_or (λ setting. record {

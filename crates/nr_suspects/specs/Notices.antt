@@ -154,7 +154,8 @@ noticed (Step.RwUnlock g s side) answer other = GaveReference g s
 noticed (Step.SetDeadline g d mode t) answer other = SetDeadline g d mode
 noticed step answer other = other
 
--- The notice of a step that gets this answer and turns the first world into the second.
+-- The notice of a step. Before the step, the world is `w`; its answer is `answer`, and the world
+-- after it is `next`.
 abbrev pub notice : World → Step → Answer → World → Notice
 notice w step answer next = noticed step answer (seen w step answer next)
 

@@ -21,8 +21,9 @@ abbrev pub moved_since : StepBy → Setting → Setting
 moved_since by setting =
     record setting { moved = Some (option_map_or (λ first. first) setting.moved by) }
 
--- the deadline of a side after a step set the deadlines that the mode names: a new setting if the
--- mode names the side, and otherwise the old setting with this move
+-- The deadline of a side after a step set the deadlines that the mode names. If the mode names the
+-- side, the setting is new. Otherwise the old setting is kept, updated for this step
+-- (`moved_since`).
 abbrev pub set_by : StepBy → Mode → Side → Deadline → Deadline
 set_by by mode side old =
     if names_side mode side then record {
