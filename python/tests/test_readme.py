@@ -104,7 +104,7 @@ class Crates(unittest.TestCase):
         for page in pages:
             title, blank, first, *_ = page.read_text(encoding="utf-8").split("\n")
             self.assertEqual((title, blank), (f"# {page.parent.name}", ""))
-            self.assertRegex(first, r"^\*\*(Yours to (call|run|add to|change|cite)|Inside):\*\* ", page.parent.name)
+            self.assertRegex(first, r"^\*\*(Stable API|Program|Tests|Internal):\*\* ", page.parent.name)
 
     def test_the_calls_that_stay_are_named(self) -> None:
         kept = kept_calls()
