@@ -33,7 +33,7 @@ among cells c e =
 not_among : (cells : List Cell) (c : Cell) → list_any (λ x. same_cell x c) cells ≡ false → ¬ Contains cells c
 not_among cells c e at = true≢false (sym (list_any-from_Any (λ x. same_cell x c) cells (at.0, c, at.1, at.2, cell_self c)) ∙ e)
 
--- filtering a list that contains all cells that differ leaves exactly the cells that differ
+-- if a list contains all changed cells, filtering the list for changed cells leaves exactly those
 pub just_differing : (cells : List Cell) (w next : World) (c : Cell) → (cell next c ≢ cell w c → Contains cells c)
     → Contains (filter (λ x. not (same_value (cell next x) (cell w x))) cells) c ↔ (cell next c ≢ cell w c)
 just_differing cells w next c there = (differs, found)

@@ -73,7 +73,7 @@ unfolding IsStrictlySortedBy
 goroutines_first [] rest rise before so = so
 goroutines_first (g ∷ gs) rest rise before so = (among_goroutines g gs rest rise.0 (before g), goroutines_first gs rest rise.1 before so)
 
--- if a cell precedes all cells of two lists, it precedes all of their concatenation
+-- if a cell precedes all cells of two lists, it precedes all cells of their concatenation
 pub before_both : (c : Cell) (cs ds : List Cell) → Before listing_order c cs → Before listing_order c ds → Before listing_order c (cs ++ ds)
 before_both c [] ds so also = also
 before_both c (x ∷ cs) ds so also = (so.0, before_both c cs ds so.1 also)

@@ -11,7 +11,7 @@ use Rattle.nr_changes.specs.declared.changing.CellWithValue.{CellWithValue}
 abbrev pub numbered_cells : ℕ → List (ℕ → Cell) → List Cell
 numbered_cells n sorts = flat_map (λ sort. map sort (range_with_len 0 n)) sorts
 
--- the larger of the two worlds' counts of these things
+-- the length of the longer of two lists: `things w` and `things next`
 abbrev pub most_of : {X : Type 0} → (World → List X) → World → World → ℕ
 most_of things w next = max (length (things w)) (length (things next))
 

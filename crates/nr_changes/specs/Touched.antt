@@ -18,7 +18,8 @@ use Rattle.nr_rev.specs.Socket.{Socket}
 use Rattle.nr_rev.specs.WellFormed.{socket_named}
 use Rattle.nr_rev.specs.World.{World, wait_of}
 
--- what a step touches: no other numbered thing has a cell whose value differs after the step
+-- What a step touches. The cells of all other goroutines, sockets and descriptors keep their
+-- values.
 pub record Touched : Type 0 where
   -- the goroutine that makes the step, those that it wakes, or the one that it creates
   pub goroutines : List ℕ

@@ -19,7 +19,7 @@ pub struct CellWithValue {
     pub value: CellValue,
 }
 
-/// Fills the unused places of a list: a cell without a value.
+/// The default is a cell without a value. It fills the unused places of a list.
 impl Default for CellWithValue {
     fn default() -> CellWithValue {
         CellWithValue {

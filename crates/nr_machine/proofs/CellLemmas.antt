@@ -34,7 +34,7 @@ value_by m d f None at =
 value_by m d f (Some x) at =
     sym (ap (λ (o : Option DescriptorRow). value_or_absent (λ row. f row.descriptor) o) (row_at m.core.descriptors.items m.core.timers.entries d x at))
 
--- a descriptor's cell has the value that the parts have for it
+-- the value of a descriptor's cell in the represented world is the value computed from the parts
 pub descriptor_value_is : (m : WorldParts) (d : ℕ) (f : Descriptor → CellValue) → value_or_absent f (slice_get m.core.descriptors.items d) ≡ descriptor_value d (meant m) f
 descriptor_value_is m d f = value_by m d f (slice_get m.core.descriptors.items d) refl
 

@@ -20,8 +20,9 @@ use Rattle.nr_machine.specs.Auxiliary.Changing.{with_descriptor, with_lock, with
 use Rattle.nr_machine.specs.Fits.{CoreFits, PartsFit}
 use Rattle.nr_machine.specs.World.{WorldParts}
 
--- True if both cores have the same limits, number of locks and unused semaphores. If each armed
--- timer of old belongs to a descriptor, so does each one of new.
+-- True if both cores have the same limits, number of locks and unused semaphores. Also, if each
+-- armed timer of the core `old` belongs to a descriptor, each armed timer of the core `new` does
+-- too.
 pub record IsTiedAs (old new : Core) : Type 0 where
   pub limits : new.limits ≡ old.limits
   pub locks : length new.locks.items ≡ length old.locks.items
@@ -30,8 +31,8 @@ pub record IsTiedAs (old new : Core) : Type 0 where
   pub unarmed : ((d : ℕ) → length old.descriptors.items ≤ d → timers_of old.timers.entries d ≡ twice None)
       → (d : ℕ) → length new.descriptors.items ≤ d → timers_of new.timers.entries d ≡ twice None
 
--- the parts still fit together with a new core if `CoreFits` holds for it, and `IsTiedAs` for the
--- old core and the new one
+-- the parts still fit together with a new core if `CoreFits` holds for the new core and `IsTiedAs`
+-- holds for the old and the new core
 pub retied : (m : WorldParts) (core : Core) → PartsFit m → CoreFits core → IsTiedAs m.core core → PartsFit (record m { core = core })
 retied m core h fits tied =
     record {

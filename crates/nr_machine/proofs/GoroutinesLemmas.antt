@@ -259,7 +259,7 @@ tied_again m s side (Some h) lock old both g to locked at =
 released_ends : (semaphore : Semaphore) → Ends (λ _. Unit {0}) (released semaphore)
 released_ends semaphore = Ends-then (Ends-refused_unless (nat_lt semaphore.count (2 ^ 32 - 1)) FieldOverflow refl) λ _. Ends-ok tt
 
--- an operation that is a step leaves the table tied to the parts
+-- after an operation that is a step, `TableTied` holds for the goroutine table and the old parts
 table_ends : (m : WorldParts) (o : GOperation) → IsWorld m → IsStep o → Ends (λ (left : Answer × GoroutineTable). TableTied m left.1) (table.outcome m.core.goroutines o)
 table_ends m operation.Spawn h is =
     Ends-then (Ends-refused_unless (nat_lt (length m.core.goroutines.goroutines) m.core.goroutines.limit) TableFull refl) λ _.

@@ -53,11 +53,11 @@ module _ (m : WorldParts) (g s : ℕ) (op : LockOp) where
   by_lock None e at refused = rw (socket_past m.core.locks.items m.core.goroutines.semaphores m.socks s at) (cc)
   by_lock (Some lock) e at refused = rw (socket_at m.core.locks.items m.core.goroutines.semaphores m.socks s lock at, refused) refl
 
-  -- if the lock in the parts refuses an operation, the world refuses it too
+  -- if an operation is refused on the packed lock, it is refused in the represented world too
   pub locking_refused : (e : Refusal) → lock_outcome s op m.core ≡ Err e → locking g s op (meant m) ≡ Err e
   locking_refused e refused = by_lock (slice_get m.core.locks.items s) e refl refused
 
-  -- if the lock in the parts carries out an operation, the world does too
+  -- if an operation succeeds on the packed lock, it succeeds in the represented world too
   pub locking_leads : (before after : Lock) (answer : LockAnswer) → slice_get m.core.locks.items s ≡ Some before → lock_op.StepTo before op answer after
       → locking g s op (meant m) ≡ Ok (lock_left g (status_left s op (lock_op.left answer after)) s (socket_with m s before) (lock_op.left answer after) (meant m))
   locking_leads before after answer at leads = rw (socket_at m.core.locks.items m.core.goroutines.semaphores m.socks s before at, leads) refl

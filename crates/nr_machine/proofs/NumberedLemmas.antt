@@ -24,7 +24,8 @@ module _ {A B C : Type 0} (make : A → B → C) where
       numbered_same (suc k) xs old new (λ n above below. same n (omega arith) (omega arith)) in
       ap (λ (b : B). make x b ∷ numbered make (suc k) xs new) here ∙ ap (λ (zs : List C). make x (old k) ∷ zs) rest
 
-  -- a change to one item and to its second value changes only that item of the combined list
+  -- if only one item and the second value beside it change, only that item of the combined list
+  -- changes
   pub numbered_set : (k i n : ℕ) (xs : List A) (x : A) (old new : ℕ → B) → n ≡ k + i → ((m : ℕ) → m ≢ n → new m ≡ old m)
       → numbered make k (set xs i x) new ≡ set (numbered make k xs old) i (make x (new n))
   numbered_set k i n [] x old new is others = refl

@@ -1,5 +1,5 @@
--- The timer that goes off first: the heap's first entry is the least of all rows, and its row
--- exists.
+-- The timer that goes off first. The heap's first entry is the least entry of all descriptors'
+-- timers, and the entry's descriptor has a row.
 use Rattle.std.proofs.Common.{◌≡◌, ℕ, ◌*◌, ◌<◌, ◌≤◌, Bool, true, false, List, [], ◌∷◌, ◌++◌, length, map, Option, Some, None, Result, Ok, Err, inl, inr, ⊎_elim, refl, sym, ap, subst, ◌∙◌, arith, eq-eqb}
 use Rattle.std.proofs.lemmas.Bool.Decides.{nat_tests}
 use Rattle.std.proofs.lemmas.Option.{none-some, slice_get_cases, slice_get_within}

@@ -137,8 +137,7 @@ sock_below m s h below =
     let made = h.parts.socks_made in
     omega (arith, below, many, most, made)
 
--- reading the list of buffers at the number of an existing socket returns the buffers of that
--- socket
+-- if socket s exists, its buffers are the item at index s of the list of buffers
 pub sock_found : (m : WorldParts) (s n : ℕ) (sock : SockParts) → IsWorld m → n ≡ length m.core.locks.items → s < n → sock ≡ get_or m.socks s sock
     → (s < length m.core.locks.items) × (slice_get m.socks s ≡ Some sock)
 sock_found m s n sock h len within read =
@@ -179,8 +178,8 @@ module _ (m : WorldParts) (s : ℕ) (step : Step) (h : IsWorld m) (is : IsTransf
     no_reason (Ok left) why = refl
     no_reason (Err reason) why = cc
 
-    -- the step is refused for the reason for which the buffers refuse it, or because memory ran out
-    -- for the bytes that leave
+    -- if the step is refused on the buffers, the world refuses it for the same reason: the step's
+    -- own, or lack of memory for the bytes that the step removes
     pub transfer_refused : (keeps : Bool) (e : Refusal) → keeps ≡ true → Refuses sock.sock_reason sock.TakesMemory before step e
         → Refuses parts_reason (λ (k : WorldParts) (op : Step). (keeps ≡ true) × TakesMemory k op) m step e
     transfer_refused keeps e is_kept (inl why) = inl (ap refusal_of (buffers_refused e why))

@@ -47,7 +47,8 @@ use Rattle.nr_machine.proofs.RowsLemmas.{descriptor_set, row_at, row_past, row_w
 
 -- ---- the steps, as operations on a word
 
--- two ways to continue from a row agree if they agree on the row that is found
+-- if two functions give the same result for the row that is found, continuing with either function
+-- gives the same result
 by_row : {A : Type 0} (r : Result DescriptorRow Refusal) (f h : DescriptorRow → Result A Refusal) → ((row : DescriptorRow) → r ≡ Ok row → f row ≡ h row) → (r >>= f) ≡ (r >>= h)
 by_row (Ok row) f h same = same row refl
 by_row (Err e) f h same = refl
@@ -107,7 +108,7 @@ module _ (m : WorldParts) (g d : ℕ) (o : DescOp) where
   pub waiting_refused : (e : Refusal) → desc_outcome d o m.core ≡ Err e → waiting g d o (meant m) ≡ Err e
   waiting_refused e refused = by_descriptor (slice_get m.core.descriptors.items d) e refl refused
 
-  -- if the descriptor in the parts carries out an operation, the world does too
+  -- if an operation succeeds on the packed descriptor, it succeeds in the represented world too
   pub waiting_leads : (before after : Descriptor) (answer : DescAnswer) → slice_get m.core.descriptors.items d ≡ Some before → desc_op_auxiliary.StepTo before o answer after
       → waiting g d o (meant m)
       ≡ Ok (answer.answer, with_parked (parks o answer.answer) (with_status g (status_after d o answer.answer) (with_descriptor d (row_with m d before) after (meant m))))

@@ -91,7 +91,7 @@ module _ (m : WorldParts) (d : ℕ) (x : Descriptor) (h : IsWorld m) (there : sl
   found : slice_get (meant m).descriptors d ≡ Some row
   found = row_at m.core.descriptors.items m.core.timers.entries d x there
 
-  -- a goroutine that a word of a packed world holds is parked there
+  -- if a descriptor's wait word holds a goroutine, that goroutine is parked at the word's side
   held_parked : (side : Side) (g : ℕ) → of_side side x.words ≡ Held g → slice_get m.core.goroutines.goroutines g ≡ Some (Parked d side)
   held_parked side g is =
       parked_at m.core.goroutines.goroutines g d side

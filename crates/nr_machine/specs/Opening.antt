@@ -6,7 +6,8 @@ use Rattle.nr_rev.specs.Refusing.{◌>>=◌}
 use Rattle.nr_rev.specs.Step.{Outcome, row_of, taken}
 use Rattle.nr_rev.specs.World.{World, with_descriptor}
 
--- the outcome of opening descriptor d for socket s in a world in which its number is taken
+-- the outcome of opening descriptor d for socket s, in a world in which the number d is already
+-- taken
 abbrev pub opening : ℕ → ℕ → World → Outcome
 opening s d w = do
   row ← row_of d w

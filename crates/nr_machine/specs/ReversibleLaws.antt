@@ -49,12 +49,12 @@ steps_unique old step a b new other p q =
 pub weight_is_within : (step : Step) → MOST_WORDS ≤ MOST_WORDS
 weight_is_within step = lit≤ tt
 
--- an outcome that is refused for a reason is the error with this reason
+-- if an outcome's reason for refusal is e, the outcome is the error e
 refused_for : (o : Outcome) (e : Refusal) → refusal_of o ≡ Some e → ◌≡◌ {A = Outcome} o (Err e)
 refused_for (Ok left) e is = cc
 refused_for (Err reason) e is = cc
 
--- running out of memory is never a reason for which a packed world refuses a step
+-- `parts_reason` never says that memory ran out
 pub memory_is_no_reason : (m : WorldParts) (step : Step) → IsWorld m
     → parts_reason m step ≡ Some out_of_memory → ⊥
 memory_is_no_reason m step h is =

@@ -7,8 +7,8 @@ abbrev pub HaveLimit : ℕ → List SockParts → Type 0
 HaveLimit limit socks =
     (s : ℕ) (sock : SockParts) → slice_get socks s ≡ Some sock → sock.limit ≡ limit
 
--- true if each socket from number `first` on that has no lock is closed; the sockets below `locks`
--- have a lock
+-- True if all sockets are closed except those below `first` and those below `locks`. The sockets
+-- below `locks` are those with a lock.
 abbrev pub AreClosedFrom : ℕ → ℕ → List SockParts → Type 0
 AreClosedFrom first locks socks =
     (s : ℕ) (sock : SockParts) → slice_get socks s ≡ Some sock → first ≤ s → locks ≤ s

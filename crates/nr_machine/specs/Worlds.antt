@@ -15,7 +15,7 @@ pub steps_are : (old : WorldParts) (step : Step) (answer : Answer) (new : WorldP
     → StepTo old step answer new → outcome (meant old) step ≡ Ok (answer, meant new)
 steps_are old step answer new leads = leads.leads
 
--- a step of a packed world is refused for the machine's reason
+-- a packed world refuses a step for the same reason as the machine
 pub reasons_are : (old : WorldParts) (step : Step)
     → parts_reason old step ≡ refusal_of (outcome (meant old) step)
 reasons_are old step = λ _. parts_reason old step

@@ -64,9 +64,9 @@ impl World {
         }
     }
 
-    /// Applies the operation of a firing to a descriptor that has been read. The operation has no
-    /// timer orders: this removes the firing, and wakes the goroutines that the descriptor's words
-    /// held.
+    /// Applies the operation of a firing to a descriptor that has been read. Then removes the
+    /// firing, and wakes the goroutines that the descriptor's words held. The operation must not
+    /// request timer changes.
     #[inline(always)]
     pub(crate) fn change_by_firing<K: Keeper<WorldUndo>>(
         &mut self,

@@ -85,7 +85,7 @@ impl Default for WorldDelta {
     }
 }
 
-/// An undo can serve as the place that stores a step's undo.
+/// A variable of this type can store a step's undo: `put` overwrites the variable.
 impl Keeper<WorldUndo> for WorldUndo {
     ghost use Rattle.std.specs.Prelude.{◌≡◌, true};
 

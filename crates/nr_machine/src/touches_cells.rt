@@ -70,7 +70,8 @@ impl World {
         self.core.goroutines.front_of(socket, side)
     }
 
-    // Returns this goroutine and the one that tries again after this one releases a semaphore.
+    // Returns this goroutine and, if it owes a release, the first goroutine in the queue of the
+    // next semaphore. The release lets that goroutine try again.
     fn with_released(&self, goroutine: u32) -> Numbers
         requires { IsWorld self.now }
         ensures { result.items ≡ goroutine ∷ released_by goroutine (meant self.now) }

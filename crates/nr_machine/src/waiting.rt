@@ -199,8 +199,7 @@ impl World {
         Ok(answer)
     }
 
-    /// Changes only the status of a goroutine inside a wait. The new status may be one outside the
-    /// wait.
+    /// Changes only the status of a goroutine inside a wait. The new status may end the wait.
     #[inline(always)]
     fn go_on<K: Keeper<WorldUndo>>(
         &mut self,

@@ -9,9 +9,9 @@ use nr_timers::Timers;
 use std::alloc::Global;
 use std::marker::Model;
 
-/// A world in five packed parts, which takes all its memory when it is made. Contracts see it as
-/// the core and the buffers of all sockets below the limit; `meant` is the world that it
-/// represents.
+/// A world in five packed parts, which takes all its memory when it is made. In contracts, a world
+/// is its core and the buffers of all sockets below the limit. `meant` is the world of `nr_rev`
+/// that a packed world represents.
 #[derive(Drop)]
 pub struct World {
     pub(crate) alloc: Global,

@@ -19,7 +19,7 @@ pub makes_well_formed : {Place : Type 0} (keeps : Bool) (holds : Place → Plain
 makes_well_formed {Place} keeps holds place step old new (Ok answer) timely fits made = step_keeps old step answer new timely fits made.0
 makes_well_formed {Place} keeps holds place step old new (Err reason) timely fits made = subst WellFormed (sym made.1) fits
 
--- making a plan's changes applies its step
+-- applying all edits of a plan makes the plan's step
 pub plan_made : {Place : Type 0} (keeps : Bool) (holds : Place → PlainDelta → Type 0) (place : Place) (step : Step) (old new : World) (plan : Plan) (delta : PlainDelta)
     → LeadsTo step old plan → new ≡ after_edits plan.edits.items old → holds place delta → PlainBack delta new old → delta_weight delta ≤ total_weight plan.edits.items
     → Makes keeps holds place step old (Ok plan.answer) new

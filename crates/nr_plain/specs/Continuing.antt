@@ -18,7 +18,7 @@ pub record Continues (d : ℕ) (row : DescriptorRow) (change : Change) (w : Worl
   pub light : total_weight after.edits.items ≤ total_weight before.edits.items + 42
   pub few : length after.edits.items ≤ length before.edits.items + 4
 
--- true if the change is added to the plan, or is refused for the machine's reason
+-- true if the change is added to the plan, or is refused for the same reason as in the machine
 abbrev pub ContinuesOr : ℕ → DescriptorRow → Change → World → Plan → Result Plan Refusal → Type 0
 ContinuesOr d row change w before (Ok after) = Continues d row change w before after
 ContinuesOr d row change w before (Err reason) =

@@ -34,8 +34,8 @@ IsFrontOf s side count w bytes =
 abbrev pub LeadsBackWithin : ℕ → World → World → PlainDelta → Type 0
 LeadsBackWithin most new old delta = PlainBack delta new old × (delta_weight delta ≤ most)
 
--- True if the step is applied, and the place stores its undo if an undo is kept; or if nothing
--- changes because the step is refused, or because memory runs out for bytes to keep.
+-- True if the step is applied, and its undo is in the place if undos are kept. Also true if nothing
+-- changes because the step is refused, or because memory for the bytes that it removes runs out.
 abbrev pub Makes : {Place : Type 0} → Bool → (Place → PlainDelta → Type 0) → Place → Step → World
     → Result Answer Refusal → World → Type 0
 Makes {Place} keeps holds place step old (Ok answer) new =

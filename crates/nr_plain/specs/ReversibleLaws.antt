@@ -34,12 +34,12 @@ steps_unique old step a b new other p q = same_parts a b new other (sym p ∙ q)
 pub weight_is_within : (step : Step) → MOST_WORDS ≤ MOST_WORDS
 weight_is_within step = lit≤ tt
 
--- if an outcome has a reason for refusal, it is the refusal for that reason
+-- if an outcome's reason for refusal is e, the outcome is the error e
 refused_for : (o : Outcome) (e : Refusal) → refusal_of o ≡ Some e → ◌≡◌ {A = Outcome} o (Err e)
 refused_for (Ok left) e is = cc
 refused_for (Err reason) e is = cc
 
--- lack of memory is never a step's reason
+-- `world_reason` never says that memory ran out
 pub memory_is_no_reason : (w : World) (step : Step) → WellFormed w
     → world_reason w step ≡ Some out_of_memory → ⊥
 memory_is_no_reason w step h is = none_for_memory w step h (refused_for (outcome w step) _ is)

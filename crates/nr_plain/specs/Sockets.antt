@@ -23,7 +23,8 @@ table_view t =
       byte_room = t.byte_room;
     }
 
--- true if no more sockets are open than exist, and each has its room
+-- true if no more sockets are open than exist, and each socket has the table's room for queues and
+-- bytes
 pub record AreRoomed (t : Inside) : Type 0 where
   pub opened : t.opened ≤ length t.all.items
   pub roomed : All (HasRoom t.queue_room t.byte_room) t.all.items

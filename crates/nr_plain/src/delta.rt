@@ -35,7 +35,7 @@ impl PlainDelta {
     }
 }
 
-/// A delta can serve as the place that stores a step's delta.
+/// A variable of this type can store a step's delta: `put` overwrites the variable.
 impl Keeper<PlainDelta> for PlainDelta {
     ghost use Rattle.std.specs.Prelude.{◌≡◌, true};
 

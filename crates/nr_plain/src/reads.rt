@@ -1,4 +1,5 @@
-//! What plans read from a world, and the reasons for which reading fails.
+//! Functions that read parts of a world for a plan. If a read fails, the function returns the
+//! reason for the refusal.
 
 ghost use Rattle.std.specs.Prelude.{◌≡◌, Some, None, MatchResult, slice_get};
 ghost use Rattle.nr_rev.specs.declared.refusal.Refusal.TheVariants.{NoSuchSocket};

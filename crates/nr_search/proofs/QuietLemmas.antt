@@ -39,7 +39,7 @@ step-keeps r n step answer read gives c cannot = go (outcome (world_at r n) step
         ∙ step_keeps_cell (world_at r n) step left.0 left.1 c is cannot
     go (Err reason) is = let none : None ≡ Some answer = sym (ap answer_of is) ∙ sym (ap (option_and_then (λ s. answer_of (outcome (world_at r n) s))) read) ∙ gives in cc
 
--- true if the step `made` changes no cell that its kind can't change
+-- true if the step `made` changes only cells that steps of its kind can change
 abbrev pub Keeps : NextStep → World → World → Type 0
 Keeps made before after = (c : Cell) → can_change made.kind c ≡ false → cell after c ≡ cell before c
 
@@ -99,7 +99,7 @@ remembers-on made before after marks values keeps none remembered =
 pub numbered-same : (n : ℕ) (kind found : Kind) → n ≡ kind_number kind → kind_numbered n ≡ Some found → found ≡ kind
 numbered-same n kind found is at = let both : Some found ≡ Some kind = sym at ∙ ap kind_numbered is ∙ kind_counted kind in cc
 
--- `kind_numbered` finds a kind for the number of each kind
+-- given the number of a kind, `kind_numbered` is not `None`
 pub numbered-some : (n : ℕ) (kind : Kind) → n ≡ kind_number kind → kind_numbered n ≡ None → ⊥
 numbered-some n kind is none = let both : None ≡ Some kind = sym none ∙ ap kind_numbered is ∙ kind_counted kind in cc
 

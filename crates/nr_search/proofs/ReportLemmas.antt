@@ -51,7 +51,7 @@ noted-more (first ∷ by_worker) one_worker s =
 same-or-other : (a b : ℕ) → (a ≡ b) ⊎ (a ≢ b)
 same-or-other a b = grind arith
 
--- noting no reports changes no slot
+-- an empty list of reports leaves all slots unchanged
 pub adds-none : (slots : List Slot) → AddsTo slots (λ s. Unknown) slots
 adds-none slots = record { each = λ s within. sym (first_known-none (slot_of slots s)); count = refl }
 
@@ -82,7 +82,8 @@ module _ {X : Type 0} (items : X → List Report) where
       adds-next slots slots' slots'' (noted (map items (take i by_worker))) (said_in (items one_worker)) (noted (map items (take (i + 1) by_worker)))
       (λ s. ap (λ rs. noted rs s) more ∙ noted-more (map items (take i by_worker)) (items one_worker) s)
 
--- a slot that is `Unknown` contains, after reports are noted in it, what they say about its segment
+-- if all slots were `Unknown`, then after reports are noted, each slot is what the reports say
+-- about its segment
 blank : (n s : ℕ) → s < n → slot_of (replicate n Unknown) s ≡ Unknown
 blank n s within =
     ap or_unknown (slice_get-get_or (replicate n Unknown) s Unknown (omega (arith, length-replicate n Unknown, within)) ∙ ap Some (get_or-replicate n s Unknown Unknown within))

@@ -22,8 +22,8 @@ some-between after last every first count s some begins enters needed low high =
 split : (a b : ℕ) → (a < b) ⊎ (b ≤ a)
 split a b = grind arith
 
--- The segment number that borders the first k segments in search order. Forwards, these k segments
--- have lower numbers. Backwards, they have this number or higher ones.
+-- The segment number at which the first k segments in search order end. Forwards, their numbers are
+-- all lower. Backwards, their numbers are all at least this number.
 abbrev pub border : Direction → ℕ → ℕ → ℕ → ℕ
 border Forward first count k = first + k
 border Backward first count k = first + (count - k)

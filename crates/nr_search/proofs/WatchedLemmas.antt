@@ -24,7 +24,7 @@ numbers-next number p xs i x so_far here within read before now =
     ∙ ap (λ y. map number (filter p (take i xs) ++ cond (p y) (y ∷ []) [])) read
     ∙ ap (map number) (sym (filter_more p xs i x within))
 
--- the reported numbers after a mark, whether it hits or not
+-- the list of reported numbers after one more mark was checked, whether it hits or not
 pub reported-hit : (ns' ns : List ℕ) (n : ℕ) (here : Bool) → here ≡ true → ns' ≡ ns ++ n ∷ [] → ns' ≡ ns ++ cond here (n ∷ []) []
 reported-hit ns' ns n here is reported = reported ∙ ap (λ b. ns ++ cond b (n ∷ []) []) (sym is)
 

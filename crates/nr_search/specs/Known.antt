@@ -14,12 +14,12 @@ IsFoundIn span hits s found =
     IsFound span.direction hits (from_of span.after span.every s + 1)
     (to_of span.last span.every s + 1) found
 
--- true if the slot is right about the segment: if the slot contains a search result, this is the
+-- true if the slot is correct for the segment: if the slot contains a search result, this is the
 -- result of searching the segment
 pub record IsTrue (span : Span) (hits : ℕ → List ℕ) (s : ℕ) (slot : Slot) : Type 0 where
   pub found : (found : Found) → slot ≡ Searched found → IsFoundIn span hits s found
 
--- true if each slot is right about its segment
+-- true if each slot is correct for its segment
 pub record AreTrue (span : Span) (hits : ℕ → List ℕ) (known : ℕ → Slot) : Type 0 where
   pub each : (s : ℕ) → IsTrue span hits s (known s)
 

@@ -1,5 +1,5 @@
--- The nearest hit: the least position above a given one, or the greatest below it, at which a mark
--- hits.
+-- The nearest hit. Forwards, it is the first position after a given one at which a mark hits.
+-- Backwards, it is the last such position before the given one.
 use Rattle.std.specs.Prelude.{ℕ, zero, suc, ◌+◌, ◌-◌, ◌<◌, List, [], ◌∷◌, length}
 use Rattle.nr_rev.specs.Run.{Recording}
 use Rattle.nr_marks.specs.Hit.{hits_at}

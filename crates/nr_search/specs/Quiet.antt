@@ -31,8 +31,8 @@ any_changed kind marks = list_any (λ m. is_changed_by kind m.item) marks
 abbrev pub any_stopped : Option NextStep → List NumberedMark → Bool
 any_stopped next marks = list_any (λ m. is_stopped_by next m.item) marks
 
--- True if the table contains, at the number of each kind of step, whether a mark watches a cell
--- that such a step can change.
+-- True if the table has one entry for each kind of step, at the kind's number. The entry says
+-- whether a mark watches a cell that such a step can change.
 pub record AreChanging (marks : List NumberedMark) (changing : List Bool) : Type 0 where
   pub each : (kind : Kind) → slice_get changing (kind_number kind) ≡ Some (any_changed kind marks)
 

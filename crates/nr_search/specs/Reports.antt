@@ -13,7 +13,7 @@ abbrev pub slot_from : Result Found Memory → Slot
 slot_from (Ok found) = Searched found
 slot_from (Err refused) = Refused refused
 
--- true if a report says something about its segment and is right
+-- true if a report says something about its segment and is correct
 pub record IsReport (span : Span) (hits : ℕ → List ℕ) (report : Report) : Type 0 where
   pub known : is_known report.slot ≡ true
   pub holds : IsTrue span hits report.segment report.slot
@@ -28,13 +28,14 @@ first_known Unknown said = said
 abbrev pub said_by : Report → ℕ → Slot
 said_by report s = if report.segment == s then report.slot else Unknown
 
--- What one worker's reports say about segment s. The first report on it counts.
+-- What one worker's reports say about segment s. If several reports are about s, the first one is
+-- used.
 abbrev pub said_in : List Report → ℕ → Slot
 said_in [] s = Unknown
 said_in (report ∷ reports) s = first_known (said_by report s) (said_in reports s)
 
--- What the reports of all workers say about segment s. Each worker has a row of reports. The first
--- report on s counts, in the order of the rows.
+-- What the reports of all workers say about segment s. Each worker has a row of reports. If several
+-- reports are about s, the first one in the order of the rows is used.
 abbrev pub noted : List (List Report) → ℕ → Slot
 noted [] s = Unknown
 noted (one_worker ∷ by_worker) s = first_known (said_in one_worker s) (noted by_worker s)

@@ -2,8 +2,8 @@
 -- Their numbers begin at 0.
 use Rattle.std.specs.Prelude.{ℕ, ◌+◌, ◌*◌, max, min}
 
--- Of the positions after `after` and up to `last`, those in segment s lie after `from_of` and up to
--- `to_of`.
+-- A search visits each position p with `after` < p ≤ `last`. Those with `from_of` < p ≤ `to_of` are
+-- in segment s.
 abbrev pub from_of : ℕ → ℕ → ℕ → ℕ
 from_of after every s = max after (s * every)
 

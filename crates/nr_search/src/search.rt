@@ -35,7 +35,7 @@ impl<'a, W: Worlds + Drop> Search<'a, W>
 where
     W::Snapshot: Drop,
 {
-    /// Makes a search of the positions after `after` and up to `last`.
+    /// Makes a search that visits each position p with `after` < p ≤ `last`.
     pub fn new(
         film: &'a Film<W>,
         marks: &'a Marks,

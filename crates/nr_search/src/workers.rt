@@ -30,8 +30,8 @@ pub const MOST_WORKERS: usize = 16;
 const MOST_AT_ONCE: usize = 8;
 
 /// A search by several workers, each in a thread of its own if one can be started. The workers
-/// claim the segments between the film's copies in the order of the search. Contracts see the
-/// number of workers.
+/// claim the segments between the film's copies in the order of the search. In contracts, a
+/// `ManyWorkers` is its number of workers.
 #[derive(Debug, Drop)]
 pub struct ManyWorkers<R: Threads + Sync, G: Gate + Sync> {
     rt: R,
@@ -52,8 +52,8 @@ impl<R: Threads + Sync, G: Gate + Sync> Model for ManyWorkers<R, G> {
 }
 
 impl<R: Threads + Sync, G: Gate + Sync> ManyWorkers<R, G> {
-    /// Makes a finder with `workers` workers. Each worker passes the gate for each segment that it
-    /// searches.
+    /// Makes a finder with `workers` workers. Each worker notifies the gate before and after it
+    /// searches a segment.
     pub fn new(rt: R, alloc: Global, gate: G, workers: usize) -> ManyWorkers<R, G>
         requires least { LEAST_WORKERS ≤ workers }
         requires most { workers ≤ MOST_WORKERS }

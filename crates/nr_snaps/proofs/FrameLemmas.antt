@@ -13,7 +13,7 @@ use Rattle.nr_snaps.specs.Film.{Reel, IsFrame}
 
 module _ {State : Type 0} (steps : State → Step → Answer → State → Type 0)
     (unique : (old : State) (op : Step) (a b : Answer) (new other : State) → steps old op a new → steps old op b other → (a ≡ b) × (new ≡ other)) (r : Recording) where
-  -- a step turns a state into only one other state
+  -- from each state, the step at a position leads to at most one state
   LeadsOn-unique : (n : ℕ) (old a b : State) → LeadsOn steps r n old a → LeadsOn steps r n old b → a ≡ b
   LeadsOn-unique n old a b p q =
       let both : Some p.step ≡ Some q.step = sym p.next ∙ q.next in

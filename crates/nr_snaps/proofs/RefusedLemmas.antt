@@ -13,7 +13,7 @@ use Rattle.nr_snaps.specs.Fault.{IsStepFault}
 use Rattle.nr_snaps.specs.declared.fault.LoadFault.{LoadFault}
 use Rattle.nr_snaps.specs.declared.fault.LoadFault.TheVariants as fault
 
--- taking n items of the first m items is taking the first n, if n < m
+-- if n < m, the first n of the first m items of a list are the first n items of the list
 take_of_take : {X : Type 0} (xs : List X) (n m : ℕ) → n < m → take n (take m xs) ≡ take n xs
 take_of_take xs zero (suc m) less = refl
 take_of_take [] (suc n) (suc m) less = refl

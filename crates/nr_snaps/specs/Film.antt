@@ -1,4 +1,4 @@
--- A film: a recording whose steps all apply, with copies of states of its replay.
+-- A film: a recording whose steps all apply, with stored copies of the replay's states.
 use Rattle.std.specs.Prelude.{◌≡◌, ℕ, ◌+◌, ◌*◌, ◌/◌, ◌≤◌, List, length, slice_get, Some}
 use Rattle.nr_rev.specs.Run.{IsGood, Recording}
 use Rattle.nr_rev.specs.Auxiliary.Run.{IsWorldAt}

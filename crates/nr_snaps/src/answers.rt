@@ -11,9 +11,9 @@ impl<W: Worlds + Drop> Film<W>
 where
     W::Snapshot: Drop,
 {
-    /// Returns a recording in version 2 of the film's steps, each with the answer that it gives,
-    /// even if a recording in version 1 was loaded. Allocates memory for a world, for the lists of
-    /// steps and answers, and for the bytes in steps. Fails if memory runs out.
+    /// Returns the film's steps with their answers, as a recording in version 2. The loaded
+    /// recording may be in version 1. Allocates memory for a world, for the lists of steps and
+    /// answers, and for the bytes in steps. Fails if memory runs out.
     pub fn with_answers(&self) -> Result<Recording, Memory>
         ensures { IfOk result (λ recorded. recorded ≡ answered self.now.recording) }
     {

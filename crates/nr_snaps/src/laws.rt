@@ -27,8 +27,8 @@ pub fn the_numbers()
 {}
 
 /// If a recording has a fault at a step, then some step is refused or gives an answer other than
-/// the recorded one, and the recording has no other fault. So the step and the reason that `load`
-/// reports are the only ones.
+/// the recorded one, and the recording has no other fault. So `load` can report only this step and
+/// this reason.
 pub fn a_recording_has_one_fault()
     ensures bad { (r : Recorded) (fault : LoadFault) → IsStepFault r fault → ¬ (IsGood (run_of r) × AnswersAgree r) }
     ensures exact { (r : Recorded) (fault other : LoadFault) → IsStepFault r fault → IsStepFault r other → fault ≡ other }

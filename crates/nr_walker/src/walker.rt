@@ -23,9 +23,9 @@ pub const MOST_DEPTH: usize = 65_536;
 /// A world at a position of a film, with the deltas of the last steps.
 ///
 /// The delta of the step after position k is written to place k modulo `depth + 1` and stays there.
-/// There is one more place than kept deltas, so the next step overwrites no kept delta, even if the
-/// step is refused. `new` allocates the memory for all places; a place is initialized when a step
-/// first needs it.
+/// At most `depth` deltas are kept, so one place is always unused. Therefore the next step
+/// overwrites no kept delta, even if the step is refused. `new` allocates the memory for all
+/// places; a place is initialized when a step first needs it.
 #[derive(Drop)]
 pub struct Walker<'f, W: Worlds + Drop>
 where
@@ -136,10 +136,10 @@ where
 
     /// Goes to position n, and returns the cost.
     ///
-    /// If the walker keeps all deltas on the way back to n, it undoes them. If n is ahead by fewer
-    /// steps than lie between two copies of the film, it applies those steps. Otherwise it restores
-    /// the film's copy at or below n, drops all deltas, and applies the steps from there. The
-    /// walker keeps the deltas of the last steps that it applied, up to its depth.
+    /// If the walker keeps all deltas on the way back to n, it undoes them. If n is ahead, and
+    /// nearer than the distance between two copies of the film, it applies the steps up to n.
+    /// Otherwise it restores the film's copy at or below n, drops all deltas, and applies the steps
+    /// from there. The walker keeps the deltas of the last steps that it applied, up to its depth.
     ///
     /// Undoing deltas allocates no memory, and a step allocates memory only if bytes leave a
     /// buffer. If memory runs out for such a step, the walker is at the position before it, with

@@ -34,8 +34,8 @@ abbrev pub Made : Outcome → List TimersOp → ℕ → WorldParts → Answer �
 Made due asked most old answer undo new =
     Advanced due asked old answer new × LeadsBackWithin most new old undo
 
--- true if the step is made and the place holds its undo, or if the step is refused for the
--- machine's reason and changes nothing
+-- True if the step is made and the place holds its undo. Also true if the step is refused as its
+-- definition says and changes nothing.
 abbrev pub Makes : {Place : Type 0} → (Place → WorldUndo → Type 0) → Place → Outcome
     → List TimersOp → WorldParts → Result Answer Refusal → WorldParts → Type 0
 Makes {Place} holds place due asked old (Ok answer) new =
@@ -43,7 +43,7 @@ Makes {Place} holds place due asked old (Ok answer) new =
 Makes {Place} holds place due asked old (Err e) new = (due ≡ Err e) × (new ≡ old)
 
 -- True if the step is made, and its undo is in the place if undos are kept. Also true if nothing
--- changes because the step is refused, or because memory runs out for the bytes to keep.
+-- changes because the step is refused, or because memory for the bytes that it removes runs out.
 abbrev pub MakesStep : {Place : Type 0} → Bool → (Place → WorldUndo → Type 0) → Place → Step
     → WorldParts → Result Answer Refusal → WorldParts → Type 0
 MakesStep {Place} keeps holds place step old (Ok answer) new =

@@ -31,8 +31,8 @@ abbrev pub IsFound : Direction → (ℕ → List ℕ) → ℕ → ℕ → Found 
 IsFound direction hits low high (Hit h) = IsNearest direction hits low high h.position h.marks.items
 IsFound direction hits low high Nothing = NoneHits hits low high
 
--- true if the numbers in the result rise, and each belongs to one of the `made` marks, so there are
--- at most that many
+-- True if the mark numbers in a hit are increasing and from 1 to `made`, so that there are at most
+-- `made` of them.
 abbrev pub Rises : ℕ → Found → Type 0
 Rises made (Hit h) = RisesWithin 0 h.marks.items made
 Rises made Nothing = Unit {0}

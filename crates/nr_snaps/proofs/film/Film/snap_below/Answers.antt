@@ -5,7 +5,7 @@ use Rattle.nr_snaps.specs.Film.{IsFrame, Reel}
 use Rattle.nr_snaps.proofs.CopiesLemmas.{div-mono}
 use Rattle.nr_snaps.proofs.film.Film.snap_below.Goals as goal
 
--- the borrowed copy is the one at its position
+-- the borrowed copy stores the state of the replay at the largest multiple of `every` up to n
 pub returns-else-copy-eq0 : goal.returns-else-copy-eq0
 returns-else-copy-eq0 g c =
     let inside = c.self.inside in

@@ -21,7 +21,8 @@ undo_from-requires g c =
     c.place_before-self-inside.result inside.kept inside.depth inside.world inside.places c.index_mut.result.now c.self.invariant.0 some c.place_before-self-inside.ensures c.index_mut.ensures.value in
     (last.0, last.1)
 
--- the walker keeps one delta fewer, and the removed delta's place is now that of the next step
+-- The number of kept deltas falls by one. The next step's delta goes to the place of the removed
+-- delta.
 pub invariant_of-self : goal.invariant_of-self
 invariant_of-self g c =
     let inside = c.self.inside in
