@@ -136,10 +136,6 @@ class Recording:
         """The text before the line with this number."""
         return self.data[: self._starts[number - 1]]
 
-    def before_step(self, number: int) -> bytes:
-        """The text before the line of step `number`, which may be one more than the last step's number."""
-        return self.before_line(self._numbers[number]) if number <= self.length else self.data
-
     def between(self, first: int, last: int) -> bytes:
         """The lines of the steps that lead from one position to another."""
         last = min(last, self.length)

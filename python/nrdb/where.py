@@ -233,11 +233,6 @@ class Lines(AllGoroutines):
         """The tests that ran at a step, each with its package."""
         return [name for first, last, name in self.tests if first <= step <= last]
 
-    def wait_of(self, goroutine: int, position: int) -> Optional[Wait]:
-        """The wait outside the poller that a goroutine is in at a position."""
-        waits = self.waits.get(goroutine, ())
-        return next((one for one in waits if one.first <= position and (not one.last or position < one.last)), None)
-
     def words(self, step: int) -> str:
         """The program's line at a step, and the function that the line calls; empty if unknown."""
         return self.of(step).words()

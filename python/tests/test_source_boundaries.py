@@ -308,12 +308,21 @@ func other() {
 func given(ctx context.Context) {
 	<-ctx.Done()
 }
+
+func oneLine() {
+	ctx, cancel := context.WithCancel(all)
+	defer func() { release(); cancel() }()
+	wait(ctx)
+}
 """
 
 
 @pytest.mark.parametrize(
     "line, context, expected",
-    [(6, "ctx", [(5, True)]), (12, "ctx", [(13, False)]), (18, "ctx", [(5, True), (13, False), (14, False)]), (6, "one", [])],
+    [
+        (6, "ctx", [(5, True)]), (12, "ctx", [(13, False)]), (18, "ctx", [(5, True), (13, False), (14, False), (23, True)]),
+        (24, "ctx", [(23, True)]), (6, "one", []),
+    ],
 )  # fmt: skip
 def test_the_lines_that_cancel_a_context(line: int, context: str, expected: list[tuple[int, bool]]) -> None:
     lines = tuple(CONTEXT.split("\n"))

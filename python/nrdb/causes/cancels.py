@@ -44,10 +44,6 @@ class Cancel(NamedTuple):
     use: Use
     timers: list[Timer]
 
-    @property
-    def is_of_a_limit(self) -> bool:
-        return bool(self.timers)
-
 
 def cancel_before(index: Index, step: int) -> Optional[Cancel]:
     """Why a goroutine made a step: a function that it is in found a channel closed, and the goroutine has used no

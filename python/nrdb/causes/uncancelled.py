@@ -22,6 +22,7 @@ from .source_functions import (
 )
 
 DONE = re.compile(r"<-\s*([\w.]+)\.Done\(\)")
+CALLED = re.compile(r"(?<![\w.])([\w.]+)\(\)")
 MAKES = re.compile(r"([\w.]+), ([\w.]+) :?= context\.With(?:Cancel|Timeout|Deadline)\w*\(")
 
 
@@ -73,12 +74,16 @@ def cancels_of(source: Lines, call: Call, context: str) -> list[Cancelling]:
     for number, text in enumerate(source, 1):
         if is_local and number not in whole:
             continue
-        called = re.search(r"(defer )?(?<![\w.])([\w.]+)\(\)", text.partition("//")[0])
-        if called and any(is_same_variable(name, called[2], True) for name in names):
+        code = text.partition("//")[0]
+        called = next(
+            (one for one in CALLED.finditer(code) if any(is_same_variable(name, one[1], True) for name in names)), None
+        )
+        if called:
             of_literal = Call(f"{owner(call.function)}.func1", call.file, number, call.of)
             within = range_of(source, of_literal) or range(0)
             begin = begin_of_literal(source, number)
-            found.append(Cancelling(number, bool(called[1]) or bool(begin and "defer " in source[begin - 1]), within))
+            before = code[: called.start()] + (source[begin - 1] if begin else "")
+            found.append(Cancelling(number, "defer " in before, within))
     return found
 
 
