@@ -8,7 +8,7 @@ use Rattle.std.proofs.lemmas.Map.Keys.{IsDistinct-cons}
 use Rattle.std.specs.List.{AllByRecursion, IsDistinct, list_any}
 use Rattle.std.specs.Prelude.{count_by}
 
--- how often a number is in a list
+-- how many times a number occurs in a list
 abbrev pub times : ℕ → List ℕ → ℕ
 times k xs = count_by (λ x. nat_eq x k) xs
 

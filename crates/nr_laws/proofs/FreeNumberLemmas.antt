@@ -1,4 +1,5 @@
--- Whether a number is free, how often the free list contains it, and how long that list can be.
+-- Whether a number is free, how many times the free list contains it, and how long that list can
+-- be.
 use Rattle.std.proofs.Common.{◌≡◌, ℕ, Bool, true, ◌||◌, refl, false, [], inr, sym, ap, ◌∙◌, arith, true≢false, ◌≢◌, List, ◌∷◌, ◌⊎◌, inl, ap₂, ◌<◌, length, Option, Some, None, Result, Ok, Err}
 use Rattle.std.proofs.lemmas.Option.{slice_get_within}
 use Rattle.std.specs.Prelude.{◌==◌, OnOk, count_by, slice_get}

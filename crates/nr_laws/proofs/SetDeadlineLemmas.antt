@@ -41,7 +41,7 @@ wants_alike Write a b e = ap (λ (x : Sides ℤ). is_positive x.write && not (is
 function_alike : (side : Side) (a b : Descriptor) → a.deadlines ≡ b.deadlines → timer_function side a ≡ timer_function side b
 function_alike side a b e = function_like side b a (combo_alike a b e)
 
--- a side's timer afterwards doesn't depend on the other side
+-- the timer that a side has after an update doesn't depend on the other side
 followed_alike : (side : Side) (old a b : Descriptor) (orders : List TimerOrder) → b.deadlines ≡ a.deadlines → of_side side b.running ≡ of_side side a.running
     → of_side side b.sequences ≡ of_side side a.sequences → UpdatedBy side old a orders → UpdatedBy side old b orders
 followed_alike side old a b orders d r q (TimerUpdate.Kept sequence running same, none) =
@@ -98,8 +98,8 @@ Ends-update side old new before n (TimerUpdate.Stopped raised halted) =
 Ends-updated_by : (side : Side) (old new : Descriptor) (before : Sides (Option Timer)) (n : ℕ) (orders : List TimerOrder) → UpdatedBy side old new orders → OrdersEnd side old new before n orders
 Ends-updated_by side old new before n orders (update, is) = subst (OrdersEnd side old new before n) (sym is) (Ends-update side old new before n update)
 
--- If an update leaves a side with timer t, then t is the old timer, or the update also leaves t if
--- the side had no timer.
+-- If a side has timer t after an update, then either the side had t before, or the update gives it
+-- t even if it had no timer before.
 old_or_new : (side : Side) (old new : Descriptor) (before : Option Timer) (n : ℕ) (update : TimerUpdate side old new) (t : Timer) → timer_left side old new before n update ≡ Some t
     → (before ≡ Some t) ⊎ (timer_left side old new None n update ≡ Some t)
 old_or_new side old new before n (TimerUpdate.Kept sequence running same) t is = inl is

@@ -76,7 +76,8 @@ GoroutinesFit-moved gs sockets rows free g old new at may h =
           ];
     }
 
--- any goroutine may move to a status outside of all waits that names no socket and owes nothing
+-- any goroutine may get a new status if that status is outside all waits, names no socket and owes
+-- no releases
 pub may_leave : (w : World) (g : ℕ) (new : Status) → wait_of new ≡ None → socket_named new ≡ None → owed_of new ≡ None → MayMove w.goroutines w.sockets w.descriptors w.free g new
 may_leave w g new none unnamed owes_none =
     record {
@@ -153,7 +154,7 @@ owing_outside s owed = go (owed.read + owed.write == 0)
     go true = refl
     go false = refl
 
--- a goroutine outside of all waits changes its status, and then owes an operation's releases
+-- a goroutine outside all waits changes its status, and then owes the releases of an operation
 pub comes_to_owe : (w : World) (g s : ℕ) (old : Status) (owed : Sides ℕ) → WellFormed w → slice_get w.goroutines g ≡ Some old → is_outside old ≡ true → s < length w.sockets
     → ((side : Side) → IsField (of_side side owed)) → WellFormed (with_status g (owing s owed) w)
 comes_to_owe w g s old owed h at was_outside within small =

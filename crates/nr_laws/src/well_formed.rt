@@ -50,7 +50,8 @@ pub fn words_where_taken_up()
         → ¬ HasWaitWord w.descriptors d side (Held k) }
 {}
 
-/// The descriptor or socket that a status, a heap entry or a firing names exists, so looking it up never fails.
+/// If a status, a heap entry or a firing names a descriptor or socket, that descriptor or socket exists, and looking it
+/// up never fails.
 pub fn what_is_named_is_there()
     ensures place { (w : World) (g d : ℕ) (side : Side) → WellFormed w
         → IsInside w.goroutines g d side

@@ -29,7 +29,7 @@ or_2 w = or_pow w 1
 pub or_4 : (w : ℕ) → bit_or w 4 + w / 4 % 2 * 4 ≡ w + 4
 or_4 w = or_pow w 2
 
--- a test of the lowest bit, turned into a number, is that bit
+-- `bit (n % 2 == 1)`, which is 1 if n is odd and otherwise 0, is the lowest bit of n
 pub bit_of : (n : ℕ) → bit (n % 2 == 1) ≡ n % 2
 bit_of n = elim (eqb_tells (n % 2) 1) [ inl p ↦ ap bit p.0 ∙ sym p.1 | inr p ↦ ap bit p.0 ∙ omega (arith, p.1) ]
 
@@ -37,7 +37,7 @@ pub bit_small : (b : Bool) → bit b < 2
 bit_small true = omega arith
 bit_small false = omega arith
 
--- a number made from a truth value is 1 exactly if the value is true
+-- a Boolean, converted to a number, is 1 if and only if it is true
 pub test_of : (b : Bool) (n : ℕ) → n ≡ bit b → (n == 1) ≡ b
 test_of true n is = rw is refl
 test_of false n is = rw is refl

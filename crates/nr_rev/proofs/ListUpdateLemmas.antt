@@ -1,4 +1,5 @@
--- Lemmas about the element at a place of a list, or a view of it, after a push or a write.
+-- Lemmas about the element at an index of a list after a push or a write, and about functions of
+-- that element.
 use Rattle.std.proofs.Common.{◌≡◌, ◌≢◌, ℕ, zero, suc, List, [], ◌∷◌, ◌++◌, length, get_or, set, ◌<◌, Option, Some, None, ◌⊎◌, inl, inr, refl, sym, ap, subst, ◌∙◌, arith}
 use Rattle.std.proofs.lemmas.List.{set-set, set-get_or}
 use Rattle.std.proofs.lemmas.Option.{same_Some, slice_get-get_or}
@@ -32,7 +33,8 @@ slice_get-set_here [] i old new e = cc
 slice_get-set_here (x ∷ xs) zero old new e = refl
 slice_get-set_here (x ∷ xs) (suc i) old new e = slice_get-set_here xs i old new e
 
--- a write doesn't change a view that is the same for the new element as for the old one
+-- if f has the same value for the new element as for the old one, a write doesn't change f at any
+-- index
 pub slice_get-set_unseen : {X B : Type 0} (f : Option X → B) (xs : List X) (i : ℕ) (old new : X) (j : ℕ) → slice_get xs i ≡ Some old → f (Some new) ≡ f (Some old)
     → f (slice_get (set xs i new) j) ≡ f (slice_get xs j)
 slice_get-set_unseen f [] i old new j at e = refl

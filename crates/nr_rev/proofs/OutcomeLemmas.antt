@@ -1,5 +1,5 @@
--- Lemmas about the parts of a step's definition in a well-formed world: the properties of their
--- values, and the reasons for which they may refuse the step.
+-- Lemmas about the parts of a step's definition in a well-formed world: the properties of the value
+-- that a part gives, and the reasons for which a part may refuse the step.
 use Rattle.std.specs.Prelude.{◌+◌, ◌-◌, ◌^◌, nat_lt, if◌then◌else◌}
 use Rattle.std.proofs.Common.{◌≡◌, ℕ, ◌<◌, Bool, true, false, Option, Some, None, Result, Ok, Err, refl, sym, ap, subst, ◌∙◌, arith}
 use Rattle.nr_rev.specs.declared.answer.Answer.{Answer}

@@ -59,7 +59,7 @@ cells_at (Some i) =
 abbrev pub cell_named : List ℕ → Option ℕ → Option Cell
 cell_named name index = find (λ cell. bytes_eq (cell_name cell) name) (cells_at index)
 
--- the number of a cell's sort, which doesn't depend on its goroutine, socket or descriptor
+-- the number of the cell's kind, which doesn't depend on its goroutine, socket or descriptor
 abbrev pub cell_number : Cell → ℕ
 cell_number Cell.Clock = 1
 cell_number Cell.Waiters = 2
@@ -82,6 +82,6 @@ cell_number (Cell.DescriptorSequence i) = 18
 cell_number (Cell.Info i) = 19
 cell_number (Cell.Shut i) = 20
 
--- the cell whose sort has this number, with this index, or without an index if none is given
+-- The cell of the kind with this number. It has the given index, or no index if none is given.
 abbrev pub cell_numbered : ℕ → Option ℕ → Option Cell
 cell_numbered number index = find (λ cell. cell_number cell == number) (cells_at index)

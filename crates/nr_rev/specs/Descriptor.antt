@@ -57,7 +57,7 @@ abbrev pub summary : Descriptor → ℕ
 summary d = bit d.closing + 2 * bit d.event_error + 4 * bit (is_expired Read d)
     + 8 * bit (is_expired Write d)
 
--- true if two truth values are the same
+-- true if two Booleans are equal
 abbrev pub same_bool : Bool → Bool → Bool
 same_bool true b = b
 same_bool false b = not b
@@ -229,7 +229,7 @@ abbrev pub is_current : TimerFunction → ℕ → Descriptor → Bool
 is_current function sequence d = sequence == of_side (side_of_function function) d.sequences
 
 -- True if each side that the function covers has a future deadline, and the function's timer runs.
--- If the function covers both sides, that is the read timer.
+-- A function that covers both sides uses the read timer.
 abbrev pub is_timed : TimerFunction → Descriptor → Bool
 is_timed TimerFunction.Read d = is_positive d.deadlines.read && d.running.read
 is_timed TimerFunction.Write d = is_positive d.deadlines.write && d.running.write
@@ -244,8 +244,8 @@ change_by_firing function sequence d =
       Ok (Some (then_if (then_if (quiet d) (covers_side function Read) (expire Read))
           (covers_side function Write) (expire Write))))
 
--- pollevent: stores the reported event error, and makes the sides that the mode names ready, the
--- read side first
+-- pollevent: stores the reported event error. Each side that the mode names becomes ready, the read
+-- side first.
 abbrev pub change_by_event : Mode → Bool → Descriptor → Change
 change_by_event mode error d =
     then_if (then_if (quiet (record d { event_error = error })) (names_side mode Read)

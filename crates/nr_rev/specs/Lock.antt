@@ -12,7 +12,7 @@ use Rattle.nr_rev.specs.declared.lock.LockOutcome.{LockOutcome}
 abbrev pub open_lock : Lock
 open_lock = record { closed = false; locked = twice false; references = 0; waiters = twice 0 }
 
--- a truth value as a number: 1 if true, 0 if false
+-- a Boolean as a number: 1 if true, 0 if false
 abbrev pub bit : Bool → ℕ
 bit true = 1
 bit false = 0
@@ -77,7 +77,7 @@ rw_lock side lock =
       Ok (answered Answer.Yes
           (record lock { locked = with_side side true lock.locked; references = references }))))
 
--- fdMutex.rwunlock: owes one release of the side if it had a waiter
+-- fdMutex.rwunlock: if the side had a waiter, the goroutine owes one release of that side
 abbrev pub rw_unlock : Side → Lock → Result LockOutcome Refusal
 rw_unlock side lock = do
   refused_if (not (of_side side lock.locked) || (lock.references == 0)) Refusal.InconsistentLock

@@ -248,8 +248,8 @@ sysread g s n w = do
     with_socket s (with_buffer Read (drop n input) socket) w,
   )
 
--- the answer of a write that puts k bytes: a broken pipe if the write side is shut, or else k if
--- there are any, or else try again
+-- The answer of a write whose buffer has room for k of its bytes. If the write side is shut, the
+-- answer is a broken pipe. Otherwise it is k, or "try again" if k is 0.
 abbrev pub write_answer : ℕ → Bool → Answer
 write_answer k shut = if shut then Pipe else (if nat_lt 0 k then Put k else Again)
 
@@ -428,8 +428,8 @@ abbrev pub with_wait : ℕ → Status → ℕ → Side → WaitWord → Descript
 with_wait g status d side word row w =
     with_status g status (with_descriptor d row (with_wait_word side word row.descriptor) w)
 
--- the result of blockarm by the word that it finds: nil becomes wait; ready is consumed, and the
--- wait ends with code 0
+-- The result of blockarm, given the word that it finds. If the word is nil, it becomes wait. If it
+-- is ready, it is consumed, and the wait ends with code 0.
 abbrev pub armed_by : ℕ → ℕ → Side → WaitWord → DescriptorRow → World → Outcome
 armed_by g d side WaitWord.Nil row w =
     Ok (Wait, with_wait g (Armed d side) d side WaitWord.Wait row w)
@@ -454,8 +454,8 @@ blockcheck g w = do
   let code : ℕ = check side row.descriptor
   Ok (Code code, with_status g (if code == 0 then Parking d side else Swapping d side) w)
 
--- The result of parkcommit, given the wait word that it finds. If the word is wait, it becomes held
--- by g, and g parks. If it is any other word, g goes on to consume it.
+-- The result of parkcommit, given the wait word that it finds. If the word is wait, it then holds
+-- g, and g parks. If it is any other word, g goes on to consume it.
 abbrev pub committed_by : ℕ → ℕ → Side → WaitWord → DescriptorRow → World → Answer × World
 committed_by g d side WaitWord.Wait row w = (
   Yes,
@@ -472,8 +472,8 @@ parkcommit g w = do
   row ← row_of d w
   Ok (committed_by g d side (of_side side row.descriptor.words) row w)
 
--- the result of blockswap by the word that it consumes: ready ends the wait; for any other word, g
--- checks why it was woken
+-- The result of blockswap, given the word that it consumes. If the word is ready, the wait ends. If
+-- it is any other word, g checks why it was woken.
 abbrev pub swapped_by : ℕ → ℕ → Side → WaitWord → DescriptorRow → World → Answer × World
 swapped_by g d side WaitWord.Ready row w = (Yes, with_wait g Idle d side WaitWord.Nil row w)
 swapped_by g d side _ row w = (No, with_wait g (Checking d side) d side WaitWord.Nil row w)
@@ -525,8 +525,8 @@ pop w = do
       with_row entry.descriptor (record row { timers = with_side entry.side None row.timers }) w
   Ok (Done, record next { firings = w.firings ++ entry ∷ [] })
 
--- Runs a firing that was taken off the list. A stale firing does nothing. Any other applies its
--- change to descriptor d.
+-- Runs a firing that was taken off the list. A stale firing does nothing. A current firing applies
+-- its change to descriptor d.
 abbrev pub fired_with : ℕ → DescriptorRow → Option Change → World → Outcome
 fired_with d row None w = Ok (Stale, w)
 fired_with d row (Some change) w = do

@@ -1,6 +1,6 @@
 -- The weight of a value is its size in words. A number has at most 64 bits and counts as one word.
--- A truth value and the tag of a variant count as one word each. Bytes count as one word for each
--- eight bytes, rounded up. These definitions give the size of all data that are kept for undoing.
+-- A Boolean and the tag of a variant count as one word each. Bytes are counted in words of eight
+-- bytes, rounded up. These definitions give the size of all data that are kept for undoing.
 use Rattle.std.specs.Prelude.{ℕ, ◌+◌, ◌/◌, ℤ, Bool, List, length, Option, Some, None}
 use Rattle.nr_rev.specs.declared.sides.Side.{Side}
 use Rattle.nr_rev.specs.declared.sides.Sides.{Sides}
@@ -27,7 +27,7 @@ number_weight n = 1
 abbrev pub time_weight : ℤ → ℕ
 time_weight t = 1
 
--- the weight of a truth value: one word
+-- the weight of a Boolean: one word
 abbrev pub bool_weight : Bool → ℕ
 bool_weight b = 1
 
@@ -73,7 +73,7 @@ status_weight (status.Swapping d side) = wait_weight d side
 status_weight (status.Checking d side) = wait_weight d side
 status_weight status.Gone = variant_weight
 
--- the weight of a lock: the sum for closed, locked, references and waiters
+-- the weight of a lock: the sum of the weights of closed, locked, references and waiters
 abbrev pub lock_weight : Lock → ℕ
 lock_weight lock =
     bool_weight lock.closed + sides_weight bool_weight lock.locked + number_weight lock.references
@@ -83,18 +83,18 @@ lock_weight lock =
 abbrev pub function_weight : TimerFunction → ℕ
 function_weight function = variant_weight
 
--- the weight of a timer: the sum for due, number, function and sequence
+-- the weight of a timer: the sum of the weights of due, number, function and sequence
 abbrev pub timer_weight : Timer → ℕ
 timer_weight timer =
     time_weight timer.due + number_weight timer.number + function_weight timer.function
     + number_weight timer.sequence
 
--- the weight of a heap entry: the sum for its descriptor number, its side and its timer
+-- the weight of a heap entry: the sum of the weights of its descriptor number, side and timer
 abbrev pub entry_weight : Entry → ℕ
 entry_weight entry =
     number_weight entry.descriptor + side_weight entry.side + timer_weight entry.timer
 
--- the weight of a descriptor: the sum for its eight fields
+-- the weight of a descriptor: the sum of the weights of its eight fields
 abbrev pub descriptor_weight : Descriptor → ℕ
 descriptor_weight d =
     sides_weight wait_word_weight d.words + bool_weight d.closing + bool_weight d.event_error
@@ -104,7 +104,7 @@ descriptor_weight d =
     + number_weight d.fdseq
     + number_weight d.socket
 
--- the weight of a row: the sum for its descriptor and the armed timers
+-- the weight of a row: the sum of the weights of its descriptor and the armed timers
 abbrev pub row_weight : DescriptorRow → ℕ
 row_weight row =
     descriptor_weight row.descriptor + sides_weight (option_weight timer_weight) row.timers

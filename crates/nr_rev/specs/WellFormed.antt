@@ -30,8 +30,8 @@ abbrev pub parked_of : Status → Option (ℕ × Side)
 parked_of (Parked d side) = Some (d, side)
 parked_of _ = None
 
--- the descriptor and side at which a goroutine with this status waits, if the wait word there may
--- be wait
+-- The descriptor and side of the goroutine's wait, if the status is one at which the side's wait
+-- word may have the value wait.
 abbrev pub awaiting_of : Status → Option (ℕ × Side)
 awaiting_of (Armed d side) = Some (d, side)
 awaiting_of (Parking d side) = Some (d, side)
@@ -97,9 +97,9 @@ pub record IsDueFor (d : Descriptor) (firing : Entry) : Type 0 where
   pub running : of_side firing.side d.running ≡ true
   pub function : firing.timer.function ≡ timer_function firing.side d
 
--- A firing of descriptor d has the side that its timer function uses, and a sequence no later than
--- that side's current one. If the sequences are equal, each side that the function covers still has
--- the deadline for which the timer was armed.
+-- A firing fits descriptor d if its side is the one that its timer function uses, and its sequence
+-- is at most that side's current sequence in d. If the sequences are equal, each side that the
+-- function covers still has the deadline for which the timer was armed.
 pub record FiringFits (d : Descriptor) (firing : Entry) : Type 0 where
   pub side : firing.side ≡ side_of_function firing.timer.function
   pub sequence : firing.timer.sequence ≤ of_side firing.side d.sequences
@@ -165,20 +165,22 @@ pub record GoroutinesFit (goroutines : List Status) (sockets : List Socket)
   pub owed : (g reads writes : ℕ) → HasView owed_of goroutines g (reads, writes)
       → IsField reads × IsField writes × (0 < reads + writes)
 
--- wait words: they hold exactly the parked goroutines; a word is wait only if a goroutine is about
--- to park or to consume it; and the held goroutines are counted
+-- Wait words: they hold exactly the parked goroutines. A word has the value wait only if a
+-- goroutine is about to park or to consume the word. The number of waiters is the number of
+-- goroutines that wait words hold.
 pub record WaitWordsFit (goroutines : List Status) (descriptors : List DescriptorRow) (waiters : ℕ)
     : Type 0 where
-  -- a word holds g exactly if g is parked there
+  -- a word holds g if and only if g is parked there
   pub held : (g d : ℕ) (side : Side) → HasWaitWord descriptors d side (Held g)
       ↔ HasView parked_of goroutines g (d, side)
   pub waited : (d : ℕ) (side : Side) → HasWaitWord descriptors d side WaitWord.Wait
       → (g : ℕ) × HasView awaiting_of goroutines g (d, side)
   pub counted : waiters ≡ sum_by held_count descriptors
 
--- semaphore queues: they hold exactly the goroutines whose status is queued there
+-- semaphore queues: each contains exactly the goroutines whose status says that they are queued
+-- there
 pub record QueuesFit (goroutines : List Status) (sockets : List Socket) : Type 0 where
-  -- each goroutine with that queued status is in the queue once, and no other goroutine is
+  -- each goroutine with such a status is in the queue once, and no other goroutine is in the queue
   pub queued : (g s : ℕ) (side : Side) (socket : Socket) → slice_get sockets s ≡ Some socket
       → count_by (λ h. h == g) (of_side side socket.semaphores).queue
       ≡ bit (is_queued s side (slice_get goroutines g))

@@ -74,7 +74,8 @@ two_readers_and_a_close =
 abbrev pub one_reference_given_up_twice : Recording
 one_reference_given_up_twice = recording (SockOpen 1 1 ∷ Incref 0 0 ∷ Decref 0 0 ∷ Decref 0 0 ∷ [])
 
--- a queued goroutine is woken by a release, and another takes the lock before it tries again
+-- a release wakes a queued goroutine, and another goroutine takes the lock before the woken one
+-- tries again
 abbrev pub a_release_without_hand_off : Recording
 a_release_without_hand_off =
     recording (

@@ -74,7 +74,7 @@ wait_of (Swapping d side) = Some (d, side)
 wait_of (Checking d side) = Some (d, side)
 wait_of _ = None
 
--- true if a goroutine is inside a wait, and its descriptor and side are these
+-- true if the given wait exists and is at this side of descriptor d
 abbrev pub is_wait_at : ℕ → Side → Option (ℕ × Side) → Bool
 is_wait_at d side None = false
 is_wait_at d side (Some place) = (d == place.0) && same_side side place.1

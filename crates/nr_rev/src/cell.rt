@@ -5,8 +5,8 @@ ghost use Rattle.std.specs.Str.{bytes_eq};
 ghost use Rattle.nr_rev.specs.CellName.{cell_index, cell_name, cell_named, cell_number, cell_numbered, cells_at};
 
 /// A value that can be read from a world. A cell with a number belongs to the goroutine, socket or
-/// descriptor with that number; if it hasn't been made yet, the value is absent. A closed
-/// descriptor keeps its values.
+/// descriptor with that number. If that goroutine, socket or descriptor hasn't been made yet, the
+/// value is absent. A closed descriptor keeps its values.
 #[derive(Clone, Copy, Debug, PartialEq, Eq)]
 pub enum Cell {
     /// The current time, in nanoseconds.
@@ -140,7 +140,7 @@ impl Cell {
         }
     }
 
-    /// Returns the number of the cell's sort, counted from 1. It doesn't depend on the goroutine,
+    /// Returns the number of the cell's kind, counted from 1. It doesn't depend on the goroutine,
     /// socket or descriptor.
     pub fn number(self) -> u8
         ensures { result ≡ cell_number self }
@@ -205,8 +205,8 @@ impl Cell {
         }
     }
 
-    /// Returns the cell with this index whose sort has this number, counted from 1, if there is one. The index is the
-    /// number of a goroutine, a socket or a descriptor; a cell that belongs to none of these has no index.
+    /// Returns the cell with this index of the kind with this number, counted from 1, if such a cell exists. The index
+    /// is the number of a goroutine, a socket or a descriptor; a cell that belongs to none of these has no index.
     pub fn numbered(number: u8, index: Option<u32>) -> Option<Cell>
         ensures { result ≡ cell_numbered number index }
     {

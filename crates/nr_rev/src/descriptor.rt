@@ -73,8 +73,8 @@ pub fn raised_sequence(sequence: u64) -> Result<u64, Refusal>
     Ok(sequence + 1)
 }
 
-/// Increments both sides' sequences, the read side's first. Fails with `LastNumber` if one is the greatest 64-bit
-/// number.
+/// Increments both sides' sequences, the read side's first. Fails with `LastNumber` if either sequence is the greatest
+/// 64-bit number.
 pub fn both_raised(sequences: Sides<u64>) -> Result<Sides<u64>, Refusal>
     ensures { result ≡ spec.both_raised sequences }
 {

@@ -14,8 +14,8 @@ pub enum Refusal {
     Memory(Memory),
     /// No goroutine with this number was made, or it has ended.
     NoSuchGoroutine,
-    /// The goroutine is in the wrong state for the step: it is not idle, or not at this place of a
-    /// wait.
+    /// The goroutine is in the wrong state for the step: it isn't idle, or it isn't at the point of
+    /// a wait that the step requires.
     NotThere,
     /// There are as many goroutines, sockets or descriptors as the limits allow.
     TableFull,
@@ -40,7 +40,7 @@ pub enum Refusal {
     ClockGoesBack,
     /// No timer is armed, or the first one is not due yet.
     NoTimerDue,
-    /// The number of waiting firings is twice the limit of descriptors, which is the maximum.
+    /// The list of waiting firings is full. Its maximum length is twice the limit of descriptors.
     FiringsFull,
     /// The list of firings has no firing at this place.
     NoSuchFiring,

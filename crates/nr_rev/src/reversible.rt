@@ -21,8 +21,8 @@ pub trait Reversible {
     type Delta;
 
     /// The maximum number of words in a delta, not counting the bytes that left a buffer. A number
-    /// counts as one word for each 64 bits, rounded up. A truth value and the tag of a variant
-    /// count as one word each. Bytes count as one word for each eight bytes, rounded up.
+    /// counts as one word for each 64 bits, rounded up. A Boolean and the tag of a variant count as
+    /// one word each. Bytes are counted in words of eight bytes, rounded up.
     const WORDS: u32;
 
     ghost WORDS: { ℕ };
@@ -77,7 +77,7 @@ pub trait Reversible {
     ghost refused_has_no_step: { (old : Self) (op : Self.Op) (e : Refusal) (answer : Self.Answer)
         (new : Self) → reason old op ≡ Some e → steps old op answer new → ⊥ };
 
-    /// In a well-formed state, the reason is never running out of memory.
+    /// In a well-formed state, the reason is never that memory ran out.
     ghost memory_is_no_reason: { (old : Self) (op : Self.Op) → is_well_formed old
         → reason old op ≡ Some out_of_memory → ⊥ };
 

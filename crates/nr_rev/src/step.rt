@@ -37,7 +37,7 @@ pub enum Step {
         count: u32,
     },
     /// The system call of `FD.Write`: puts as many of the bytes into the output as it has room for. Answers `Put`, or
-    /// `Again` if there is no room. If the write side is shut, it puts nothing and answers `Pipe`, as `write` fails
+    /// `Again` if there is no room. If the write side is shut, it writes no bytes and answers `Pipe`, as `write` fails
     /// with `EPIPE`.
     SysWrite {
         goroutine: u32,
@@ -98,14 +98,15 @@ pub enum Step {
         goroutine: u32,
         descriptor: u32,
     },
-    /// `runtime_pollReset`: resets the word to nil, unless the check forbids a wait. Answers the `Code` of the check.
+    /// `runtime_pollReset`: resets the word to nil, unless the check forbids a wait. Answers `Code` with the result of
+    /// the check.
     PollReset {
         goroutine: u32,
         descriptor: u32,
         side: Side,
     },
-    /// `runtime_pollWait`, from its top: the goroutine enters a wait, unless the check forbids it. Answers the `Code`
-    /// of the check.
+    /// `runtime_pollWait`, from its top: the goroutine enters a wait, unless the check forbids it. Answers `Code` with
+    /// the result of the check.
     WaitBegin {
         goroutine: u32,
         descriptor: u32,
@@ -116,8 +117,8 @@ pub enum Step {
     BlockArm {
         goroutine: u32,
     },
-    /// `netpollblock`, the check after the word was set. Answers its `Code`; if that is 0, the
-    /// goroutine goes on to park.
+    /// `netpollblock`, the check after the word was set. Answers `Code` with the result of the
+    /// check. If the result is 0, the goroutine goes on to park.
     BlockCheck {
         goroutine: u32,
     },
@@ -130,8 +131,8 @@ pub enum Step {
     BlockSwap {
         goroutine: u32,
     },
-    /// `runtime_pollWait`, the check after `netpollblock`. Answers its `Code`; if that is 0, the
-    /// goroutine waits again.
+    /// `runtime_pollWait`, the check after `netpollblock`. Answers `Code` with the result of the
+    /// check. If the result is 0, the goroutine waits again.
     WaitCheck {
         goroutine: u32,
     },

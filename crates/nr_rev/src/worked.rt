@@ -22,8 +22,8 @@ ghost use Rattle.nr_rev.specs.declared.kind.Kind.{Kind};
 ghost use Rattle.nr_rev.specs.declared.step.Step.{Step};
 
 /// The operations of `internal/poll/fd_mutex.go` on single lock words. `increfAndClose` wakes every
-/// waiter of both sides, and `rwunlock` one waiter of its side. `incref` of a word whose reference
-/// count is full, at which Go panics, is refused and changes nothing.
+/// waiter of both sides, and `rwunlock` one waiter of its side. If the reference count of a word is
+/// full, `incref` is refused and changes nothing; Go panics.
 pub fn lock_words_hold()
     ensures three_waiters { lock_number a_lock_with_three_waiters ≡ 8796109799434 }
     ensures three_waiters_closed { lock_left_by (incref_close a_lock_with_three_waiters)

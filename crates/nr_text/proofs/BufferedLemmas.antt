@@ -55,7 +55,7 @@ puts_some start c' sent b n o' has within some failed =
       dropped = refl;
     }
 
--- a text that a failed write cut short is still cut short if more bytes are added to it
+-- if a failed write cut a text short, the text with more bytes appended is also cut short
 cut_before : (start : Outgoing) (sent more : List ℕ) (b : Buffering) → IsCut start sent b → IsCut start (sent ++ more) b
 cut_before start sent more b cut = record {
   out = cut.out;
@@ -98,7 +98,7 @@ puts_directly start c' sent piece held b o' result none still has ok err =
     subst (λ h. SentOrCut start (sent ++ piece) (record { taken = c'; held = h; out = o' }) result) (sym still)
     (subst (λ s. SentOrCut start s (record { taken = c'; held = []; out = o' }) result) (append-nil (sent ++ piece)) done)
 
--- an empty buffer whose count is 0 has sent the empty text
+-- if the buffer is empty and its count is 0, nothing has been sent since this state
 begins : (b : Buffering) → b.held ≡ [] → b.out ≡ 0 → HasSent b.taken [] b
 begins b none no_count = record {
   out = [];

@@ -69,8 +69,8 @@ impl Calls {
     }
 }
 
-/// A log of when the reads were made, with one moment for each read, in order. A moment has the
-/// bytes that had been received and sent by then, and whether the previous read found the end.
+/// A log of when the reads were made, with one moment for each read, in order. Each moment has all
+/// bytes received and all bytes sent before its read, and whether the previous read found the end.
 #[derive(Drop)]
 pub(crate) struct Moments {
     ghost passed: { List Moment } by { moments_code },

@@ -49,7 +49,7 @@ impl Text for Spaced {
     }
 }
 
-/// The text of bytes is the bytes themselves.
+/// A byte slice is a text that consists of its bytes.
 impl Text for &[u8] {
     ghost text = { λ bytes. bytes.now };
 

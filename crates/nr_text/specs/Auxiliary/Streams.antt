@@ -33,8 +33,8 @@ Takes old new buffer (Moved n) =
 Takes old new buffer Interrupted = Sends old new [] × (new.failed ≡ old.failed)
 Takes old new buffer Failed = Sends old new [] × (new.failed ≡ true)
 
--- True if a read received the first bytes of the buffer, or failed. It received no bytes only at
--- the end of the input or if the buffer had no room.
+-- True if a read received the first bytes of the buffer, or failed. If a read succeeded without any
+-- bytes, the input was at its end or the buffer had no room.
 abbrev pub ReadsSome : {E : Type 0} → Incoming → Incoming → List ℕ → Result ℕ E → Type 0
 ReadsSome old new buffer (Ok n) = Reads old new buffer (Moved n)
 ReadsSome old new buffer (Err _) = Reads old new buffer Failed
@@ -45,7 +45,7 @@ abbrev pub TakesSome : {E : Type 0} → Outgoing → Outgoing → List ℕ → R
 TakesSome old new bytes (Ok n) = Takes old new bytes (Moved n)
 TakesSome old new bytes (Err _) = Takes old new bytes Failed
 
--- True if the moment records what the source has received and the sink has sent by now. It records
+-- True if the moment has the bytes that the source received and the sink sent up to now. It records
 -- an end only if the source is at its end.
 abbrev pub IsNow : Incoming → Outgoing → Moment → Type 0
 IsNow input output m =

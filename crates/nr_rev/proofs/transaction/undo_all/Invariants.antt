@@ -2,7 +2,8 @@ use Rattle.std.proofs.Common.{length}
 use Rattle.nr_rev.specs.Transaction.{LeadsBack}
 use Rattle.nr_rev.proofs.transaction.undo_all.Given as goal
 
--- undoing the deltas that are left restores each state that undoing all the deltas restores
+-- if undoing all the deltas restores a state, then undoing the remaining deltas, from the current
+-- state, restores it too
 abbrev pub invariant-loop-delta : goal.invariant-loop-delta
 invariant-loop-delta g l =
     let back = g.S.Reversible.back in
