@@ -1,4 +1,4 @@
--- Lemmas about testing, setting and clearing single bits of the byte of marks.
+-- Lemmas about testing, setting and clearing single bits of the byte that encodes the marks.
 use Rattle.std.proofs.Common.{◌≡◌, ℕ, ◌+◌, ◌*◌, ◌/◌, ◌%◌, ◌<◌, bit_and, bit_or, arith}
 use Rattle.std.proofs.lemmas.Nat.Bits.{and_pow}
 use Rattle.std.proofs.lemmas.Bool.Decides.{nat_tests}

@@ -169,7 +169,7 @@ never_memory : (o : Outcome) → NoMemory o → refusal_of o ≡ Some out_of_mem
 never_memory (Ok made) h is = cc
 never_memory (Err e) h is = h cc
 
--- lack of memory is never an operation's reason
+-- the reason why an operation doesn't apply is never lack of memory
 pub memory_is_no_reason : (old : Descriptor) (op : DescOp) → DescFits old
     → desc_reason old op ≡ Some out_of_memory → ⊥
 memory_is_no_reason old op fits is = never_memory (outcome old op) (outcome_no old op) is

@@ -26,7 +26,7 @@ marks_of n =
       running = record { read = n / 4 % 2 == 1; write = n / 8 % 2 == 1 };
     }
 
--- each byte below 16 is the number of the marks that it encodes
+-- decoding a byte below 16 to marks and encoding these marks again gives the same byte
 pub marks_number-marks_of : (n : ℕ) → n < 16 → marks_number (marks_of n) ≡ n
 marks_number-marks_of n small =
     omega (arith, bit_of n, bit_of (n / 2), bit_of (n / 4), bit_of (n / 8))

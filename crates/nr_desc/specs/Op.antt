@@ -65,7 +65,7 @@ abbrev pub swapped_by : Side → WaitWord → Descriptor → Answer × Change
 swapped_by side Ready d = (Yes, quiet (with_wait_word side Nil d))
 swapped_by side _ d = (No, quiet (with_wait_word side Nil d))
 
--- the outcome of a change, which answers `Done` if it isn't refused
+-- The outcome of a change. The answer is `Done`, unless the change is refused.
 abbrev pub done : Result Change Refusal → Outcome
 done changed = do
   change ← changed

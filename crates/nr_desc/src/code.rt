@@ -29,7 +29,7 @@ impl Model for WordCode {
 }
 
 impl WordCode {
-    /// Returns the code of nil.
+    /// Returns the code of the word `nil`.
     #[inline(always)]
     pub(crate) fn nil() -> WordCode
         ensures { result ≡ Nil }
@@ -37,7 +37,7 @@ impl WordCode {
         WordCode(0)
     }
 
-    /// Returns the code of ready.
+    /// Returns the code of the word `ready`.
     #[inline(always)]
     pub(crate) fn ready() -> WordCode
         ensures { result ≡ Ready }
@@ -45,7 +45,7 @@ impl WordCode {
         WordCode(1)
     }
 
-    /// Returns the code of wait.
+    /// Returns the code of the word `wait`.
     #[inline(always)]
     pub(crate) fn wait() -> WordCode
         ensures { result ≡ Wait }

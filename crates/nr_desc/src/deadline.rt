@@ -98,7 +98,7 @@ fn is_same_time(time: i64, other: i64) -> bool
     time == other
 }
 
-/// Returns whether two truth values are equal.
+/// Returns whether two Booleans are equal.
 #[inline(always)]
 fn is_same_mark(mark: bool, other: bool) -> bool
     ensures { result ≡ spec.same_bool mark other }

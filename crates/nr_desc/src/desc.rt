@@ -12,7 +12,7 @@ use crate::marks::Marks;
 use nr_rev::{Descriptor, Side, Sides, WaitWord};
 use std::marker::Model;
 
-/// A poll descriptor. In contracts, it is the record of its fields.
+/// A poll descriptor. Contracts describe it as a record of its fields.
 #[derive(Clone, Copy, Debug, PartialEq, Eq)]
 pub struct Desc {
     pub(crate) words: Sides<WordCode>,

@@ -21,8 +21,9 @@ pub fn the_woken_were_held()
         → of_side side old.words ≡ Held g }
 {}
 
-/// Each number is the code of exactly one word, and each word has exactly one code. The same holds
-/// for bytes below 16 and marks.
+/// Each number is the code of exactly one word, and each word has exactly one code. Likewise, each
+/// byte below 16 encodes exactly one combination of marks, and each combination has exactly one
+/// such byte.
 pub fn numbers_are_words_and_marks()
     ensures code { (n : ℕ) → code_of (wait_word_of n) ≡ n }
     ensures word { (word : WaitWord) → wait_word_of (code_of word) ≡ word }

@@ -56,7 +56,7 @@ pub enum DescOp {
     Reset(Side),
     /// Checks whether anything prevents a wait (Go's `netpollcheckerr`). Answers `Code`.
     Check(Side),
-    /// Makes a side's word wait, or consumes it if it is ready (the first half of Go's
+    /// Sets a side's word to wait, or consumes the word if it is ready (the first half of Go's
     /// `netpollblock`). Answers `Wait`, or `Code(0)` if the word was ready.
     Arm(Side),
     /// Makes a side's word hold the goroutine, if the word is wait (Go's `netpollblockcommit`).

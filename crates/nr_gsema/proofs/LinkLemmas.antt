@@ -1,4 +1,5 @@
--- Lemmas about a queue linked through nodes that a goroutine joins or leaves at either end.
+-- Lemmas about a queue linked through nodes, when a goroutine joins or leaves the queue at either
+-- end.
 use Rattle.std.proofs.Common.{◌≡◌, ◌≢◌, inl, inr, ℕ, zero, suc, ◌+◌, ◌-◌, ◌<◌, ◌≤◌, Bool, true, false, List, [], ◌∷◌, ◌++◌, length, Option, Some, None, refl, sym, ap, subst, ◌∙◌, arith}
 use Rattle.std.proofs.lemmas.Option.{same_Some, none-some}
 use Rattle.std.specs.Prelude.{slice_get, ◌==◌, if◌then◌else◌}

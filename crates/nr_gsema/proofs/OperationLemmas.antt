@@ -94,13 +94,13 @@ moves t new g status from to found may same movable named after =
       light = subst (λ (st : Status). 2 + status_weight st ≤ 2 + status_weight from) (sym same) (omega arith);
     })
 
--- the semaphores of both sides after the change of one is undone
+-- undoing the change of one side's semaphore restores the semaphores of both sides
 sides_back : (side : Side) (both : Sides Semaphore) (y : Semaphore) (back : Semaphore → Semaphore) → back y ≡ of_side side both
     → with_side side (back (of_side side (with_side side y both))) (with_side side y both) ≡ both
 sides_back Read both y back e = ap (λ (x : Semaphore). record both { read = x }) e
 sides_back Write both y back e = ap (λ (x : Semaphore). record both { write = x }) e
 
--- a goroutine and a semaphore after their changes are undone
+-- undoing the changes of a goroutine and a semaphore restores the table
 back_over : (t : GoroutineTable) (g : ℕ) (status new : Status) (s : ℕ) (side : Side) (both : Sides Semaphore) (y : Semaphore) (back : Semaphore → Semaphore) → slice_get t.goroutines g ≡ Some status
     → slice_get t.semaphores s ≡ Some both → back y ≡ of_side side both
     → t ≡ with_status g status (on_semaphore s side back (with_status g new (with_semaphore s side both y t)))

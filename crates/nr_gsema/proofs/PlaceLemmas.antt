@@ -1,4 +1,5 @@
--- Lemmas about the semaphore at which a goroutine is queued, and how often it is counted there.
+-- Lemmas about the semaphore at which a goroutine is queued, and how many times the goroutine is
+-- counted there.
 use Rattle.std.proofs.Common.{◌≡◌, ◌⊎◌, inl, inr, ℕ, ◌≤◌, Bool, true, false, ◌&&◌, Some, refl, sym, ap, ◌∙◌, arith}
 use Rattle.std.proofs.lemmas.Bool.{cases_eq}
 use Rattle.std.specs.Prelude.{◌==◌}
@@ -14,7 +15,7 @@ use Rattle.nr_rev.proofs.NumberLemmas.{same_number, number_same}
 use Rattle.nr_laws.proofs.BoolLemmas.{both_true, never_true}
 use Rattle.nr_gsema.specs.Links.{is_waiting}
 
--- true if a goroutine with this status is queued at this semaphore, or at none
+-- true if a goroutine with this status is queued at this semaphore, or isn't queued at all
 abbrev pub Near : ℕ → Side → Status → Type 0
 Near s side status = (status ≡ Queued s side) ⊎ (is_waiting status ≡ false)
 

@@ -89,7 +89,8 @@ module _ {nodes : List GoroutineNode} {semaphores : List (Sides SemaphoreHead)} 
       neighbour_read g node node.previous (before g None) there (λ none. (is.queues.alone g node there none).1)
       (λ s side queue first last l some. previous-is nodes (Queued s side) None queue first last l g node there some)
 
-  -- a queue contains a goroutine, once, if and only if the goroutine's status is queued there
+  -- a queue contains a goroutine, once, if and only if the goroutine's status says that it is
+  -- queued there
   pub queued_up : IsQueuedUp t
   queued_up =
       subst IsQueuedUp is.view (record {

@@ -379,7 +379,7 @@ module _ (nodes : List GoroutineNode) (semaphores : List (Sides SemaphoreHead)) 
               ends_somewhere (z ∷ zs) before next b is_b m none = ends_somewhere zs (Some z) m.1.0 z refl m.1.2 none
           by_previous (Some p) e = sym l.0
 
-  -- the goroutine after the front has a node
+  -- if another goroutine follows the front of the queue, it has a node
   pub next_there : (rest : List ℕ) → queue_from nodes (of_side side both) ≡ g ∷ rest → (b : ℕ) → old.next ≡ Some b → b < length nodes
   next_there rest whole b e =
       let x = of_side side both in

@@ -255,7 +255,7 @@ module _ {nodes : List GoroutineNode} {semaphores : List (Sides SemaphoreHead)} 
             ∙ ap (with_status g status) is.view;
       }
 
-  -- the table after a semaphore gets another count
+  -- the table after the count of a semaphore changes
   pub count_set : (s : ℕ) (side : Side) (x : Sides SemaphoreHead) (count : ℕ) → slice_get semaphores s ≡ Some x
       → AreTable nodes (set semaphores s (with_side side (record (of_side side x) { count = count }) x)) limit (on_semaphore s side (with_count count) t)
   count_set s side x count there =

@@ -23,7 +23,7 @@ abbrev pub queued_again : ℕ → Side → Option ℕ → GoroutineTable → Gor
 queued_again s side None t = t
 queued_again s side (Some g) t = with_status g (Queued s side) t
 
--- the table with a release at a side of socket s undone
+-- the table after the undo of a release at a side of socket s
 abbrev pub released_back : ℕ → Side → Option ℕ → GoroutineTable → GoroutineTable
 released_back s side front t = queued_again s side front (on_semaphore s side (unreleased front) t)
 

@@ -71,7 +71,7 @@ abbrev pub is_waiting : Status → Bool
 is_waiting (Queued s side) = true
 is_waiting _ = false
 
--- true if the nodes are linked so that these are the queues
+-- true if the links between the nodes form these queues
 pub record AreQueues (nodes : List GoroutineNode) (semaphores : List (Sides SemaphoreHead))
     (queues : ℕ → Side → List ℕ) : Type 0 where
   -- each queue is linked from its front to its back
@@ -79,7 +79,8 @@ pub record AreQueues (nodes : List GoroutineNode) (semaphores : List (Sides Sema
       → slice_get semaphores s ≡ Some both
       → IsLinked nodes (Queued s side) None (queues s side) (of_side side both).front
       (of_side side both).back
-  -- a queue contains a goroutine, once, if and only if the goroutine's status is queued there
+  -- a queue contains a goroutine, once, if and only if the goroutine's status says that it is
+  -- queued there
   pub queued : (s : ℕ) (side : Side) → s < length semaphores → (g : ℕ)
       → count_by (λ h. h == g) (queues s side)
       ≡ bit (is_queued s side (slice_get (statuses nodes) g))

@@ -22,11 +22,11 @@ abbrev pub with_node : Option ℕ → (GoroutineNode → GoroutineNode) → List
 with_node None change nodes = nodes
 with_node (Some g) change nodes = set_found g change (slice_get nodes g) nodes
 
--- the nodes after the node of `goroutine`, if given, stores another next goroutine
+-- the nodes with a new next goroutine in the node of `goroutine`, if one is given
 abbrev pub with_next : Option ℕ → Option ℕ → List GoroutineNode → List GoroutineNode
 with_next goroutine next nodes = with_node goroutine (followed_by next) nodes
 
--- the nodes after the node of `goroutine`, if given, stores another previous goroutine
+-- the nodes with a new previous goroutine in the node of `goroutine`, if one is given
 abbrev pub with_previous : Option ℕ → Option ℕ → List GoroutineNode → List GoroutineNode
 with_previous goroutine previous nodes = with_node goroutine (preceded_by previous) nodes
 

@@ -2,11 +2,11 @@
 use Rattle.std.specs.Prelude.{ℕ, ◌+◌, ◌-◌, [], ◌∷◌, ◌++◌, length, take, drop, Option, Some, None}
 use Rattle.nr_rev.specs.Semaphore.{Semaphore}
 
--- a semaphore with another count
+-- the semaphore with the given count
 abbrev pub with_count : ℕ → Semaphore → Semaphore
 with_count count semaphore = record semaphore { count = count }
 
--- a semaphore with another goroutine at the back of its queue
+-- the semaphore with one more goroutine, at the back of its queue
 abbrev pub with_last : ℕ → Semaphore → Semaphore
 with_last g semaphore = record semaphore { queue = semaphore.queue ++ g ∷ [] }
 

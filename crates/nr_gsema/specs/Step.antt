@@ -95,7 +95,7 @@ acquire g t = do
   Ok (if is_free semaphore then (Yes, with_status g (Relock s side) next)
       else (Wait, with_status g (Queued s side) next))
 
--- the table after the goroutine at the front of a queue left it: that goroutine must acquire again
+-- the table in which the goroutine that a release took from the queue, if any, must acquire again
 abbrev pub tries_again : ℕ → Side → Option ℕ → GoroutineTable → GoroutineTable
 tries_again s side None t = t
 tries_again s side (Some g) t = with_status g (Acquiring s side) t

@@ -32,8 +32,8 @@ impl GTable {
     }
 
     /// Does nothing. The contract of this method says that a queue contains a goroutine, once, if and only if the
-    /// goroutine's status is queued there. This is a method, not a law, because it follows from the type's invariant,
-    /// which the view doesn't show; reading a field brings the invariant into a proof.
+    /// goroutine's status says that it is queued there. This is a method, not a law, because it follows from the type's
+    /// invariant, which the view doesn't show; reading a field brings the invariant into a proof.
     #[inline(always)]
     pub fn queues_hold_the_queued(&self)
         ensures { IsQueuedUp self.now }

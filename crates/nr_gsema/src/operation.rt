@@ -23,15 +23,15 @@ pub enum GOperation {
         to: Status,
     },
     /// A goroutine that is acquiring a semaphore decreases the count and takes the lock again (`Relock`), with the
-    /// answer `Yes`. If the count is 0, it joins the back of the queue, with the answer `Wait`. Fails with `NotThere`
-    /// if it isn't acquiring, and with `NoSuchSocket` if its socket isn't below the limit.
+    /// answer `Yes`. If the count is 0, the goroutine joins the back of the queue, with the answer `Wait`. Fails with
+    /// `NotThere` if the goroutine isn't acquiring, and with `NoSuchSocket` if its socket isn't below the limit.
     Acquire {
         goroutine: u32,
     },
-    /// Makes one of the releases that the goroutine owes, the read side's first. The count grows by one, and the first
-    /// goroutine in the queue, if any, leaves it and must acquire again. Answers `Done`. Fails with `NotThere` if the
-    /// goroutine owes none, with `NoSuchSocket` if its socket isn't below the limit, and with `FieldOverflow` if the
-    /// count is 4,294,967,295.
+    /// Performs one of the releases that the goroutine owes; those of the read side come first. The count grows by one,
+    /// and the first goroutine in the queue, if any, leaves it and must acquire again. Answers `Done`. Fails with
+    /// `NotThere` if the goroutine owes none, with `NoSuchSocket` if its socket isn't below the limit, and with
+    /// `FieldOverflow` if the count is 4,294,967,295.
     Release {
         goroutine: u32,
     },

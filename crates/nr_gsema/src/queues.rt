@@ -110,8 +110,8 @@ impl GTable {
         self.semaphores[socket as usize] = semaphores.with(side, head);
     }
 
-    /// Removes the goroutine at the front of a queue, which must acquire again, and sets the
-    /// increased count.
+    /// Removes the goroutine at the front of a queue, and increments the semaphore's count. The
+    /// goroutine must acquire again.
     #[inline(always)]
     pub(crate) fn leave_front(&mut self, goroutine: u32, socket: u32, side: Side)
         requires { HasSemaphore socket side (λ semaphore. (slice_get semaphore.queue 0 ≡ Some goroutine) × (semaphore.count + 1 < 2 ^ 32)) self.old }
@@ -131,7 +131,8 @@ impl GTable {
         self.semaphores[socket as usize] = semaphores.with(side, head);
     }
 
-    /// Puts a goroutine that is in no queue at the front of a queue, and sets the decreased count.
+    /// Puts a goroutine that is in no queue at the front of a queue, and decrements the semaphore's
+    /// count.
     #[inline(always)]
     pub(crate) fn join_front(&mut self, goroutine: u32, socket: u32, side: Side)
         requires outside { IsOutside goroutine self.old }

@@ -52,9 +52,9 @@ impl GTable {
         GTable::with_descriptors(alloc, goroutines, sockets, 0)
     }
 
-    /// Makes a table as `with_limits` does. The table also counts the goroutines that are inside a wait at each side of
-    /// this many descriptors. For these descriptors, `is_waited` reads no goroutine. This only saves time; no contract
-    /// mentions it. Fails with `Memory` if memory runs out.
+    /// Makes a table as `with_limits` does. For each side of the first `descriptors` descriptors, the table also counts
+    /// the goroutines that are inside a wait there. For these descriptors, `is_waited` reads no goroutine. This only
+    /// saves time; no contract mentions it. Fails with `Memory` if memory runs out.
     pub fn with_descriptors(
         alloc: Global,
         goroutines: u32,

@@ -35,7 +35,8 @@ impl WaitCounts {
         })
     }
 
-    /// Returns equal counts, in memory of their own. Fails with `Memory` if memory runs out.
+    /// Returns a copy of the counts, in newly allocated memory. Fails with `Memory` if memory runs
+    /// out.
     pub(crate) fn try_copy(&self, alloc: Global) -> Result<WaitCounts, Memory>
         ensures { IfOk result (λ waits. waits ≡ self.now) }
     {
@@ -66,7 +67,7 @@ impl WaitCounts {
         Some(self.counts[descriptor as usize].of(side))
     }
 
-    /// Updates the counts when a goroutine with this status gets a status outside every wait.
+    /// Updates the counts when a goroutine's status changes from this one to one outside all waits.
     #[inline(always)]
     pub(crate) fn leave(&mut self, status: Status)
         ensures { self.new ≡ left (wait_of status) self.old }

@@ -15,7 +15,8 @@ use Rattle.nr_journal.specs.Auxiliary.Rule.{IsEntry, Kept}
 use Rattle.nr_journal.proofs.RowLemmas.{All-right}
 
 module _ (purpose : Purpose) (words : List ℕ) (views : List View) (k : Kept purpose words views) (id : ℕ) (pass_state : PassState) where
-  -- no word follows those that the only pass has read: its tag would be 0, which is the pass's own
+  -- If a journal may have only one pass, no word follows those that the pass has read. Such a word
+  -- would be another pass's, yet it would have the only possible tag, 0.
   pub none_behind : (v : ℕ) (rest : List ℕ) → get_elem? views id ≡ some (Within pass_state) → k.log ≡ pass_state.seen ++ v ∷ rest → All (IsOthers pass_state.tag) (v ∷ rest)
       → pass_state.passes ≡ 1 → ⊥
   none_behind v rest at is others alone =

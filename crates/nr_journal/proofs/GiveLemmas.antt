@@ -131,8 +131,8 @@ begins_drawn words passes tags row is drawn few = record {
 pub none_drawn : (tag : ℕ) → IsDrawn 0 tag → ⊥
 none_drawn tag drawn = let z : zero ≡ 1 = sym (bit_at-zero tag) ∙ drawn in omega arith
 
--- if the bits of all tags below `tag` are set, then after the bit of `tag` is set, so are the bits
--- of all tags below `tag + 1`
+-- Suppose the bits of all tags below `tag` are set. After the bit of `tag` is set too, the bits of
+-- all tags below `tag + 1` are set.
 pub drawn_more : (tags tag : ℕ) → AreDrawn tags tag → AreDrawn (bit_or tags (2 ^ tag)) (tag + 1)
 drawn_more tags tag drawn j below = dite (ℕ_discrete j tag)
     (λ (same : j ≡ tag). subst (IsDrawn (bit_or tags (2 ^ tag))) (sym same) (bit_drawn tags tag))

@@ -52,7 +52,7 @@ module _ (purpose : Purpose) where
       (subst (λ (j : ℕ). Allows (Rule purpose) slots id (Within pass_state, []) j (λ n. n) (Looked (step slots j 0 0 none) (Within pass_state, []))) (sym place)
       (allowed purpose slots id (suc (length pass_state.seen)) (Within pass_state) (λ n. n) (LookedFrom (Within pass_state)) (λ words views k at fits. looks_from words views id pass_state k at)))
 
-  -- the word at a place that a pass has read is the word that it read there
+  -- if a pass has read the word at an index, the journal still has the same word there
   pub seen_at : (words : List ℕ) (views : List View) (k : Kept purpose words views) (id at : ℕ) (pass_state : PassState) → get_elem? views id ≡ some (Within pass_state) → at < length pass_state.seen
       → get_or words (suc at) 0 ≡ get_or pass_state.seen at 0
   seen_at words views k id at pass_state mine below = let c = (k.each_view id (Within pass_state) mine).2 in

@@ -24,7 +24,7 @@ notes purpose id pass_state s k at =
     let c = (k.each_view id (Within pass_state) at).2 in
     subst (λ (vs : List View). Kept purpose s.words (vs ++ Note pass_state.seen ∷ [])) (sym old) (snoc_view purpose s.words s.views (Note pass_state.seen) k (c.0, c.1) (λ tag has. has))
 
--- a pass learns the words of a note
+-- a pass learns from a note which words another pass has read
 pub learns : (purpose : Purpose) (id other : ℕ) (pass_state : PassState) (learned : List ℕ) → Joins (Rule purpose) id (Within pass_state) other (Note learned) (Within (informed pass_state learned)) Spent
 learns purpose id other pass_state learned s k at apart there =
     let theirs : get_elem? s.views other ≡ some (Note learned) = sym (set_else s.views id other (Within (informed pass_state learned)) apart) ∙ there in

@@ -40,7 +40,7 @@ fits_more most tags log word (Note seen) below never fits = begins_more log seen
 fits_more most tags log word Spent below never fits = tt
 
 module _ (purpose : Purpose) where
-  -- a pass that has read all words places one
+  -- a pass that has read all words places a new word
   pub kept_placed : (words : List ℕ) (views : List View) (k : Kept purpose words views) (id : ℕ) (pass_state : PassState) (word : ℕ) → get_elem? views id ≡ some (Within pass_state)
       → k.log ≡ pass_state.seen → length pass_state.seen < purpose.words → HasOpcode word → tag_of word ≡ pass_state.tag
       → Kept purpose (set words (suc (length pass_state.seen)) word) (set views id (Within (having_seen pass_state word)))

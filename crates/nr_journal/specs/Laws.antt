@@ -12,7 +12,7 @@ use Rattle.nr_journal.specs.declared.view.View.TheVariants.{Within}
 use Rattle.nr_journal.specs.Rule.{tag_of}
 use Rattle.nr_journal.specs.Auxiliary.Rule.{Kept, first_view}
 
--- if the word after those that a pass has read is 0, the pass has read the whole log
+-- if the first word that a pass hasn't read is 0, the pass has read the whole log
 abbrev pub EmptyLookSeesAll : Type 0
 EmptyLookSeesAll = (purpose : Purpose) (id : ℕ) (pass_state : PassState) (words : List ℕ)
     (views : List View) → (k : Kept purpose words views)

@@ -23,8 +23,8 @@ pass_state_of (Within pass_state) = pass_state
 pass_state_of (Note _) = entering 0 0
 pass_state_of Spent = entering 0 0
 
--- true if an offer of a word, to a journal with this room, has this result and turns the state
--- before into the state after
+-- True if a pass can offer this word to a journal with this room and get this result. The offer
+-- turns the pass's state before into its state after.
 abbrev pub WasOffered : ℕ → ℕ → PassState → PassState → Offered → Type 0
 WasOffered word room before after Placed =
     (after ≡ having_seen before word) × (length before.seen < room)
@@ -39,14 +39,15 @@ AreInLine xs ys =
     (length xs ≤ length ys → StartsWith ys xs) × (length ys ≤ length xs → StartsWith xs ys)
 
 -- True if the pass placed no word: all newly read words belong to other passes, and there are none
--- if the journal has only one pass. What the pass has learned of is unchanged.
+-- if the journal has only one pass. The words that the pass learned from another pass are
+-- unchanged.
 abbrev pub SeesOthers : PassState → PassState → Type 0
 SeesOthers before after = (added : List ℕ) × (after.seen ≡ before.seen ++ added)
     × All (IsOthers before.tag) added × (after.tag ≡ before.tag) × (after.learned ≡ before.learned)
     × (after.passes ≡ before.passes) × (before.passes ≡ 1 → added ≡ [])
 
--- true if a last look found no word, and the pass has read all words that it had learned of; or if
--- the pass has read as many words as the journal has room for
+-- true if a last look found no word, and the pass has read all words that it learned from another
+-- pass; or if the pass has read as many words as the journal has room for
 abbrev pub CatchesUp : ℕ → PassState → PassState → Type 0
 CatchesUp room before after =
     ((after.looks ≡ before.looks + 1) × StartsWith after.seen before.learned)

@@ -27,8 +27,8 @@ tried_of (Within _) = 0
 tried_of (Note _) = 0
 tried_of Spent = 0
 
--- the tag of the next remaining pass, given the view of the remaining passes, which is always
--- `Keeping`
+-- The tag of the next remaining pass, given the view of the remaining passes. That view is always
+-- `Keeping`.
 abbrev pub next_of : View → ℕ
 next_of (Outside _ _) = 0
 next_of (Keeping next _) = next

@@ -19,8 +19,8 @@ Found pass_state found after =
     (after ≡ (Within (having_seen pass_state found), [])) × HasOpcode found
     × IsOthers pass_state.tag found × (pass_state.passes ≢ 1)
 
--- true if the next word is 0, and the pass has read all words that it had learned of; or if the
--- next word belongs to another pass
+-- true if the next word is 0, and the pass has read all words that it learned from another pass; or
+-- if the next word belongs to another pass
 abbrev pub LookedFrom : View → ℕ → Seat → Type 0
 LookedFrom (Within pass_state) found after =
     (found ≡ 0 → (after ≡ (Within (looked pass_state), []))
@@ -68,8 +68,8 @@ abbrev pub Rereads : Step (Unit {0}) → Seat → ℕ → Seat → Type 0
 Rereads step before found after = RereadsFrom step.word before.0 found after
 
 -- True if the pass is unchanged, and each word that it has read has a tag below the maximum number
--- of passes. The words that the pass has read and those that it has learned of are prefixes of the
--- same list.
+-- of passes. The words that the pass has read and those that it learned from another pass are
+-- prefixes of the same list.
 abbrev pub ComparesFrom : View → Seat → Type 0
 ComparesFrom (Within pass_state) after = (after ≡ (Within pass_state, []))
     × ((log : List ℕ) × StartsWith log pass_state.seen × StartsWith log pass_state.learned)
@@ -112,7 +112,8 @@ note_words (Within _) = []
 note_words (Note seen) = seen
 note_words Spent = []
 
--- the view of a pass after it learns the words of a note; other views stay the same
+-- the view of a pass after it learns from a note which words another pass has read; other views
+-- stay the same
 abbrev pub learned_from : View → View → View
 learned_from (Outside tried passes) note = Outside tried passes
 learned_from (Keeping next passes) note = Keeping next passes

@@ -195,7 +195,8 @@ impl Journal {
         ensures room { IfSome result (λ v. length pass.old.pass_state.seen < journal_room self.now) }
         ensures some { IfSome result (λ v. (pass.new.pass_state ≡ having_seen pass.old.pass_state v)
             × HasOpcode v × IsOthers pass.old.pass_state.tag v × (pass.old.pass_state.passes ≢ 1)) }
-        // only a body that reads the journal can prove that the pass has read every word that it had learned of
+        // only a body that reads the journal can prove that the pass has read all words that it learned from another
+        // pass
         ensures none { IfNone result (
             ((pass.new.pass_state ≡ looked pass.old.pass_state)
             × StartsWith pass.old.pass_state.seen pass.old.pass_state.learned)
@@ -329,7 +330,7 @@ impl Journal {
         shared.join_seat::<Learn>(&mut pass.seat, note);
     }
 
-    // Compares what the pass has read with what it has learned of.
+    // Compares the words that the pass has read with those that it learned from another pass.
     fn compare(&self, pass: &mut Pass)
         requires { pass.old.table ≡ self.now }
         ensures same { pass.new ≡ pass.old }

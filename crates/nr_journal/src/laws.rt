@@ -21,7 +21,7 @@ pub fn an_only_pass_sees_all()
 {}
 
 /// Each word comes from a pass: a pass with the word's tag exists and has read the word, at its
-/// index. A pass reads a word with its own tag only through the offer that placed it.
+/// index. A pass reads a word with its own tag only when it places that word by an offer.
 pub fn each_word_has_its_pass()
     ensures { EachWordHasItsPass }
 {}

@@ -37,7 +37,7 @@ impl Model for Pass {
 pub enum Offered {
     /// The word is in the journal, and the pass has read it.
     Placed,
-    /// Another pass has placed this word at that index, and the pass has read it.
+    /// Another pass has placed this word at that index. The pass that made the offer has read it.
     Lost(u64),
     /// The pass has read all words that the journal has room for. Nothing changed.
     Full,

@@ -39,7 +39,7 @@ impl Play<(), View> for Reread {
     ghost then = { Rereads };
 }
 
-/// A pass compares what it has read with what it has learned of.
+/// A pass compares the words that it has read with those that it learned from another pass.
 pub(crate) struct Compare;
 
 impl Play<(), View> for Compare {
@@ -79,7 +79,7 @@ impl Split<View> for Tell {
     ghost right = { note_of };
 }
 
-/// A pass learns the words of a note.
+/// A pass learns from a note which words another pass has read.
 pub(crate) struct Learn;
 
 impl Join<View> for Learn {

@@ -39,6 +39,6 @@ pub enum View {
     Within(PassState),
     /// A note from one pass to another: the words that the first pass has read.
     Note(LinkedList<u64>),
-    /// A note whose words a pass has learned.
+    /// A used note: a pass has already learned from it which words another pass has read.
     Spent,
 }

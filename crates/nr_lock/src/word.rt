@@ -29,7 +29,7 @@ pub(crate) const FULL: u32 = (1 << 20) - 1;
 /// The bits below the waiters.
 const BELOW_WAITERS: u64 = READ_WAITER - 1;
 
-/// The lock of a socket in one word. In contracts, it is the record of its fields.
+/// The lock of a socket in one word. Contracts describe it as a record of the lock's fields.
 #[derive(Clone, Copy, Debug, PartialEq, Eq)]
 pub struct LockWord(u64);
 

@@ -38,7 +38,8 @@ is_watch _ = false
 abbrev pub any_watch : List NumberedMark → Bool
 any_watch marks = list_any (λ m. is_watch m.item) marks
 
--- True if a mark is deleted at a stop at which the marks with these numbers hit.
+-- True if a stop deletes the mark: it is temporary, and its number is among those of the marks that
+-- hit.
 abbrev pub goes : List ℕ → NumberedMark → Bool
 goes hits m = is_temporary m.item && list_any (λ number. number == m.number) hits
 

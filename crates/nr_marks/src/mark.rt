@@ -25,7 +25,7 @@ pub enum Mark {
     /// A temporary breakpoint: stops as a breakpoint does, and is deleted after the first stop at which it hits.
     TemporaryBreak(Break),
     /// A watchpoint: stops after each step that changes the value of the cell. Absence counts as a
-    /// value, so a step that makes an absent cell present stops too.
+    /// value, so the watchpoint also stops after a step that makes an absent cell present.
     Watch(Cell),
 }
 
@@ -101,8 +101,8 @@ impl Mark {
         }
     }
 
-    /// Returns whether the mark hits at a position, given the value that it watches one step
-    /// before, the value there, and the next step.
+    /// Returns whether the mark hits at a position. A breakpoint checks the next step. A watchpoint
+    /// compares the value of its cell one step before the position with the value at the position.
     #[inline(always)]
     pub fn hits(self, before: CellValue, now: CellValue, next: Option<NextStep>) -> bool
         ensures { result ≡ hits_by before now next self }

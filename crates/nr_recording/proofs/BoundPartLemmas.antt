@@ -42,7 +42,8 @@ pub then_some : {A B : Type 0} (f : A → Option B) (o : Option A) (y : B) → o
 then_some f (Some x) y e = (x, refl, e)
 then_some f None y e = absurd cc
 
--- if a test has a value although its true branch is None, it took the false branch
+-- if a conditional has a value and its true branch is None, its condition is false, and its false
+-- branch has that value
 pub kept_some : {A : Type 0} (b : Bool) (o : Option A) (y : A) → cond b None o ≡ Some y → (b ≡ false) × (o ≡ Some y)
 kept_some true o y e = absurd cc
 kept_some false o y e = (refl, e)

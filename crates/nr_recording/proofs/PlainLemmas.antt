@@ -26,7 +26,8 @@ use Rattle.nr_recording.proofs.ReadBackLemmas.{tokens_read}
 
 -- ---- one item
 
--- a comma or a closing bracket ends a word, and a text before it isn't a key
+-- A comma or a closing bracket ends a word. A string before it isn't a key, because no colon
+-- follows the string.
 ended : (x : ℕ) (xs : List ℕ) → (x ≡ 44) ⊎ (x ≡ 93) → (ends_word (x ∷ xs) ≡ true) × (begins_colon (lex between (x ∷ xs)) ≡ false)
 unfolding lex
 ended x xs (inl e) = rw e (refl, refl)
@@ -40,7 +41,7 @@ pub item_ends : (text : List ℕ) → ends_item text ≡ true → (ends_word tex
 item_ends [] e = absurd (false≢true e)
 item_ends (x ∷ xs) e = ended x xs (either x (or_cases (x == 44) (x == 93) e))
 
--- a string that no colon follows is an item if it is at a place where an item may begin
+-- a string is an item if an item may begin at its place and no colon follows the string
 string_placed : (place : Place) (s : List ℕ) (ls : List Lexeme) → may_begin place ≡ true → begins_colon ls ≡ false
     → punctuate place (Lexeme.token (Token.string s) ∷ ls) ≡ Token.string s ∷ punctuate after_value ls
 unfolding punctuate

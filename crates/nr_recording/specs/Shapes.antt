@@ -1,5 +1,5 @@
--- The shapes of steps in a line: the arguments from which a step is made, read from the front of a
--- list.
+-- The argument lists of steps. Each definition reads the arguments from the front of a list, and
+-- makes a step from them.
 use Rattle.std.specs.Prelude.{ℕ, ℤ, List, Bool, Result, Ok, Err}
 use Rattle.serde_json.specs.Data.{Items}
 use Rattle.nr_rev.specs.declared.sides.Side.{Side}

@@ -1,4 +1,4 @@
--- The step that a line denotes, with a row for each kind of step, and the line of a step.
+-- The step that a line denotes, with a row for each kind of step.
 use Rattle.std.specs.Prelude.{Bool, true, false, Option, Some, None, option_and_then, Result, Ok, Err, if◌then◌else◌}
 use Rattle.serde_json.specs.Data.{Data, Items, no_items, item}
 use Rattle.serde_json.specs.Find.{as_str, as_array}
@@ -68,8 +68,8 @@ abbrev pub ends : Items → Bool
 ends no_items = true
 ends (item d ds) = false
 
--- the step that a line's value denotes: an array with only a kind's name, the arguments, and the
--- answer if the version has answers
+-- The step that a line's value denotes. The value is an array. It contains the name of a kind, then
+-- the arguments, then the answer if the version has answers, and nothing else.
 unfoldable pub step_of : Version → Data → Result RecordedStep Fault
 step_of version d = do
   parts ← or_fault fault.UnknownStep (option_and_then first_of (as_array d))

@@ -40,7 +40,8 @@ AreSteps version (line ∷ rest) (step ∷ steps) =
     (IsSkipped line × AreSteps version rest (step ∷ steps))
     ⊎ (IsStepLine version line step × AreSteps version rest steps)
 
--- true if the lines are a header, then the steps, and skipped lines anywhere
+-- True if the lines, except for skipped ones, are a header and then one line for each step. The
+-- number of steps is at most MOST_STEPS.
 abbrev pub AreLinesOf : List (List ℕ) → Recorded → Type 0
 AreLinesOf [] r = ⊥
 AreLinesOf (line ∷ rest) r =

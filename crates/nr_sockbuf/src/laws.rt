@@ -10,9 +10,9 @@ ghost use Rattle.nr_sockbuf.specs.Op.{TakesMemory, sock_reason};
 ghost use Rattle.nr_sockbuf.specs.Sock.{SockParts};
 ghost use Rattle.nr_sockbuf.specs.Agreement.{ArriveAgrees, CloseWriteAgrees, DrainAgrees, IsThere, PeerCloseAgrees, SockLoses, SockOpenAgrees, SysReadAgrees, SysWriteAgrees};
 
-/// On the buffers of an open socket, a step gives the same answer, buffers and reason for a refusal
-/// as the machine's step by an idle goroutine. The same holds for an opening, if the machine has
-/// room for another socket.
+/// On an open socket, a step agrees with the step that an idle goroutine makes in the machine: both
+/// give the same answer and the same buffers, or the same reason for a refusal. The same holds for
+/// an opening, if the machine has room for another socket.
 pub fn steps_are_of_the_machine()
     ensures sockopen { (rc wc : ℕ) (w : World) → SockOpenAgrees rc wc w }
     ensures arrive { (s : ℕ) (bytes : List ℕ) (socket : Socket) (w : World) → IsThere s socket w → ArriveAgrees s bytes socket w }

@@ -10,7 +10,7 @@ use std::alloc::Global;
 use std::marker::Model;
 
 /// A snapshot of a socket's buffers: the marks and the bytes. The bytes use only the memory that they need. Snapshots
-/// of the same socket may share bytes. In contracts, a snapshot is the buffers.
+/// of the same socket may share bytes. In contracts, a snapshot has the same value as the buffers.
 #[derive(Drop)]
 pub struct SockSnapshot {
     limit: u32,

@@ -12,7 +12,7 @@ use Rattle.nr_timers.specs.Index.{key, Absent, Keyed}
 use Rattle.nr_timers.proofs.PathLemmas.{at-swap}
 use Rattle.nr_timers.proofs.ChangeLemmas.{length-TakenBack}
 
--- the entry to restore fits
+-- a removed entry can be restored: its key is below the limit, and no remaining entry has that key
 module _ (old rest : List Entry) (p limit : ℕ) (e : Entry) (le : p ≤ length rest) (is : old ≡ swap (rest ++ e ∷ []) p (length rest)) (h : Keyed old limit) where
   sw : Swapped (at (rest ++ e ∷ [])) (at (swap (rest ++ e ∷ []) p (length rest))) p (length rest)
   sw = let size = length_push rest e in at-swap (rest ++ e ∷ []) p (length rest) (omega arith) (omega arith)

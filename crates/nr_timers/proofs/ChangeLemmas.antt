@@ -96,7 +96,7 @@ module _ (old : List Entry) (entry : Entry) where
       } in
       subst (λ xs. OrderedAbove xs p) (sym e) (subst (λ x. OrderedAbove (old ++ entry ∷ []) x) (sym is) it)
 
--- the entry at the end of a move down is the one that was at its beginning
+-- after an entry moves down from q to p, the entry at p is the one that was at q
 pub at-moved_down : (n : ℕ) (new : List Entry) (p q : ℕ) → p < length new → Leads n p q → at (moved_down n new p) p ≡ at new q
 at-moved_down zero new p q lt h = ap (at new) (sym h)
 at-moved_down (suc n) new p q lt h =
@@ -209,7 +209,7 @@ module _ (old : List Entry) (p : ℕ) (within : p < length old) where
   pub length-refilled : length (refilled old p) ≡ length old - 1
   length-refilled = let size = length-swap old p (length old - 1) in length-take-le (length old - 1) (swap old p (length old - 1)) (omega arith)
 
-  -- the entries after the last entry was moved to p
+  -- moving the last entry to p leaves the entries at all other places unchanged
   pub at_refilled : (k : ℕ) → k < length old - 1 → (k ≡ p → ⊥) → at (refilled old p) k ≡ at old k
   at_refilled k lt other = get_or-take (length old - 1) (swap old p (length old - 1)) k blank lt ∙ moved.2 k other (λ e. omega arith)
 

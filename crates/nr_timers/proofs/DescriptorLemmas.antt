@@ -136,7 +136,8 @@ Timers = List (Sides (Option Timer))
 abbrev armed_in : Timers → ℕ → Side → Option Timer
 armed_in timers k side = of_side side (slice_index_or timers k (twice None))
 
--- each entry of descriptor d has the number d, and the timer of the entry's side
+-- if an entry belongs to descriptor d, its descriptor number is d, and its timer is the one armed
+-- on its side
 at_in : (d : ℕ) (sides : Sides (Option Timer)) (e : Entry) → In e (entries_at d sides) → (e.descriptor ≡ d) × (of_side e.side sides ≡ Some e.timer)
 at_in d sides e p =
     ⊎_elim (λ q. let r = entry_in d Read sides.read e q in (r.1, ap (λ s. of_side s sides) r.2 ∙ r.0))

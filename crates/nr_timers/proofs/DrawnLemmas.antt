@@ -33,7 +33,7 @@ Drawn-trans xs ys zs g h =
       apart = λ p q a b e. h.apart p q a b (g.apart (h.from p) (h.from q) (h.within p a) (h.within q b) e);
     }
 
--- the old place of the entry that is at k after the entries at a and b are swapped
+-- the place that the entry at k had before the entries at a and b were swapped
 abbrev exchanged : ℕ → ℕ → ℕ → ℕ
 exchanged a b k = if nat_eq k a then b else (if nat_eq k b then a else k)
 

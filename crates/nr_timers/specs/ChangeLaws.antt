@@ -1,4 +1,4 @@
--- If one of any two entries is less than the other, an insertion or a removal determines the
+-- If no two entries are equal in the order, an insertion or a removal has only one possible
 -- resulting heap and place.
 use Rattle.std.proofs.Common.{◌≡◌, ◌⊎◌, inl, inr, ⊎_elim, ℕ, zero, suc, ◌-◌, ◌<◌, ◌≤◌, Bool, true, false, true≢false, List, length, refl, sym, ap, ◌∙◌, subst, arith}
 use Rattle.std.proofs.lemmas.List.{ext_get_or}
@@ -9,7 +9,7 @@ use Rattle.nr_timers.specs.PathToRoot.{parent, Leads, OnPath, Raised, Sunk}
 use Rattle.nr_timers.specs.PathLaws.{Leads-le, Leads-lt, Leads-more, OnPath-le, OnPath-more, OnPath-ends, on_path_or_not}
 use Rattle.nr_timers.specs.Change.{Inserted, Removed}
 
--- for any two places, one of the two entries is less than the other
+-- for any two different places, one of the two entries is less than the other
 abbrev pub Distinct : List Entry → Type 0
 Distinct entries =
     (p q : ℕ) → p < length entries → q < length entries

@@ -16,7 +16,8 @@ pub record Applies (old : State) (op : TimersOp) (delta : TimersUndo) (new : Sta
   pub back : UndoBack delta new old
   pub light : undo_weight delta ≤ op_allowance op
 
--- true if the operation was performed, or was refused for its reason and nothing changed
+-- True if the operation was performed, or if it was refused and changed nothing. The refusal is
+-- then the reason why the operation doesn't apply in the old state.
 abbrev pub Performs : State → TimersOp → Result TimersUndo Refusal → State → Type 0
 Performs old op (Ok delta) new = Applies old op delta new
 Performs old op (Err refusal) new = (timers_reason old op ≡ Some refusal) × (new ≡ old)

@@ -13,7 +13,8 @@ pub struct TimersDelta {
     pub undo: TimersUndo,
 }
 
-/// What an operation changed: at most one entry and some places, counted from 0, but never a list.
+/// What an operation changed. Places are counted from 0. The data are at most one entry or timer
+/// and a few places, so their size is bounded.
 #[derive(Clone, Copy, Debug, PartialEq, Eq)]
 pub enum TimersUndo {
     /// A timer was armed on a side that had none, and its entry was put at the place `to`.

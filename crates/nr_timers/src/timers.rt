@@ -17,7 +17,7 @@ use std::marker::Model;
 /// All memory is allocated at once, so operations allocate none.
 ///
 /// The entries are a heap with four children per place, like the timers of `runtime/time.go`. They are ordered by due
-/// time, and entries that are due at the same time by arming number.
+/// time. Entries that are due at the same time are ordered by arming number.
 #[derive(Drop)]
 pub struct Timers {
     pub(crate) alloc: Global,
@@ -68,8 +68,8 @@ impl Timers {
         })
     }
 
-    /// Returns equal timers, with each entry at its place, in memory of their own. Fails with `Memory` if memory runs
-    /// out.
+    /// Returns a copy of the timers, with each entry at the same place, in newly allocated memory. Fails with `Memory`
+    /// if memory runs out.
     pub fn try_copy(&self) -> Result<Timers, Memory>
         ensures well_formed { IsTimers self.now → IfOk result IsTimers }
         ensures equal { IfOk result (λ t. t ≡ self.now) }
@@ -83,8 +83,8 @@ impl Timers {
         })
     }
 
-    /// Makes these timers equal to others for the same number of descriptors, with each entry at its place. Allocates
-    /// no memory.
+    /// Copies other timers into these, with each entry at the same place. Both must have the same number of
+    /// descriptors. Allocates no memory.
     pub fn copy_from(&mut self, other: &Timers)
         requires { self.old.descriptors ≡ other.now.descriptors }
         ensures { self.new ≡ other.now }

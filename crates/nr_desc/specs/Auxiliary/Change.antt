@@ -41,12 +41,12 @@ followed_view f = record { descriptor = f.desc; orders = option_to_list f.order;
 abbrev pub unblocked_view : Unblocked → WaitWord × List ℕ
 unblocked_view u = (u.word, option_to_list u.woken)
 
--- the answer in an `Answered`, and a change to its descriptor that has no timer orders and wakes no
--- goroutine
+-- The answer and the change of an `Answered`. The change sets the descriptor, has no timer orders
+-- and wakes no goroutine.
 abbrev pub answered_view : Answered → Answer × Change
 answered_view a = (a.answer, quiet a.desc)
 
--- the answer and the change in a `Made`
+-- the answer and the change of a `Made`
 abbrev pub made_view : Made → Answer × Change
 made_view m = (m.answer, change_view m.change)
 

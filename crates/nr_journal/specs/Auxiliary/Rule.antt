@@ -40,7 +40,8 @@ IsEntry tags word = HasOpcode word × IsDrawn tags (tag_of word)
 -- the tags that it tried are set. For the remaining passes, the bits of all tags are set, and no
 -- word has the tag of a remaining pass. For a pass, the bits of its tag and of all lower tags are
 -- set. The words that the pass has read are a prefix of the log, and this prefix contains every
--- word with the pass's tag. The words that the pass has learned of are also a prefix of the log.
+-- word with the pass's tag. The words that the pass learned from another pass are also a prefix of
+-- the log.
 abbrev pub Fits : ℕ → ℕ → List ℕ → View → Type 0
 Fits most tags log (Outside tried passes) = (passes ≡ most) × AreDrawn tags tried
 Fits most tags log (Keeping next passes) =

@@ -9,8 +9,8 @@ abbrev pub free : ℕ → ℕ
 free zero = 1
 free (suc p) = 0
 
--- each cell of the index holds the place of the entry with its key plus 1, or 0 if there is no such
--- entry
+-- Each cell of the index belongs to a key. If the entry with that key is at place p, the cell holds
+-- p + 1. If no entry has that key, the cell holds 0.
 pub record IsIndexed (entries : List Entry) (index : List ℕ) : Type 0 where
   pub below : AllBelow key (length index) entries
   pub found : (p : ℕ) → p < length entries → slice_index_or index (key (at entries p)) 0 ≡ p + 1
