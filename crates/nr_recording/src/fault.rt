@@ -113,8 +113,8 @@ pub enum MakeFault {
     #[error("more than 1,000,000 steps")]
     TooManySteps,
     /// A step carries more than 65,536 bytes, sets the clock below 0, or shuts a write side in
-    /// version 1. The error is also this one if a recording has a wrong number of answers: in
-    /// version 1 no step has an answer, and in version 2 each step has one.
+    /// version 1. This is also the error for a wrong number of answers. Version 1 allows no
+    /// answers, and version 2 requires one for each step.
     #[error("a step carries too many bytes, sets the clock below 0 or is not of the version")]
     Step,
 }

@@ -97,9 +97,9 @@ pub record IsDueFor (d : Descriptor) (firing : Entry) : Type 0 where
   pub running : of_side firing.side d.running ≡ true
   pub function : firing.timer.function ≡ timer_function firing.side d
 
--- A firing fits descriptor d if its side is the one that its timer function uses, and its sequence
--- is at most that side's current sequence in d. If the sequences are equal, each side that the
--- function covers still has the deadline for which the timer was armed.
+-- True if a firing fits descriptor d: its side is the one that its timer function uses, and its
+-- sequence is at most that side's current sequence in d. If the sequences are equal, each side that
+-- the function covers still has the deadline for which the timer was armed.
 pub record FiringFits (d : Descriptor) (firing : Entry) : Type 0 where
   pub side : firing.side ≡ side_of_function firing.timer.function
   pub sequence : firing.timer.sequence ≤ of_side firing.side d.sequences

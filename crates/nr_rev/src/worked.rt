@@ -23,7 +23,7 @@ ghost use Rattle.nr_rev.specs.declared.step.Step.{Step};
 
 /// The operations of `internal/poll/fd_mutex.go` on single lock words. `increfAndClose` wakes every
 /// waiter of both sides, and `rwunlock` one waiter of its side. If the reference count of a word is
-/// full, `incref` is refused and changes nothing; Go panics.
+/// full, `incref` is refused and changes nothing. Go's `incref` panics in that case.
 pub fn lock_words_hold()
     ensures three_waiters { lock_number a_lock_with_three_waiters ≡ 8796109799434 }
     ensures three_waiters_closed { lock_left_by (incref_close a_lock_with_three_waiters)
