@@ -50,7 +50,7 @@ parts-byte (x ∷ xs) b e =
     ∙ elim (nat_eq x 10) as (λ t. cond t ([] ∷ grown (parts xs) b) (onto_first x (grown (parts xs) b)) ≡ grown (cond t ([] ∷ parts xs) (onto_first x (parts xs))) b)
     [ true ↦ empty_first-grown (parts xs) b (some_parts xs) | false ↦ onto_first-grown x (parts xs) b ]
 
--- parts that precede another part are lines
+-- if another part follows `ps`, all parts of `ps` are lines
 lines_in-append : (ended : Bool) (ps : List (List ℕ)) (q : List ℕ) (qs : List (List ℕ)) → lines_in ended (ps ++ q ∷ qs) ≡ ps ++ lines_in ended (q ∷ qs)
 lines_in-append ended [] q qs = refl
 lines_in-append ended (p ∷ []) q qs = refl
@@ -66,7 +66,7 @@ front_and_last [] h = absurd (omega arith)
 front_and_last (p ∷ []) h = refl
 front_and_last (p ∷ next ∷ ps) h = ap (λ qs. p ∷ qs) (front_and_last (next ∷ ps) (omega arith))
 
--- parts that precede a nonempty list of parts are lines
+-- if a nonempty list of parts follows `ps`, all parts of `ps` are lines
 lines_in-behind : (ended : Bool) (ps qs : List (List ℕ)) → 0 < length qs → lines_in ended (ps ++ qs) ≡ ps ++ lines_in ended qs
 lines_in-behind ended ps [] h = absurd (omega arith)
 lines_in-behind ended ps (q ∷ qs) h = lines_in-append ended ps q qs

@@ -50,7 +50,8 @@ cut_before old new held text count reported cut = record {
   count_is = λ none. absurd (let zero : length held ≡ 0 = ap length none in omega (arith, zero, cut.within));
 }
 
--- removing the part of a text from the end of the page leaves the bytes that were held before
+-- if only a prefix of a text was appended to the page, removing that prefix leaves the bytes that
+-- were held before
 pub part_taken_back : (old new : Outgoing) (text held bytes still : List ℕ) (count : ℕ) → old.contents ≡ Some held → new.contents ≡ Some bytes → WritesPrefix old new text count
     → ((n : ℕ) → count ≡ saturating_count n → n ≤ length bytes → still ≡ take (length bytes - n) bytes) → still ≡ held
 part_taken_back old new text held bytes still count before after cut taken =

@@ -64,9 +64,10 @@ pub record Batch (d d' : FrontState) (old new : Outgoing) (held : List ℕ)
   pub count : (n : ℕ) → whole ≡ saturating_count n
       → whole' ≡ saturating_count (n + some_count texts)
 
--- A write failed within the text of a line, after the texts of earlier lines were written. Later
--- lines may have been run too. If each reply is written immediately, no later line was run, and the
--- counts are reported.
+-- A write failed within the text of a line, after the texts of earlier lines were written. If
+-- replies are written together, later lines may have been run too. If each reply is written
+-- immediately, no later line was run, and the error contains the number of whole replies and the
+-- number of bytes of the cut one.
 pub record Cut (at_once : Bool) (d d' : FrontState) (old new : Outgoing) (lines : List (List ℕ))
     (whole : ℕ) (e : LineEnd) : Type 0 where
   pub front : List (List ℕ)

@@ -11,8 +11,8 @@ lines_in ended [] = []
 lines_in ended (last ∷ []) = if ended && nat_lt 0 (length last) then last ∷ [] else []
 lines_in ended (line ∷ next ∷ more) = line ∷ lines_in ended (next ∷ more)
 
--- The lines of a text, without their line feeds. Unless the text is at its end, what follows the
--- last line feed isn't a line yet.
+-- The lines of a text, without their line feeds. The bytes after the last line feed are a line only
+-- if the text is complete (`ended`).
 abbrev pub lines_of : Bool → List ℕ → List (List ℕ)
 lines_of ended text = lines_in ended (slice_split (λ b. b == 10) text)
 

@@ -19,8 +19,8 @@ pub enum LineEnd {
     Write { whole: u64, part: u64 },
 }
 
-/// The stream that failed, if replies are written together; how many replies were written isn't
-/// counted.
+/// The stream that failed, if replies are written together. There is no count of the replies that
+/// were written.
 #[derive(Clone, Copy, Debug, PartialEq, Eq)]
 pub enum StreamFailure {
     /// A read failed.

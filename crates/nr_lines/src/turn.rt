@@ -69,8 +69,8 @@ fn is_quit(asked: Result<Line, LineFault>) -> bool
     }
 }
 
-// A reply has room for 64 marks, and a function clears all its locals on entry. So each reply is printed by the
-// function that makes it.
+// A reply is a large local, because it has room for 64 marks, and a function clears all its locals on entry. So
+// the function that makes a reply also prints it, and no second function has to clear such a local.
 
 /// Prints the reply. Returns `None` if there is no reply, because the line is empty.
 fn print_reply<W: Write, S: Worlds + Drop + Sync, F: Finder>(

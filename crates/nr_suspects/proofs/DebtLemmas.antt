@@ -24,7 +24,7 @@ use Rattle.nr_suspects.proofs.SettingLemmas.{below_or_here}
 abbrev pub debt_of : Side → Option Account → Option Debt
 debt_of side a = option_and_then (λ (x : Account). of_side side x.debts) a
 
--- the event of a debt
+-- the number of the event that caused a debt
 abbrev pub event_of : Option Debt → Option ℕ
 event_of debt = option_map (λ (b : Debt). b.event) debt
 
@@ -190,7 +190,7 @@ effect n d side notices.Nothing a =
 
 -- ---- over a recording
 
--- an event settles no debt
+-- a notice that is an event for a side doesn't settle the side's debt
 not_both : (d : ℕ) (side : Side) (x : Notice) (a : Option Account) → Comes d side x → Pays d side x a → ⊥
 not_both d side x a comes (inl p) = let is = sym comes.1 ∙ p.1 in cc
 not_both d side x a comes (inr p) = let is = sym comes.1 ∙ p.1 in cc
@@ -211,8 +211,8 @@ module _ (r : Recording) (d : ℕ) (side : Side) where
   kept_there : (n : ℕ) → Comes d side (notice_at r n) → account r d n ≡ None → ⊥
   kept_there n comes none = let kept = event_is_kept r d n comes.0 comes.1 in none-some _ (sym none ∙ kept.1)
 
-  -- if neither a step before position n nor the step after it settles the debt, no step before
-  -- position n + 1 does
+  -- if no step before position n settles the debt, and the step after position n doesn't settle it
+  -- either, no step before position n + 1 does
   unpaid_on : (n event : ℕ) → ((k : ℕ) → event < k → k < n → ¬ IsPayment r d side k) → ¬ IsPayment r d side n → (k : ℕ) → event < k → k < suc n → ¬ IsPayment r d side k
   unpaid_on n event before now k after below =
       elim (below_or_here k n below) [
@@ -220,7 +220,8 @@ module _ (r : Recording) (d : ℕ) (side : Side) where
         | inr same ↦ subst (λ j. ¬ IsPayment r d side j) (sym same) now
       ]
 
-  -- a debt comes from an event, and no later step has settled it
+  -- if a side has a debt, the debt was caused by an event, and no step after that event has settled
+  -- the debt
   pub debt_is_owed : (n : ℕ) (b : Debt) → debt r d side n ≡ Some b → (owed : Owed r n d side) × (b.event ≡ owed.event + 1)
   debt_is_owed zero b is = cc
   debt_is_owed (suc n) b is = go (effect_at n) (debt_is_owed n)
@@ -249,7 +250,7 @@ module _ (r : Recording) (d : ℕ) (side : Side) where
             sym old.2 ∙ owed.1,
           )
 
-  -- the debt of an event remains as long as no later step settles it
+  -- the debt that an event caused remains as long as no later step settles it
   pub owed_is_kept : (n event : ℕ) → event < n → IsEvent r d side event → ((k : ℕ) → event < k → k < n → ¬ IsPayment r d side k)
       → (b : Debt) × (debt r d side n ≡ Some b)
   owed_is_kept zero event before came unpaid = absurd (omega (arith, before))
@@ -267,7 +268,7 @@ module _ (r : Recording) (d : ℕ) (side : Side) where
       go (Leaves not_paid silent same) (inr here) kept =
           absurd (kept_there n (subst (IsEvent r d side) here came) (silent (subst (IsEvent r d side) here came)))
 
-  -- if a side has no debt, the debt of each event was settled
+  -- if a side has no debt, each event for the side was followed by a step that settled the debt
   pub paid_since : (n event : ℕ) → event < n → IsEvent r d side event → debt r d side n ≡ None
       → (k : ℕ) × (event < k) × (k < n) × IsPayment r d side k
   paid_since zero event before came none = absurd (omega (arith, before))

@@ -316,7 +316,7 @@ module _ (r : Recording) where
     | inr none ↦ absurd (none-some _ (sym (ap (woken_of side) none) ∙ is))
   ]
 
-  -- below the limit, `account_within` is the descriptor's account
+  -- if d is below the limit of descriptors, `account_within` is the account of descriptor d
   pub within : (k d : ℕ) → d < r.limits.descriptors → account_within r k d ≡ account r d k
   within k d below = ap (λ b. if b then account r d k else None) (is_below d r.limits.descriptors below)
 

@@ -436,7 +436,7 @@ unlock_owes_a_waiter w g s side socket answer next there is =
 abbrev GivenBack : World → ℕ → Side → List Step → Type 0
 GivenBack w s side steps = (n k : ℕ) × (slice_get steps n ≡ Some (Step.RwUnlock k s side)) × IsOk (outcome (world_after w (take n steps)) (Step.RwUnlock k s side))
 
--- if the steps after the first include such an rwunlock, so do all the steps
+-- if such an rwunlock is among the steps after the first, it is also in the list of all steps
 given_back_later : (w : World) (s : ℕ) (side : Side) (step : Step) (steps : List Step) → GivenBack (next_of w (outcome w step)) s side steps → GivenBack w s side (step ∷ steps)
 given_back_later w s side step steps rest = (suc rest.0, rest.1, rest.2, rest.3)
 

@@ -152,7 +152,8 @@ lost_is_listed r n g d side fits below has =
     let listed : lost_at n w d (account r d n) side ≡ lost ∷ [] = ap (λ x. lost_by n d side x (debt r d side n)) word ∙ ap (lost_by n d side (CellValue.WaitWord (Held g))) b.1 in
     (lost, to_all n w (λ e. account r e n) r.limits.descriptors d side lost below (subst (λ xs. Contains xs lost) (sym listed) (here lost)), refl, refl, refl)
 
--- if no lost wake-up is listed, the debt of each event for a parked goroutine's side was settled
+-- if no lost wake-up is listed, each event for a side at which a goroutine is parked was followed
+-- by a step that settled the debt
 pub paid_if_none : (r : Recording) (n g d : ℕ) (side : Side) (event : ℕ) → WellFormed (world_at r n) → d < r.limits.descriptors → lost_wake_ups r n ≡ []
     → HasView parked_of (world_at r n).goroutines g (d, side) → event < n → IsEvent r d side event
     → (k : ℕ) × (event < k) × (k < n) × IsPayment r d side k

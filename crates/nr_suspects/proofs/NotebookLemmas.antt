@@ -215,7 +215,7 @@ held_same n w f g goroutines (suc k) same =
     ap (λ xs. xs ++ (if is_unfreed w k then held_of_goroutines n w k (f k) goroutines else [])) (held_same n w f g goroutines k (λ s x below within. same s x (omega (arith, below)) within))
     ∙ ap (λ ys. held_of_sockets n w g goroutines k ++ (if is_unfreed w k then ys else [])) (held_below_same n w k (f k) (g k) goroutines (λ x within. same k x (omega arith) within))
 
--- the other ends that the notebook records are those in the world
+-- for each socket, the notebook records the same other end of the connection as the world
 peers_are : (r : Recording) (n : ℕ) (peers : List (Option Peer)) → WellFormed (world_at r n) → ArePeers r n peers → (s : ℕ) → peer_in peers s ≡ option_map peer_of (slice_get (world_at r n).sockets s)
 peers_are r n peers fits are s = by (nat_lt s r.limits.sockets) refl (slice_get peers s) (slice_get (world_at r n).sockets s) refl refl
   where

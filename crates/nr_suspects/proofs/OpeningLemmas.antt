@@ -425,7 +425,7 @@ kept_socket n d (notices.SocketOpened s capacity) a = mapped a (noted n d (notic
 kept_socket n d (notices.PeerClosed s) a = mapped a (noted n d (notices.PeerClosed s)) (λ y. refl)
 kept_socket n d notices.Nothing a = mapped a (noted n d notices.Nothing) (λ y. refl)
 
--- the socket for which a descriptor was last opened is the one in its row
+-- the socket for which a descriptor was last opened is the socket in the descriptor's row
 pub socket_is : (r : Recording) (d n : ℕ) → socket_at r d n ≡ option_map (λ (row : DescriptorRow). row.descriptor.socket) (slice_get (world_at r n).descriptors d)
 socket_is r d zero = refl
 socket_is r d (suc n) = go (moves r n) (socket_is r d n)

@@ -1,4 +1,4 @@
--- The other ends computed from the notices are those in the world.
+-- For each socket, the notices give the same other end of the connection as the world.
 use Rattle.std.proofs.Common.{◌≡◌, ℕ, zero, suc, ◌*◌, ◌&&◌, ◌||◌, not, Bool, true, false, length, List, [], ◌∷◌, Option, Some, None, inl, inr, refl, sym, ap, ◌∙◌, true≢false}
 use Rattle.std.specs.Prelude.{if◌then◌else◌, ◌==◌, int_le, int_lt, nat_le, nat_lt, option_map, remove, slice_get, slice_set, ℤ}
 use Rattle.std.proofs.lemmas.Bool.{eqb-false, eqb-true}

@@ -163,7 +163,8 @@ opened_is_kept n d s a = by (d == d) refl
     by true e = (newly_opened s, refl)
     by false e = absurd (eqb-false d d e refl)
 
--- a descriptor that exists after a step existed before, or the notice opened it
+-- if a descriptor exists after a step, it already existed before the step, or the step's notice
+-- says that it was opened
 opens : (w : World) (step : Step) (answer : Answer) (next : World) (d : ℕ) → outcome w step ≡ Ok (answer, next) → IsMade next d → IsMade w d ⊎ ((s : ℕ) × (notice w step answer next ≡ notices.Opened d s))
 opens w step answer next d is made = elim ((was_made w step d).value (answer, next) is made) [
   | inl before ↦ inl before
@@ -194,7 +195,8 @@ event_made w d tag mode error = ComesTo-bind (ComesTo-ends (Ends-row_of d w)) λ
 same_event : (d e : ℕ) (mode other : Mode) → notices.Event d mode ≡ notices.Event e other → (d ≡ e) × (mode ≡ other)
 same_event d e mode other is = (cc, cc)
 
--- The step of an event: it was answered `Done`, and made the world of the next position.
+-- A step that is an event. The step was answered `Done`, and the world after it is the world at the
+-- next position.
 pub record EventStep (r : Recording) (d n : ℕ) (mode : Mode) : Type 0 where
   pub tag : ℕ
   pub error : Bool

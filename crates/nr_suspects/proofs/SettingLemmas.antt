@@ -101,16 +101,17 @@ next_of_setting n d side notices.Nothing y = refl
 
 -- ---- the source of a setting
 
--- The recorded move is the first step that set only the other side's deadline. Either the notice
--- sets no deadline of descriptor d, and the move is unchanged; or it sets only the other side's
--- deadline, and its step becomes the move unless there is an earlier one.
+-- The recorded move is the first step that set only the other side's deadline. There are two cases.
+-- If the notice sets no deadline of descriptor d, the recorded move is unchanged. If the notice
+-- sets only the other side's deadline, the notice's step is recorded as the move, unless an earlier
+-- move was recorded.
 abbrev pub MoveFrom : ℕ → ℕ → Side → Notice → Option StepBy → Option StepBy → Type 0
 MoveFrom n d side x old new =
     ((new ≡ old) × ((g : ℕ) (mode : Mode) → x ≢ notices.SetDeadline g d mode))
     ⊎ ((g : ℕ) × (mode : Mode) × (x ≡ notices.SetDeadline g d mode) × (names_side mode side ≡ false) × (new ≡ Some (option_map_or (λ first. first) old (record { step = n; goroutine = g }))))
 
--- The source of a setting: either this step set the deadline, or an earlier step did, and this step
--- changed at most the recorded move.
+-- The source of a setting. `Fresh`: this step set the deadline. `Old`: an earlier step set the
+-- deadline, and this step changed nothing or only the recorded move.
 pub data SettingFrom (n d : ℕ) (side : Side) (x : Notice) (a : Option Account) (setting : Setting) : Type 0 where
   Fresh : (g : ℕ) (mode : Mode) → x ≡ notices.SetDeadline g d mode → names_side mode side ≡ true → setting.by ≡ record { step = n; goroutine = g } → setting.mode ≡ mode → setting.moved ≡ None → SettingFrom n d side x a setting
   Old : (old : Setting) → side_setting side a ≡ Some old → setting.by ≡ old.by → setting.mode ≡ old.mode → ((g : ℕ) (mode : Mode) → x ≡ notices.SetDeadline g d mode → names_side mode side ≡ true → ⊥)
@@ -188,7 +189,7 @@ setting_from n d side notices.Nothing (Some y) setting at = as_before n d side n
 
 -- ---- a setting persists
 
--- the side has a setting
+-- the account contains a setting of this side's deadline
 abbrev pub IsSet : Side → Option Account → Type 0
 IsSet side a = (setting : Setting) × (side_setting side a ≡ Some setting)
 
@@ -225,7 +226,7 @@ set_on n d side x (Some y) set unopened =
     let next = next_is_set n d side x (set_of side y.deadlines) unopened set in
     (next.0, next_of_setting n d side x y ∙ next.1)
 
--- after a step sets the deadline of a side, the side has a setting
+-- after a step sets the deadline of a side, the account contains the setting of that deadline
 pub set_now : (n d g : ℕ) (mode : Mode) (side : Side) (y : Account) → names_side mode side ≡ true → IsSet side (account_after n d (notices.SetDeadline g d mode) (Some y))
 set_now n d g mode side y names = by (d == d) (names_side mode side) refl names
   where

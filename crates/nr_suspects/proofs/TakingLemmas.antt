@@ -41,7 +41,8 @@ IsAt v d side = (v.descriptor ≡ d) × (v.side ≡ side)
 
 -- The source of a debt after a notice. `Fresh`: the notice is the debt's event. `TakenNow`: the
 -- debt existed before, and the notice says that a goroutine consumed the readiness notification of
--- its side. `Old`: the debt existed before, and the notice says no such thing.
+-- its side. `Old`: the debt existed before, and the notice says neither that a goroutine consumed
+-- that notification nor that the descriptor was opened.
 data DebtFrom (n d : ℕ) (side : Side) (x : Notice) (a : Option Account) (b : Debt) : Type 0 where
   Fresh : Comes d side x → b ≡ record { event = n; taken = None } → DebtFrom n d side x a b
   TakenNow : (v : Visit) (old : Debt) → x ≡ notices.TookReadiness v → IsAt v d side → debt_of side a ≡ Some old → b ≡ taken_by n v.goroutine old → DebtFrom n d side x a b
@@ -195,7 +196,7 @@ module _ (r : Recording) (d : ℕ) (side : Side) where
           ∙ ready_on w next step answer n came (before there none) (λ v took. untaken v (noticed ∙ took)) (λ s opened. unopened s (noticed ∙ opened))
       go (Old there untaken unopened) before (Stays same quiet) = ap (λ x. is_ready x d side) same ∙ before there none
 
-  -- the step that a debt names consumed the readiness notification
+  -- if a debt records a step that consumed the readiness notification, that step did consume it
   taking_is : (n : ℕ) (b : Debt) (t : StepBy) → debt r d side n ≡ Some b → b.taken ≡ Some t → IsTaking r n d side b.event t
   taking_is zero b t is some = cc
   taking_is (suc n) b t is some = go (debt_from (suc n) d side (notice_at r n) (account r d n) b is) (taking_is n b t)

@@ -90,8 +90,8 @@ abbrev pub IsSetting : Recording → ℕ → Side → ℕ → ℕ → Mode → T
 IsSetting r d side n g mode =
     (notice_at r n ≡ SetDeadline g d mode) × IsTrue (names_side mode side)
 
--- in the step after position n, goroutine g sets a deadline of descriptor d, but only that of the
--- other side
+-- in the step after position n, goroutine g sets the deadline of the other side of descriptor d,
+-- and not the deadline of this side
 abbrev pub IsMove : Recording → ℕ → Side → ℕ → ℕ → Type 0
 IsMove r d side n g =
     (mode : Mode) × (notice_at r n ≡ SetDeadline g d mode) × (names_side mode side ≡ false)

@@ -19,12 +19,13 @@ use Rattle.nr_suspects.specs.Settings.{never_set, looked_at, after_setting, afte
 abbrev pub newly_opened : ℕ → Account
 newly_opened s = record { socket = s; debts = twice None; deadlines = twice never_set }
 
--- the debt of a side after the event of step n: a new debt if the event's mode names the side
+-- the debt of a side after step n, if this step is an event; it is a new debt if the event's mode
+-- names the side
 abbrev pub owed_by_event : ℕ → Mode → Side → Option Debt → Option Debt
 owed_by_event n mode side debt =
     if names_side mode side then Some (record { event = n; taken = None }) else debt
 
--- the account after the event of step n for these sides
+-- the account after step n, if this step is an event for these sides
 abbrev pub with_event : ℕ → Mode → Account → Account
 with_event n mode a = record a {
   debts = record {

@@ -49,7 +49,8 @@ RowCanCount row =
     (g : ℕ) (h : Holding) → slice_get row g ≡ Some h
     → (h.taken < 2 ^ 64 - 1) × (h.given < 2 ^ 64 - 1)
 
--- the place of goroutine g in the row of socket s, if it exists, was updated with a step
+-- If the row of socket s has a place for goroutine g, this place was updated with a step. All other
+-- places of the row are unchanged.
 pub record IsRowHeldAt (n g s : ℕ) (notice : Notice) (old new : List Holding) : Type 0 where
   pub here : slice_get new g ≡ option_map (holding_after n g s notice) (slice_get old g)
   pub elsewhere : (k : ℕ) → k ≢ g → slice_get new k ≡ slice_get old k

@@ -23,8 +23,8 @@ use Rattle.nr_suspects.specs.Debts.{account, Owed}
 use Rattle.nr_suspects.specs.declared.notice.Notice.TheVariants.{Opened, TookReadiness}
 use Rattle.nr_suspects.specs.Notices.{notice, notice_at, word_cell}
 
--- Goroutine g has lost a wake-up at position n: it is parked at a side of descriptor d, and the
--- side has a debt.
+-- Goroutine g has lost a wake-up at position n. It is parked at a side of descriptor d, although an
+-- event came for that side and no later step has settled the debt (`Owed`).
 pub record HasLost (r : Recording) (n g d : ℕ) (side : Side) : Type 0 where
   pub parked : HasView parked_of (world_at r n).goroutines g (d, side)
   pub owed : Owed r n d side
@@ -54,8 +54,8 @@ pub record IsTaking (r : Recording) (n d : ℕ) (side : Side) (event : ℕ) (tak
 
 -- ---- all lost wake-ups
 
--- the lost wake-up of the goroutine in the word, if the word holds a goroutine and the side has a
--- debt
+-- If a side's wait word holds a goroutine and the side has a debt, the list has that goroutine's
+-- lost wake-up. Otherwise the list is empty.
 abbrev pub lost_by : ℕ → ℕ → Side → CellValue → Option Debt → List LostWakeUp
 lost_by n d side (CellValue.WaitWord (Held g)) (Some debt) =
     record {

@@ -1,4 +1,4 @@
--- Notices: the effects of a step from which suspects are found.
+-- Notices. A notice is the effect of a step, as far as it matters for finding suspects.
 use Rattle.std.specs.Prelude.{ℕ, Bool, true, false, ◌&&◌, not, if◌then◌else◌, Option, Some, None, option_map, slice_get, Ok, Err}
 use Rattle.std.specs.Option.{option_map_or}
 use Rattle.nr_rev.specs.contracts.answer.AnswerPartialEq.TheImpl as answer_eq

@@ -45,9 +45,9 @@ reason_of_socket Read socket =
     reason_to_read (length socket.buffers.read.bytes) socket.peer_closed
 reason_of_socket Write socket = reason_to_write socket.shut (room_of socket.buffers.write)
 
--- Why a goroutine that waits at a side of a descriptor with this row should be woken: a check ends
+-- Why a goroutine should be woken if it waits at this side of the descriptor. Either a check ends
 -- the wait, because the descriptor is closing, the side's deadline has passed or an event reported
--- an error; or the socket has what the side waits for.
+-- an error. Or the socket has what the side waits for.
 abbrev pub reason_of_row : World → Side → DescriptorRow → Option Reason
 reason_of_row w side row =
     option_or (reason_of_code (check side row.descriptor))
@@ -88,7 +88,8 @@ sleeper_by n d side word reason = []
 abbrev pub sleeper_at : ℕ → World → ℕ → Side → Option Reason → List Sleeper
 sleeper_at n w d side reason = sleeper_by n d side (cell w (word_cell d side)) reason
 
--- the sleepers at the descriptors below k, from the reasons of their sides
+-- the sleepers at the descriptors below k, given the reason why a goroutine at each side should be
+-- woken, if any
 abbrev pub sleepers_below : ℕ → World → (ℕ → Side → Option Reason) → ℕ → List Sleeper
 sleepers_below n w reasons zero = []
 sleepers_below n w reasons (suc k) =

@@ -8,7 +8,8 @@ use crate::notice::{Notice, Visit};
 use crate::setting::{Deadline, StepBy, after_passing, after_setting, looked_at};
 use nr_rev::{Mode, Side, Sides};
 
-/// The debt that an event leaves: the socket must be tried at the side that the event named.
+/// The record that an event came for a side, and that no later read or write of the socket at that
+/// side was answered `Again`.
 #[derive(Clone, Copy, Debug, PartialEq, Eq)]
 pub struct Debt {
     /// The number of the event's step, counted from 1.

@@ -64,7 +64,7 @@ fn consequence_name(consequence: Consequence) -> &'static [u8]
     }
 }
 
-// Returns the goroutine of a consequence, if it has one.
+// Returns the goroutine that a consequence names, if it names one.
 fn goroutine_of(consequence: Consequence) -> Option<u32>
     ensures { result ≡ goroutine_of consequence }
 {

@@ -123,8 +123,8 @@ fn add_holders<W: Worlds>(
     Ok(())
 }
 
-/// Appends the references that goroutines hold to closed sockets in a world at this position,
-/// sorted by socket and then by goroutine. Looks at the first `sockets` sockets and the first
+/// Appends all references to closed sockets in a world at this position, sorted by socket and then
+/// by the goroutine that holds the reference. Looks at the first `sockets` sockets and the first
 /// `goroutines` goroutines. Fails with `Memory` if memory runs out.
 pub fn list_held_references<W: Worlds>(
     world: &W,

@@ -51,9 +51,8 @@ pub fn just_lost_wake_ups_are_listed()
         × (lost.descriptor ≡ d) × (lost.side ≡ side) }
 {}
 
-/// If no lost wake-up is listed, every goroutine that is parked at a side of a descriptor went to sleep after a try
-/// that was answered `Again`, or after the descriptor was reopened, and that try or reopening came after each event for
-/// the side.
+/// If no lost wake-up is listed, each event for a side at which a goroutine is parked was dealt with. After the event,
+/// a read or write of the socket at that side was answered `Again`, or the descriptor was reopened.
 pub fn if_none_is_listed_each_event_was_tried()
     ensures { (r : Recording) (n g d : ℕ) (side : Side) (event : ℕ) → WellFormed (world_at r n)
         → d < r.limits.descriptors → lost_wake_ups r n ≡ []
@@ -78,8 +77,8 @@ pub fn each_lost_wake_up_names_its_taking()
         → (taken : StepBy) × (lost.taken ≡ Some taken) × IsTaking r n lost.descriptor lost.side lost.event taken }
 {}
 
-/// The list of sleepers is exact: each listed goroutine is parked at the side that it names and should have been woken
-/// for that reason, and each such goroutine is listed.
+/// The list of sleepers is exact. Each listed goroutine is parked at the listed side and should have been woken for
+/// the listed reason. Each such goroutine is listed.
 pub fn just_sleepers_are_listed()
     ensures listed { (r : Recording) (n : ℕ) (s : Sleeper) → WellFormed (world_at r n)
         → Contains (sleepers r n) s
@@ -139,8 +138,8 @@ pub fn deadlines_pass_in_time()
 
 /// The list of findings about deadlines is exact. Each finding is correct about its deadline, its
 /// step, and the step that had set the deadline. The list has an entry for each deadline that
-/// passes, and for each call that a deadline ends, which is each timeout. It also has an entry for
-/// each deadline that wakes a goroutine and is set again before that goroutine checks its side.
+/// passes, and for each timeout, that is, for each call that a deadline ends. It also has an entry
+/// for each deadline that wakes a goroutine and is set again before that goroutine checks its side.
 pub fn just_what_came_of_deadlines_is_listed()
     ensures listed { (r : Recording) (n : ℕ) (found : DeadlineFinding)
         → Contains (deadline_findings r n) found → IsFinding r n found }
@@ -203,8 +202,9 @@ pub fn a_leaked_reference_keeps_the_socket()
 /// An event of an earlier opening changes nothing. An event for a descriptor that was ever opened
 /// is answered `Stale`, and leaves the world as it was, if and only if the descriptor is closed or
 /// has another tag; it is answered `Done` if and only if the descriptor is open and has its tag. No
-/// step lowers a tag, and a close raises it. So an event with the tag that a descriptor had when it
-/// was closed, or with a lower tag, is answered `Stale` after any steps.
+/// step lowers a tag, and a close raises it. Take the tag that a descriptor had when it was closed,
+/// or a lower tag. Events with this tag are answered `Stale` from then on, whatever steps follow
+/// the close.
 pub fn events_of_an_earlier_opening_change_nothing()
     ensures stale { (w : World) (d tag : ℕ) (mode : Mode) (error : Bool) (row : DescriptorRow)
         → slice_get w.descriptors d ≡ Some row

@@ -19,8 +19,8 @@ use std::io::Write;
 /// The maximum number of lost wake-ups: one for each side of each descriptor.
 pub const MOST_LOST: usize = 512;
 
-/// A goroutine that is parked at a descriptor's side although an event came for the side and no try of its socket has
-/// been answered `Again` since.
+/// A goroutine that is parked at a descriptor's side although an event came for the side. Since the event, no read or
+/// write of the socket at that side has been answered `Again`, and the descriptor hasn't been reopened.
 #[derive(Clone, Copy, Debug, PartialEq, Eq)]
 pub struct LostWakeUp {
     /// The position at which the goroutine is parked.

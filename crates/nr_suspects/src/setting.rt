@@ -94,8 +94,8 @@ impl Setting {
     }
 }
 
-// Returns the goroutine that was woken, or `None` if that is this goroutine, which has now checked
-// its side.
+// Returns the goroutine that was woken. Returns `None` if it is `goroutine`, because that goroutine
+// has now checked its side.
 fn woken_but(goroutine: u32, woken: Option<u32>) -> Option<u32>
     ensures { result ≡ woken_but goroutine woken }
 {

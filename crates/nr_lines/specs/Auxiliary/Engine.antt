@@ -28,8 +28,8 @@ Turns d (line ∷ lines) (text ∷ texts) d' =
 Turns d [] (text ∷ texts) d' = ⊥
 Turns d (line ∷ lines) [] d' = ⊥
 
--- The front only appended words to those that it had read. The number of times that it looked for a
--- word and found none hasn't decreased.
+-- The front only appended words to those that it had read. Its count of unsuccessful looks for a
+-- word hasn't decreased.
 pub record Grows (d d' : FrontState) : Type 0 where
   pub words : StartsWith d'.pass_state.seen d.pass_state.seen
   pub looks : d.pass_state.looks ≤ d'.pass_state.looks
