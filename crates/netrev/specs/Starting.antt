@@ -43,8 +43,8 @@ usage_text =
     ++ codes "       netrev serve FILE --port P [--fronts N] [--workers W] [--journal H]"
     ++ codes " [--connections C]\n"
 
--- What a program does with the bytes of its file. Only `run` reads input, and it writes its
--- transcript. Only `serve` opens ports.
+-- What a program does with the bytes of its file. Only `run` reads input, and it writes the
+-- transcript of the commands in that input. Only `serve` opens ports.
 abbrev pub Plays : Program → List ℕ → Incoming → Incoming → FrontsLog → FrontsLog → Outgoing
     → Outgoing → ExitStatus → Type 0
 Plays (program.Run file) bytes input left before after old new status =

@@ -3,9 +3,9 @@
 //! `netrev run FILE` reads commands from standard input and writes replies to standard output.
 //! `netrev check FILE` reports whether the recording can be replayed. `netrev upgrade FILE` writes
 //! the recording with the answer of each step. `netrev changes FILE` writes the cells that each
-//! step changed. `netrev suspects FILE` writes what happened to deadlines, the lost wake-ups, the
-//! sleepers and the held references to closed sockets. `netrev serve FILE --port P` answers the
-//! commands of several callers, who share one session, over the loopback interface.
+//! step changed. `netrev suspects FILE` writes the findings about deadlines, the lost wake-ups, the
+//! sleepers, and the references to closed sockets that are still held. `netrev serve FILE --port P`
+//! answers the commands of several callers, who share one session, over the loopback interface.
 #![tactic(auto)]
 
 mod loopback;

@@ -4,7 +4,8 @@ use Rattle.clap.specs.Words.{Row, Text, first_of}
 use Rattle.nr_arguments.specs.Arguments.{Ask, IsPlain, asked_in, asked_on}
 use Rattle.clap.proofs.OnLiterals.{clap_on_literals}
 
--- two views of an option's value make a view of the pair
+-- if f gives x for an option's value and g gives y, mapping the option with both gives the pair (x,
+-- y)
 pub both_views : {B X Y : Type 0} (f : B → X) (g : B → Y) (o : Option B) (x : X) (y : Y) → Some x ≡ option_map f o
     → Some y ≡ option_map (λ (p : X × Y). p.1) (option_map {U = X × Y} (λ b. (f b, g b)) o) → option_map {U = X × Y} (λ b. (f b, g b)) o ≡ Some (x, y)
 both_views f g None x y e h = cc

@@ -217,7 +217,7 @@ pub fn read_words<'a>(
     }
 }
 
-/// The name of a subcommand and the name of a file that doesn't begin with a hyphen select the
+/// The name of a subcommand and a file name that doesn't begin with a hyphen select the
 /// subcommand's program.
 pub fn plain_arguments_ask()
     ensures run { (program file : List ℕ) → IsPlain file

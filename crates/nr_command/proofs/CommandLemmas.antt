@@ -10,7 +10,8 @@ use Rattle.nr_command.specs.declared.command.LineFault.TheVariants.{BadArgument,
 use Rattle.nr_command.specs.declared.parsing.TheConstants.{MAX_LINE}
 use Rattle.nr_command.specs.Command.{meaning_of, break_of, cell_of, meaning_of_words, number_of, without_return, words}
 
--- no request has more than three words, so words after the fourth don't matter
+-- a request has at most three words; a fourth word makes it a fault, and later words change nothing
+-- more
 meaning_of_words-take : (ws : List (List ℕ)) → meaning_of_words (take 4 ws) ≡ meaning_of_words ws
 meaning_of_words-take [] = refl
 meaning_of_words-take (a ∷ []) = refl
@@ -34,13 +35,13 @@ number_big ds big =
     ap (λ (small : Bool). cond (t && small) (Ok (digits_value 10 ds)) (Err BadArgument)) (le-ltb _ _ big)
     ∙ ap (λ (b : Bool). cond b (Ok (digits_value 10 ds)) (Err BadArgument)) (and-false t)
 
--- a break is one word, so more words are a bad argument
+-- a break is one word; two or more words are refused with `BadArgument`
 pub break_of-more : (ws : List (List ℕ)) → 2 ≤ length ws → break_of ws ≡ Err BadArgument
 break_of-more [] more = refl
 break_of-more (a ∷ []) more = absurd (omega (arith, more))
 break_of-more (a ∷ b ∷ ws) more = refl
 
--- a cell is at most two words, so more words are a bad argument
+-- a cell is at most two words; three or more words are refused with `BadArgument`
 pub cell_of-more : (ws : List (List ℕ)) → 3 ≤ length ws → cell_of ws ≡ Err BadArgument
 cell_of-more [] more = absurd (omega (arith, more))
 cell_of-more (a ∷ []) more = absurd (omega (arith, more))

@@ -101,7 +101,8 @@ module _ (r : Recording) (d : Debugger) (w : IsWithin (length r.steps) d) where
       (λ other. restarted-within (length r.steps) d w number (find (λ c. c.number == number) d.checkpoints.present) refl)
   run-within (commands.DeleteCheckpoint number) = unkept-within (length r.steps) d w number (checkpoints.checkpoint_deletion number d.checkpoints)
 
--- a debugger is within its recording after a command, even if the command ran out of memory
+-- after a command, the debugger's position and its checkpoints are in the recording, even if the
+-- command ran out of memory
 pub exec-within : {E : Type 0} (r : Recording) (command : Command) (old new : Debugger) (result : Result Reply E) → IsWithin (length r.steps) old
     → IfOk result (λ reply. (reply, new) ≡ run r command old) → OnErr result (new ≡ old) → IsWithin (length r.steps) new
 exec-within r command old new (Ok reply) w ran same = subst (IsWithin (length r.steps)) (sym (ap (λ (x : Ran). x.1) ran)) (run-within r old w command)
@@ -118,6 +119,6 @@ words-within : (r : Recording) (d : Debugger) (words : List ℕ) → IsWithin (l
 words-within r d [] w = w
 words-within r d (word ∷ words) w = words-within r (after_tagged r d (command_of word)) words (tagged-within r d (command_of word) w)
 
--- the debugger is within its recording after any history
+-- after any history, the debugger's position and its checkpoints are in the recording
 pub history-within : (r : Recording) (words : List ℕ) → IsWithin (length r.steps) (after_words r opening words)
 history-within r words = words-within r opening words (opening-within (length r.steps))

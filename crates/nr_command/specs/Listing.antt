@@ -1,4 +1,4 @@
--- The lines of the lists of marks and checkpoints.
+-- The lines in which `info` lists marks and checkpoints.
 use Rattle.std.specs.Prelude.{ℕ, List, ◌++◌, length, flat_map, codes, decimal}
 use Rattle.nr_rev.specs.Kind.{kind_name}
 use Rattle.nr_command.specs.Value.{cell_text}

@@ -72,7 +72,7 @@ small n = if nat_lt n (2 ^ 32) then Some n else None
 abbrev pub from_one_below : ℕ → Option NonZeroU32
 from_one_below n = small n >>= from_one
 
--- a command that has no argument, if the argument is 0
+-- the command, if the word's argument is 0; otherwise `None`, because the command takes no argument
 abbrev pub only_without : ℕ → Command → Option Command
 only_without argument command = if argument == 0 then Some command else None
 

@@ -29,7 +29,7 @@ impl Query {
 
 // Each kind of query has its own function. A function clears all its locals on entry, and a reply
 // is a large local, because it has room for 64 marks. One function for all kinds would clear
-// several.
+// several replies.
 impl Debugger {
     /// Returns the reply to a query about the world at the debugger's position, or about the debugger itself. It
     /// changes nothing.

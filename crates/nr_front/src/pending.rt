@@ -19,7 +19,7 @@ pub enum Pending {
 }
 
 impl Pending {
-    /// Returns what is pending after a word of another user.
+    /// Returns the pending state after the front has read this word of another user.
     pub(crate) fn at(word: u64) -> Pending
         ensures { result ≡ pending_after (command_of word) }
     {

@@ -143,7 +143,7 @@ fn places(answers: &[(Answered, usize)]) -> [u32; 7] {
     places
 }
 
-/// Returns the tags of the words that are a `stepi`, each tag once and in ascending order.
+/// Returns the tags of the `stepi` words, each tag once and in ascending order.
 fn tags(alloc: Global, words: &[u64]) -> Result<Vec<u64>, AllocError> {
     let mut tags = Vec::new(alloc);
     for word in words {

@@ -20,7 +20,7 @@ pub(crate) struct Script {
     pub(crate) text: &'static str,
     /// The number of bytes that can be read before reads fail.
     pub(crate) left: usize,
-    /// The number of bytes of the replies that can be written.
+    /// The number of reply bytes that the writer accepts.
     pub(crate) room: usize,
     pub(crate) then: AtBrim,
     /// Which copies of the film's world are refused: one bit for each request, from the lowest bit

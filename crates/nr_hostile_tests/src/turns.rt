@@ -320,9 +320,10 @@ fn offer_no_command(journal: &Journal, pass: &mut Pass) -> bool
     matches!(journal.offer(pass, word), Offered::Placed)
 }
 
-/// Places a word that isn't a command with tag 2, a step by the front with tag 0, another word that
-/// isn't a command with tag 0, and a step by the front with tag 1. Returns whether each of the two
-/// other words was placed, the answers to the steps, and the final state.
+/// Offers four words. The pass with tag 2 offers a word that isn't a command. The pass with tag 0
+/// places a step and then offers a word that isn't a command. The pass with tag 1 places a step.
+/// Returns whether the two words that aren't commands were placed, the answers to the steps, and
+/// the final state.
 fn step_behind_over<R: Threads + Sync>(
     rt: &R,
     alloc: Global,

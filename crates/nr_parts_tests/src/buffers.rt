@@ -141,7 +141,7 @@ fn there_and_back(
     Ok((played, held_by_a_copy(&sock)))
 }
 
-/// Returns a round of steps that leaves bytes which wrap round the end.
+/// Returns a round of steps. After them, the bytes in the buffer wrap around its end.
 fn first_round(alloc: Global) -> Result<[Step; 4], Memory> {
     Ok([
         OPEN,

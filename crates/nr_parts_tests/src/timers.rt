@@ -232,8 +232,8 @@ fn refuses_for_the_first_reason(rt: HostRuntime) -> Result<(), Fail> {
     Ok(())
 }
 
-/// Applies all the operations or none. Returns whether they apply, the number of deltas, and the least entry afterwards
-/// and after undoing them.
+/// Applies all the operations or none, and then undoes them. Returns the refusal, if any, the number of deltas, the
+/// least entry after the operations, and the least entry after undoing them.
 fn transacted(
     timers: &mut Timers,
     ops: &[TimersOp],
@@ -249,7 +249,7 @@ fn transacted(
     (applied, made, least, timers.least())
 }
 
-/// Tries operations that all apply, and operations of which the last is refused.
+/// Tries a list of operations that all apply, and a list whose last operation is refused.
 fn transactions(
     timers: &mut Timers,
 ) -> [(Result<(), Refusal>, usize, Option<Entry>, Option<Entry>); 2]

@@ -115,8 +115,8 @@ impl Program {
         })
     }
 
-    /// Returns whether exactly the first bytes are written if the writer fails after this many
-    /// bytes.
+    /// Runs the program with a writer that fails after `room` bytes. Returns whether the first
+    /// `room` bytes of `text` were written, and the status and the output report the failure.
     pub(crate) fn is_cut(self, alloc: Global, recording: &str, room: usize, text: &str) -> bool {
         let mut output = Sink::new(Cup {
             held: Vec::new(alloc),

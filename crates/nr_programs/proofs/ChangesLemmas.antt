@@ -61,7 +61,7 @@ texts_of_changes n changes = text_of_parts_is change_text (as_lines n changes) �
 texts_behind : (n : ℕ) (lines after : List ChangeLine) (changes : List CellWithValue) → after ≡ lines ++ as_lines n changes → texts_of after ≡ texts_of lines ++ lines_of_changes n changes
 texts_behind n lines after changes is = ap texts_of is ∙ texts-append lines (as_lines n changes) ∙ ap (λ t. texts_of lines ++ t) (texts_of_changes n changes)
 
--- the first of the remaining lines now wait to be written
+-- moving the first of the remaining lines to the waiting lines leaves the whole text unchanged
 moved_on : (sent lines after more later rest all : List ℕ) → after ≡ lines ++ more → rest ≡ more ++ later → sent ++ (lines ++ rest) ≡ all → sent ++ (after ++ later) ≡ all
 moved_on sent lines after more later rest all waits cut is =
     ap (λ t. sent ++ (t ++ later)) waits ∙ ap (λ t. sent ++ t) (append_assoc lines more later) ∙ ap (λ t. sent ++ (lines ++ t)) (sym cut) ∙ is
@@ -121,7 +121,8 @@ module _ (r : Recorded) where
   steps_there : (n : ℕ) (s : RecordedStep) → slice_get r.steps n ≡ Some s → drop n r.steps ≡ s ∷ drop (n + 1) r.steps
   steps_there n s read = drop_more r.steps n s (slice_get_within r.steps n s read) ∙ ap (λ x. x ∷ drop (n + 1) r.steps) (get_or_from_slice_get r.steps n s s read)
 
-  -- the lines for the steps from a position on, given the fault of the first of them
+  -- the lines for the steps after position n, given the fault of the first of these steps, if it
+  -- has one
   lines_by : (n : ℕ) (w : World) (s : RecordedStep) (fault : Option LoadFault) → slice_get r.steps n ≡ Some s → step_fault (n + 1) s.answer (outcome w s.step) ≡ fault
       → lines_from n w
       ≡ unless_fault fault (lines_of_changes (n + 1) (changes_between w (next_of w (outcome w s.step))) ++ change_lines (n + 1 + 1) (next_of w (outcome w s.step)) (drop (n + 1) r.steps))
@@ -136,8 +137,8 @@ module _ (r : Recorded) where
       ap (first_fault (n + 1) w) (steps_there n s read)
       ∙ ap (λ f. fault_or f (first_fault (n + 1 + 1) (next_of w (outcome w s.step)) (drop (n + 1) r.steps))) is
 
-  -- if the step at a position has no fault, the lines from this position on begin with the lines of
-  -- this step; the lines from the next position on follow
+  -- if the step after position n has no fault, the lines for all steps after position n are the
+  -- lines for this step, followed by the lines for the later steps
   lines_on : (n : ℕ) (w next : World) (s : RecordedStep) → slice_get r.steps n ≡ Some s → step_fault (n + 1) s.answer (outcome w s.step) ≡ None → next ≡ next_of w (outcome w s.step)
       → lines_from n w ≡ lines_of_changes (n + 1) (changes_between w next) ++ lines_from (n + 1) next
   lines_on n w next s read none leads =
@@ -179,7 +180,7 @@ module _ (r : Recorded) where
       ∙ sym (append_assoc before.sent (texts_of lines ++ lines_from n w) last)
       ∙ ap (λ t. t ++ last) before.rest
 
-  -- a write failed within the waiting lines
+  -- a write of the waiting lines failed
   pub broken : (n : ℕ) (w : World) (lines : List ChangeLine) (old mid new : Outgoing) (count : ℕ) → Progress n w lines old mid → WritesPrefix mid new (texts_of lines) count → WritesChanges (Ok r) old new StreamFailed
   broken n w lines old mid new count before part =
       let last = last_line (opened_as (Ok r)) in

@@ -145,8 +145,8 @@ module _ (r : Recorded) where
       from None is e = absurd cc
       from (Some step) is e = let o = answers_so step (outcome (world_at (run_of r) k) step) refl e in (step, o.0, is, o.1)
 
-  -- if a step has another answer than the recorded one, and all earlier steps apply and give their
-  -- recorded answers, the computed fault says so
+  -- if a step gives a different answer from the recorded one, and all earlier steps apply and give
+  -- their recorded answers, the computed fault reports that step
   other_found : (k : ℕ) → AnswersOtherwiseAt r k → fault_from r 0 ≡ Some (load.OtherAnswer (k + 1))
   other_found k other =
       let g = gives_so k other.given other.gives in
@@ -172,7 +172,7 @@ module _ (r : Recorded) where
 
 -- ---- the bytes
 
--- if bytes are a good text of a run, opening the bytes gives this run
+-- if `IsGoodText` holds for bytes and a run, opening the bytes gives this run
 pub opened_good : (bytes : List ℕ) (run : Recording) → IsGoodText bytes run → opened bytes ≡ Ok run
 opened_good bytes run is =
     let right = subst IsGood (sym is.run) is.good in

@@ -19,7 +19,7 @@ use Rattle.nr_programs.specs.declared.opening.OpenFault.TheVariants.{Read, Load}
 use Rattle.nr_programs.specs.declared.run.ExitStatus.{ExitStatus}
 use Rattle.nr_programs.specs.declared.run.ExitStatus.TheVariants.{Refused}
 
--- bytes are a good text if their recording was replayed without a fault
+-- `IsGoodText` holds for bytes whose recording was replayed without a fault
 pub good_text : (bytes : List ℕ) (recorded : Recorded) (run : Recording) → IsTextOf bytes recorded → run_of recorded ≡ run → IsGood (run_of recorded)
     → AnswersAgree recorded → IsGoodText bytes run
 good_text bytes recorded run text same good answers = record {
@@ -30,26 +30,26 @@ good_text bytes recorded run text same good answers = record {
   answers = answers;
 }
 
--- bytes are a text of at most one recording
+-- the same bytes can't be the text of two different recordings
 same_recorded : (bytes : List ℕ) (r s : Recorded) → IsTextOf bytes r → IsTextOf bytes s → r ≡ s
 same_recorded bytes r s one other =
     let first = reading_again bytes r one in
     let second = reading_again bytes s other in
     cc
 
--- if the same bytes are a good text of two runs, the runs are equal
+-- if `IsGoodText` holds for the same bytes and two runs, the runs are equal
 pub one_recording : (bytes : List ℕ) (r s : Recording) → IsGoodText bytes r → IsGoodText bytes s → r ≡ s
 one_recording bytes r s one other =
     sym one.run ∙ ap run_of (same_recorded bytes one.recorded other.recorded one.text other.text) ∙ other.run
 
--- no step of a good text has a fault
+-- if `IsGoodText` holds for bytes, no step of their recording has a fault
 no_step_fault : (bytes : List ℕ) (r : Recording) (s : Recorded) (fault : LoadFault) → IsGoodText bytes r → IsTextOf bytes s → ¬ IsStepFault s fault
 no_step_fault bytes r s fault is text faulty =
     let same = same_recorded bytes is.recorded s is.text text in
     let good : IsGood (run_of s) = subst (λ (x : Recorded). IsGood (run_of x)) same (subst IsGood (sym is.run) is.good) in
     fault_is_bad s fault faulty (good, subst AnswersAgree same is.answers)
 
--- the only fault that can be reported for a good text is lack of memory
+-- if `IsGoodText` holds for bytes, the only fault that can be reported is lack of memory
 only_memory : (bytes : List ℕ) (fault : OpenFault) (r : Recording) → IsFirstFault bytes fault → IsGoodText bytes r → fault_line fault ≡ memory_line
 only_memory bytes (Read (read.Memory refused)) r first is = refl
 only_memory bytes (Read (read.Line n fault)) r first is =
@@ -59,7 +59,7 @@ only_memory bytes (Load (load.Memory refused)) r first is = refl
 only_memory bytes (Load (load.Refused n reason)) r first is = absurd (no_step_fault bytes r first.0 (load.Refused n reason) is first.1 first.2)
 only_memory bytes (Load (load.OtherAnswer n)) r first is = absurd (no_step_fault bytes r first.0 (load.OtherAnswer n) is first.1 first.2)
 
--- the only fault that can be printed for a good text is lack of memory
+-- if `IsGoodText` holds for bytes, the only fault that can be printed is lack of memory
 pub prints_memory : (bytes : List ℕ) (fault : OpenFault) (r : Recording) (old new : Outgoing) (status : ExitStatus)
     → IsFirstFault bytes fault → IsGoodText bytes r → EndsPrinting (fault_line fault) Refused old new status → EndsPrinting memory_line Refused old new status
 prints_memory bytes fault r old new status first is prints =

@@ -179,7 +179,7 @@ ends_by d (l ∷ lines) line (text ∷ given) d' h =
     let x = ends_by h.0 lines line given d' h.2 in
     record { front = text ∷ x.front; text = x.text; mid = x.mid; given_is = ap (λ (l : List (List ℕ)). text ∷ l) x.given_is; turns = (h.0, h.1, x.turns); turn = x.turn }
 
--- at its end, a text has at most one more line
+-- the lines of a text before its end is known are also its first lines afterwards
 more_lines : (ended : Bool) (text : List ℕ) → (more : List (List ℕ)) × (lines_of true text ≡ lines_of ended text ++ more)
 more_lines true text = ([], sym (append-nil (lines_of true text)))
 more_lines false text = (_, lines_at_end text)
@@ -190,7 +190,8 @@ lines_behind ended text front line back split =
     let more = more_lines ended text in
     (back ++ more.0, more.1 ∙ ap (λ (l : List (List ℕ)). l ++ more.0) split ∙ append_assoc front (line ∷ back) more.0)
 
--- the front answered lines with the text that was written, and the reads were prompt
+-- the front answered lines with the text that was written, and at each read the replies to all
+-- whole lines received so far had been sent
 pub record Replied (r : Recording) (s : SessionState) (d d' : FrontState) (from : Incoming) (old : Outgoing) (moments : List Moment) (lines : List (List ℕ)) (out : List ℕ) (says : List (List ℕ) → List Met → Type 0) : Type 0 where
   pub met : List Met
   pub ran : List (List ℕ)
@@ -208,7 +209,7 @@ pub record Replied (r : Recording) (s : SessionState) (d d' : FrontState) (from 
   pub there : IsInState r after d'
   pub says_it : says ran met
 
--- the words that a front sees with some lines and the next line
+-- the words that a front sees while it runs the first lines and the next line
 seen_with : (r : Recording) (s : SessionState) (d : FrontState) (front : List (List ℕ)) (line : List ℕ) (given : List (List ℕ)) (text : List ℕ) (mid d' : FrontState) (on : GoOn r s d front given mid)
     → (last : Goes r on.after mid line text d') → d'.pass_state.seen ≡ d.pass_state.seen ++ words_seen d.pass_state.tag r s (front ++ line ∷ []) (on.met ++ last.met ∷ [])
 seen_with r s d front line given text mid d' on last =
@@ -233,8 +234,8 @@ texts_with r s d front line given text mid d' on last =
     none_behind true = refl
     none_behind false = refl
 
--- these circumstances are possible for any line: no words of other fronts come before it, and it
--- has enough memory and room
+-- these conditions can arise for any line: no words of other fronts come before the line, and
+-- memory and journal room suffice
 calm_one : (r : Recording) (journal : JournalSize) (s : SessionState) (owed : Option Command) (asked : Result Line LineFault) → MayMeet r journal owed asked calm s
 calm_one r journal s None (Ok (Run command)) = tt
 calm_one r journal s None (Ok (Look query)) = tt
@@ -258,8 +259,8 @@ calm_may r journal s [] = tt
 calm_may r journal s (line ∷ lines) =
     (calm_one r journal s s.owed (meaning_of line), unless_calm (is_quit (meaning_of line)) (calm_may r journal (answer_among r s.owed (meaning_of line) calm s).1 lines))
 
--- if the circumstances of the first lines and of the next line are possible, so are those of all
--- lines
+-- if the conditions of the first lines can arise, and those of the next line can, then the
+-- conditions of all these lines can
 may_with : (r : Recording) (s : SessionState) (d : FrontState) (front : List (List ℕ)) (line : List ℕ) (given : List (List ℕ)) (text : List ℕ) (mid d' : FrontState) (on : GoOn r s d front given mid)
     → (last : Goes r on.after mid line text d') (later all : List (List ℕ)) → all ≡ front ++ line ∷ later
     → UnlessQuit (is_quit (meaning_of line)) (AllMayMeet r (size_of mid) last.after later []) → AllMayMeet r (size_of d) s all (on.met ++ last.met ∷ [])
@@ -446,7 +447,7 @@ module _ (recording : List ℕ) (r : Recording) (opening : opened recording ≡ 
       of_one : size_of d ≡ journal_of_one
       of_one = cc
 
-  -- the reads were prompt
+  -- at each read, the replies to all whole lines received so far had been sent (`WasPrompt`)
   prompt_said : (moments : List Moment) (ran : List (List ℕ)) (met : List Met) → All MeetsNoOther met → ArePrompt from old moments ran (texts_among r start ran met)
       → All (WasPrompt recording from old (supplies_of met)) moments
   prompt_said moments ran met none all =

@@ -126,7 +126,8 @@ module _ (r : Recording) (c : Conversation) (s : SessionState) (d d' : FrontStat
   cut_of is failed complete part =
       goes_with false CutWithin is (λ ran met says. says.0) (λ ran met says calm. absurd (true_is_false (sym failed ∙ calm))) (λ ran met says cut. says.1) complete part
 
-  -- an ending with an error claims nothing about the end of the input
+  -- if the conversation ended with an error, `Complete` holds, because it requires nothing in this
+  -- case
   never_complete : (stopped : LineEnd) → c.ending ≡ Err stopped → Complete
   never_complete stopped is good = absurd (true_is_false (sym (ap is_err is) ∙ good))
 

@@ -31,7 +31,7 @@ use Rattle.nr_programs.specs.Shared.{MeetsOthers, own_word, words_with}
 use Rattle.nr_programs.specs.Among.{MayMeet, Met, answer_among, behind_others, calm}
 use Rattle.nr_programs.specs.Transcript.{Answered, JournalSize, SessionState, Supply, enough, no_memory, no_memory_to_search, no_room, owing}
 
--- the front is in this state of the transcript
+-- the front's state agrees with s, a session state that the transcript computes
 pub record IsInState (r : Recording) (s : SessionState) (d : FrontState) : Type 0 where
   pub recording : d.recording ≡ r
   pub placed : s.placed ≡ length d.pass_state.seen
@@ -45,7 +45,7 @@ size_of d = record { room = journal_room d.table; passes = d.pass_state.passes }
 pub same_size : (d d' : FrontState) → d'.table ≡ d.table → d'.pass_state.passes ≡ d.pass_state.passes → size_of d' ≡ size_of d
 same_size d d' table passes = let room : journal_room d'.table ≡ journal_room d.table = ap journal_room table in cc
 
--- A line can get this reply in these circumstances (`met`). If the journal has one pass, no words
+-- A line can get this reply under these conditions (`met`). If the journal has one pass, no words
 -- of other fronts come before the line.
 pub record MayGive (r : Recording) (owed : Option Command) (asked : Result Line LineFault) (s : SessionState) (d : FrontState) (reply : Option Reply) (d' : FrontState) : Type 0 where
   pub met : Met
@@ -65,7 +65,7 @@ due_command Nothing owed due a b = cc
 due_command (Others command) owed due a b = cc
 due_command (Own command) owed due a b = cc
 
--- the debugger that has run all of these words but the last is unique
+-- two debuggers that have run all of these words except the last are equal
 one_behind : (r : Recording) (words : List ℕ) (command : Command) (a b : Debugger) → IsBehind r words command a → IsBehind r words command b → a ≡ b
 one_behind r words command a b one other =
     one.behind ∙ ap (after_words r opening) (same_from_push one.before other.before one.word other.word (sym one.last ∙ other.last)).0 ∙ sym other.behind
@@ -292,7 +292,7 @@ module _ (r : Recording) (s : SessionState) (d : FrontState) (here : IsInState r
         may = (refl, tt);
       }
 
-  -- if the reply to a command is still owed, the command searches
+  -- if the reply to a command is still owed, running the command involves a search (`Searches`)
   searches_still : (d' : FrontState) (place : ℕ) → (h : IsStillOwed d d' place) → Searches r h.stays.command s.debugger
   searches_still d' place h =
       let command = h.stays.command in

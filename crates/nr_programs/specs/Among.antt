@@ -12,18 +12,17 @@ use Rattle.nr_lines.specs.Engine.{lines_of}
 use Rattle.nr_lines.specs.Turn.{is_quit, text_or_none}
 use Rattle.nr_programs.specs.Transcript.{Answered, CommandMayHave, JournalSize, LookMayHave, ResumeMayHave, SessionState, Supply, UnlessQuit, enough, line_answer}
 
--- the circumstances of a line: the words that other fronts placed before it, and the memory and
--- room that it has
+-- the conditions under which a line runs: the words that other fronts placed before it, and its
+-- `Supply`
 pub record Met : Type 0 where
   pub others : List ℕ
   pub supply : Supply
 
--- no words of other fronts before the line, and enough memory and room
+-- no words of other fronts before the line, and sufficient memory and journal room
 abbrev pub calm : Met
 calm = record { others = []; supply = enough }
 
--- the circumstances of the next line; past the end of the list, no words of other fronts, and
--- enough memory and room
+-- the conditions of the next line, or `calm` if the list is empty
 abbrev pub next_met : List Met → Met
 next_met [] = calm
 next_met (m ∷ met) = m
@@ -45,11 +44,11 @@ answer_among r None (Ok (Look query)) m s =
     line_answer r None (Ok (Look query)) m.supply (behind_others r m.others s)
 answer_among r owed asked m s = line_answer r owed asked m.supply s
 
--- True if these circumstances are possible for a line, given the command whose reply is owed and
--- the size of the journal. If no reply is owed, a command or a query can come after words of other
--- fronts, and can lack memory; a command can also lack room in the journal. If a reply is owed,
--- `resume` can lack memory. In all other cases, no words of other fronts come before the line, and
--- it has enough memory and room.
+-- True if these conditions can arise for a line, given the command whose reply is owed and the size
+-- of the journal. If no reply is owed, a command or a query can come after words of other fronts,
+-- and it can run out of memory. A command can also find the journal full. If a reply is owed,
+-- `resume` can run out of memory. In all other cases, no words of other fronts come before the
+-- line, and memory and journal room suffice.
 abbrev pub MayMeet : Recording → JournalSize → Option Command → Result Line LineFault → Met
     → SessionState → Type 0
 MayMeet r journal None (Ok (Run command)) m s =
@@ -67,7 +66,7 @@ texts_among r s (line ∷ lines) met =
     let a = answer_among r s.owed asked (next_met met) s in
     text_or_none a.0 ∷ (if is_quit asked then [] else texts_among r a.1 lines (drop 1 met))
 
--- the circumstances of each line, up to the first `quit`, are possible
+-- true if the conditions of each line, up to the first `quit`, can arise
 abbrev pub AllMayMeet : Recording → JournalSize → SessionState → List (List ℕ) → List Met → Type 0
 AllMayMeet r journal s [] met = ⊤
 AllMayMeet r journal s (line ∷ lines) met =
@@ -76,7 +75,7 @@ AllMayMeet r journal s (line ∷ lines) met =
     MayMeet r journal s.owed asked (next_met met) s
     × UnlessQuit (is_quit asked) (AllMayMeet r journal a.1 lines (drop 1 met))
 
--- The replies to the lines of a text, given the circumstances of each line. Unless the text is at
--- its end, the bytes after the last line feed aren't a line yet.
+-- The replies to the lines of a text, given the conditions under which each line runs. The bytes
+-- after the last line feed are a line only if the text is complete (`ended`).
 abbrev pub replies_among : Recording → SessionState → Bool → List ℕ → List Met → List ℕ
 replies_among r s ended commands met = concat (texts_among r s (lines_of ended commands) met)

@@ -45,7 +45,7 @@ change_lines n w (recorded ∷ steps) =
     unless_fault (step_fault n recorded.answer came)
     (lines_of_changes n (changes_between w next) ++ change_lines (n + 1) next steps)
 
--- the lines for what was read, or no lines if it isn't a recording
+-- the lines for the changes, or no lines if the bytes aren't a recording
 abbrev pub change_lines_of : Result Recorded ReadFault → List ℕ
 change_lines_of (Ok r) = change_lines 1 (empty_world r.limits) r.steps
 change_lines_of (Err fault) = []
@@ -60,8 +60,8 @@ abbrev pub status_of_opened : Result Recording OpenFault → ExitStatus
 status_of_opened (Ok r) = Done
 status_of_opened (Err fault) = Refused
 
--- The lines for what was read and the last line were written; or memory ran out at the start, and
--- only the line for that was printed.
+-- Either the lines for the changes and the last line were written, or memory ran out at the start
+-- and only `fault 108 memory` was printed.
 abbrev pub WritesChanges : Result Recorded ReadFault → Outgoing → Outgoing → ExitStatus → Type 0
 WritesChanges r old new status =
     EndsPrinting (change_lines_of r ++ last_line (opened_as r)) (status_of_opened (opened_as r)) old

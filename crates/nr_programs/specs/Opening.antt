@@ -19,8 +19,8 @@ use Rattle.nr_snaps.specs.declared.fault.LoadFault.TheVariants as load
 use Rattle.nr_programs.specs.declared.opening.OpenFault.{OpenFault}
 use Rattle.nr_programs.specs.declared.opening.OpenFault.TheVariants.{Read, Load}
 
--- the bytes are a text of a recording of this run: all its steps apply and give their recorded
--- answers
+-- True if the bytes are the text of a recording of this run. All steps of the recording apply and
+-- give their recorded answers.
 pub record IsGoodText (bytes : List ℕ) (r : Recording) : Type 0 where
   pub recorded : Recorded
   pub text : IsTextOf bytes recorded

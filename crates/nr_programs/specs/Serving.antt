@@ -48,9 +48,9 @@ Shares r sharing before after old new status =
     × PrintsHistory None failed old new status)
     ⊎ ((after ≡ before) × EndsPrinting memory_line Refused old new status)
 
--- Either the bytes are a recording whose steps all apply and give their recorded answers, and the
--- recording was shared. Or the program printed the first fault of the bytes, or `fault 108 memory`,
--- and opened no port.
+-- Either the recording was shared, or the program printed a fault and opened no port. If the
+-- recording was shared, the bytes are its text, and all its steps apply and give their recorded
+-- answers. The printed fault is the first fault of the bytes or `fault 108 memory`.
 abbrev pub ServesAll : List ℕ → Sharing → FrontsLog → FrontsLog → Outgoing → Outgoing → ExitStatus
     → Type 0
 ServesAll bytes sharing before after old new status =

@@ -46,8 +46,8 @@ words_seen tag r s (line ∷ lines) met =
 abbrev pub MeetsOthers : ℕ → Met → Type 0
 MeetsOthers tag m = All (IsOthers tag) m.others
 
--- When the front read from the caller, each whole line received so far was answered, and its reply
--- was sent. No earlier read had reached the end of the caller's input.
+-- At this read from the caller, the replies to all whole lines received before it had been sent. No
+-- earlier read had reached the end of the caller's input.
 abbrev pub HeardOut : Recording → SessionState → List Met → Moment → Type 0
 HeardOut r s met m = (m.sent ≡ replies_among r s false m.received met) × (m.ended ≡ false)
 
@@ -67,7 +67,7 @@ pub record EndsWithin (texts : List (List ℕ)) (sent : List ℕ) : Type 0 where
 -- is `quit`. `ran` has the lines that were run: all lines, or only the first lines, if one is
 -- `quit` or its reply couldn't be written. That line is then the last one of `ran`. Only the texts
 -- of these lines were sent. If a write failed, the last line of `ran` is the line whose text was
--- cut. The circumstances of all lines are possible with a journal of this size.
+-- cut. The conditions of all lines (`met`) can arise with a journal of this size.
 pub record IsAnswered (r : Recording) (journal : JournalSize) (tag : ℕ) (c : Conversation)
     (s : SessionState) : Type 0 where
   pub met : List Met

@@ -62,7 +62,7 @@ last_moment_run = record {
       ∷ SetDeadline 0 0 modes.Read (pos 9223372036854775807) ∷ [];
 }
 
--- a run that reopens a descriptor, with an event of its first opening
+-- a run that reopens a descriptor, followed by an event with the tag of the first opening
 abbrev pub reopened_run : Recording
 reopened_run = record {
   limits = record { goroutines = 4; sockets = 2; descriptors = 2; buffer = 16 };

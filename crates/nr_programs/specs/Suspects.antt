@@ -17,8 +17,8 @@ abbrev pub suspects_of : Result Recording OpenFault → List ℕ
 suspects_of (Ok r) = suspect_lines r
 suspects_of (Err fault) = []
 
--- The lines of the suspects and the last line of `check` were written; or memory ran out, and only
--- the line for that was printed.
+-- Either the lines of the suspects and the last line of `check` were written, or memory ran out and
+-- only `fault 108 memory` was printed.
 abbrev pub WritesSuspects : Result Recording OpenFault → Outgoing → Outgoing → ExitStatus → Type 0
 WritesSuspects r old new status =
     EndsPrinting (suspects_of r ++ last_line r) (status_of_opened r) old new status

@@ -26,17 +26,18 @@ use Rattle.nr_programs.specs.declared.opening.OpenFault.{OpenFault}
 use Rattle.nr_programs.specs.declared.run.ExitStatus.{ExitStatus}
 use Rattle.nr_programs.specs.declared.run.ExitStatus.TheVariants.{Done, Refused, StreamFailed}
 
--- ---- the memory and room for a line
+-- ---- memory and journal room for a line
 
--- The memory and room that a line has: `enough` of both; `no_memory`; `no_memory_to_search`, if its
--- command is placed and then runs out of memory while it searches; or `no_room` in the journal.
+-- Whether memory and journal room suffice for a line. `enough`: both suffice. `no_memory`: memory
+-- runs out. `no_memory_to_search`: the line's command is placed and then runs out of memory while
+-- it searches. `no_room`: the journal is full.
 pub data Supply : Type 0 where
   enough : Supply
   no_memory : Supply
   no_memory_to_search : Supply
   no_room : Supply
 
--- the memory and room of the next line; past the end of the list, enough of both
+-- the `Supply` of the next line, or `enough` if the list is empty
 abbrev pub next_supply : List Supply → Supply
 next_supply [] = enough
 next_supply (supply ∷ supplies) = supply
@@ -108,7 +109,7 @@ abbrev pub line_answer : Recording → Option Command → Result Line LineFault 
 line_answer r None asked supply s = answer r asked supply s
 line_answer r (Some command) asked supply s = answer_owing r command asked supply s
 
--- ---- the memory and room that a line can have
+-- ---- when memory or journal room can run out
 
 -- the number of words for which a journal has room, and its maximum number of passes
 pub record JournalSize : Type 0 where
@@ -119,7 +120,7 @@ pub record JournalSize : Type 0 where
 abbrev pub journal_of_one : JournalSize
 journal_of_one = record { room = 65536; passes = 1 }
 
--- True if a command can have this memory and room when the session is in this state. A command can
+-- True if this `Supply` is possible for a command when the session is in this state. A command can
 -- run out of memory before it is placed only if the journal has more than one pass, because only
 -- then can other fronts have placed words. A placed command can run out of memory only if it
 -- searches through copies of worlds. The journal is full only if it has no room for another word.
@@ -129,14 +130,15 @@ CommandMayHave r journal command no_memory s = journal.passes ≢ 1
 CommandMayHave r journal command no_memory_to_search s = Searches r command s.debugger
 CommandMayHave r journal command no_room s = s.placed ≡ journal.room
 
--- true if a query can have this memory and room: a query can run out of memory, but needs no room
+-- true if this `Supply` is possible for a query: a query can run out of memory, but needs no room
+-- in the journal
 abbrev pub LookMayHave : Supply → Type 0
 LookMayHave enough = ⊤
 LookMayHave no_memory = ⊤
 LookMayHave no_memory_to_search = ⊥
 LookMayHave no_room = ⊥
 
--- true if `resume` can have this memory and room: the command whose reply is owed can run out of
+-- true if this `Supply` is possible for `resume`: the command whose reply is owed can run out of
 -- memory again while it searches
 abbrev pub ResumeMayHave : Recording → Command → Supply → SessionState → Type 0
 ResumeMayHave r command enough s = ⊤
@@ -144,10 +146,10 @@ ResumeMayHave r command no_memory s = Searches r command s.debugger
 ResumeMayHave r command no_memory_to_search s = ⊥
 ResumeMayHave r command no_room s = ⊥
 
--- True if a line can have this memory and room, given the command whose reply is owed and the size
--- of the journal. If no reply is owed, a command or a query can lack memory, and a command can also
--- lack room in the journal. If a reply is owed, `resume` can lack memory. In all other cases, the
--- line has enough of both.
+-- True if this `Supply` is possible for a line, given the command whose reply is owed and the size
+-- of the journal. If no reply is owed, a command or a query can run out of memory, and a command
+-- can also find the journal full. If a reply is owed, `resume` can run out of memory. In all other
+-- cases, memory and journal room suffice.
 abbrev pub MayHave : Recording → JournalSize → Option Command → Result Line LineFault → Supply
     → SessionState → Type 0
 MayHave r journal None (Ok (Run command)) supply s = CommandMayHave r journal command supply s
@@ -165,12 +167,12 @@ texts r s (line ∷ lines) supplies =
     let a = line_answer r s.owed asked (next_supply supplies) s in
     text_or_none a.0 ∷ (if is_quit asked then [] else texts r a.1 lines (drop 1 supplies))
 
--- a condition on what follows a line, which holds anyway if the line is `quit`
+-- a condition on the lines after a line; if that line is `quit`, the condition isn't required
 abbrev pub UnlessQuit : Bool → Type 0 → Type 0
 UnlessQuit true later = ⊤
 UnlessQuit false later = later
 
--- the memory and room of each line, up to the first `quit`, are possible
+-- true if the `Supply` of each line, up to the first `quit`, is possible
 abbrev pub AllMayHave : Recording → JournalSize → SessionState → List (List ℕ) → List Supply
     → Type 0
 AllMayHave r journal s [] supplies = ⊤
@@ -180,8 +182,8 @@ AllMayHave r journal s (line ∷ lines) supplies =
     MayHave r journal s.owed asked (next_supply supplies) s
     × UnlessQuit (is_quit asked) (AllMayHave r journal a.1 lines (drop 1 supplies))
 
--- The replies to the lines of a text, given the memory and room of each line. Unless the text is at
--- its end, the bytes after the last line feed aren't a line yet.
+-- The replies to the lines of a text, given the `Supply` of each line. The bytes after the last
+-- line feed are a line only if the text is complete (`ended`).
 abbrev pub replies : Recording → SessionState → Bool → List ℕ → List Supply → List ℕ
 replies r s ended commands supplies = concat (texts r s (lines_of ended commands) supplies)
 
@@ -190,8 +192,7 @@ abbrev pub replies_over : Result Recording OpenFault → Bool → List ℕ → L
 replies_over (Ok r) ended commands supplies = replies r start ended commands supplies
 replies_over (Err fault) ended commands supplies = fault_line fault
 
--- The transcript for a recording's bytes and for commands, given the memory and room of each
--- command line.
+-- The transcript for a recording's bytes and for commands, given the `Supply` of each command line.
 abbrev pub transcript_by : List ℕ → Bool → List ℕ → List Supply → List ℕ
 transcript_by recording ended commands supplies =
     replies_over (opened recording) ended commands supplies
@@ -214,10 +215,10 @@ pub record WasPrompt (recording : List ℕ) (from : Incoming) (old : Outgoing)
   pub unended : from.ended ≡ false → m.ended ≡ false
 
 -- Commands were read and replies were written. The replies are a prefix of the transcript of the
--- commands, given the memory and room of each line. They are the whole transcript unless a write
--- failed. If a read failed, an unfinished last line isn't a command. Before each read, all whole
--- lines had been answered. If the status is `Done`, the input is at its end or a line is `quit`. If
--- the recording has a fault, no command was read.
+-- commands, given the `Supply` of each line. They are the whole transcript unless a write failed.
+-- If a read failed, an unfinished last line isn't a command. Before each read, all whole lines had
+-- been answered. If the status is `Done`, the input is at its end or a line is `quit`. If the
+-- recording has a fault, no command was read.
 pub record Transcribes (recording : List ℕ) (from left : Incoming) (old new : Outgoing)
     (status : ExitStatus) : Type 0 where
   pub commands : List ℕ

@@ -21,9 +21,9 @@ WritesAnswered r old new status =
     × EndsPrinting (concat (take n (line_texts (answered r))) ++ memory_line) Refused old new
     status)
 
--- Either the bytes are a recording whose steps all apply and give their recorded answers, and the
--- recording was written with its answers. Or the program printed the first fault of the bytes, or
--- `fault 108 memory`.
+-- Either the recording was written with its answers, or the program printed a fault. If the
+-- recording was written, the bytes are its text, and all its steps apply and give their recorded
+-- answers. The printed fault is the first fault of the bytes or `fault 108 memory`.
 abbrev pub Upgrades : List ℕ → Outgoing → Outgoing → ExitStatus → Type 0
 Upgrades bytes old new status =
     ((r : Recording) × IsGoodText bytes r × WritesAnswered r old new status)

@@ -60,7 +60,7 @@ pub fn changes_bytes<W: TouchesCells + Drop, O: Write>(
 ) -> ExitStatus
 where
     W::Snapshot: Drop,
-    // What is written, for any bytes.
+    // What the program writes, whatever the bytes are.
     ensures { Changes bytes.now output.old output.new result }
 {
     let recording = match read(alloc, bytes) {

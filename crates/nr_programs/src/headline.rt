@@ -25,9 +25,10 @@ pub fn there_and_back<M: Reversible>(machine: &mut M, op: &M::Op) -> Result<M::A
     Ok(answer)
 }
 
-/// Moves a walker to position n, from anywhere, and returns the value of a cell there: its value in
-/// the world after a replay of the recording's first n steps, which is well-formed. Fails with
-/// `Memory` if memory runs out, and leaves the walker where `Walker::goto` leaves it.
+/// Moves a walker from any position to position n, and returns the value of a cell there. This is
+/// the cell's value in the world after a replay of the recording's first n steps; that world is
+/// well-formed. Fails with `Memory` if memory runs out, and leaves the walker where `Walker::goto`
+/// leaves it.
 pub fn value_at<W: Worlds + Drop>(
     walker: &mut Walker<'_, W>,
     n: usize,

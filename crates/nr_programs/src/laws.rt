@@ -36,12 +36,12 @@ pub fn a_calm_session_has_one_transcript()
         → transcript recording commands ≡ transcript_by recording true commands [] }
 {}
 
-/// Each caller of a shared session gets the transcript of what was received from it, starting from
-/// the state of its front. All fronts share one history, whose length `placed K` prints. With each
-/// line that it runs, a front first sees the words that other fronts placed before the line. If the
-/// line places a command, the front then sees that command's word, once. So a front sees all of its
-/// own words in the history, and each word of the history belongs to one front. The callers are
-/// those of the ports, and no other conversations took place.
+/// Each caller of a shared session gets the replies that the transcript has for the caller's lines,
+/// starting from the state of its front. All fronts share one history, whose length `placed K`
+/// prints. With each line that it runs, a front first sees the words that other fronts placed
+/// before the line. If the line places a command, the front then sees that command's word, once. So
+/// a front sees all of its own words in the history, and each word of the history belongs to one
+/// front. The callers are those of the ports, and no other conversations took place.
 pub fn callers_are_answered_in_one_history()
     ensures answered { (r : Recording) (room fronts depth workers : ℕ) (passed : List Passed) (history : List ℕ) (failed : Bool)
         → (shared : IsShared r room fronts depth workers passed (Some history) failed)
@@ -112,9 +112,9 @@ pub fn a_lie_is_no_run()
         (record { contents = None; sent = 65 ∷ []; failed = false }) Done) }
 {}
 
-/// Among the words that a front sees with its callers' lines, the front's own words are exactly the
-/// words of the commands that the lines placed, each once and in the order of the lines. So these
-/// words are in the session's history, in this order.
+/// While a front runs its callers' lines, it sees its own words and words of other fronts. Its own
+/// words are those of the commands that the lines placed, each once and in the order of the lines.
+/// So these words are in the session's history, in this order.
 pub fn each_placed_command_is_there_once()
     ensures { (tag : ℕ) (r : Recording) (s : SessionState) (lines : List (List ℕ)) (met : List Met) → tag < 256
         → All (MeetsOthers tag) met

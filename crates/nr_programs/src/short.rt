@@ -1,4 +1,4 @@
-//! Worked sessions over short runs. Their bodies are empty; the prover computes each clause.
+//! Example sessions over short runs. Their bodies are empty; the prover computes each clause.
 
 ghost use Rattle.std.specs.Prelude.{◌≡◌, ◌∷◌, ◌++◌, [], true, codes, Ok};
 ghost use Rattle.nr_programs.specs.Opening.{opened_as};

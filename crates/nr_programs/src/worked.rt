@@ -1,14 +1,14 @@
-//! Worked sessions: the transcripts of the examples, and short sessions in which memory runs out,
-//! the journal is full, or another front places a word. The bodies are empty; the prover computes
-//! each clause.
+//! Example sessions: the transcripts of examples/, and short sessions in which memory runs out, the
+//! journal is full, or another front places a word. The bodies are empty; the prover computes each
+//! clause.
 
 ghost use Rattle.std.specs.Prelude.{◌≡◌, ◌∷◌, [], true, codes};
 ghost use Rattle.nr_programs.specs.Examples.{answers_commands, answers_replies, answers_run, first_commands, first_replies, first_run, leaked_reference_commands, leaked_reference_replies, leaked_reference_run, lost_wakeup_commands, lost_wakeup_replies, lost_wakeup_run, past_deadline_commands, past_deadline_replies, past_deadline_run, reused_descriptor_commands, reused_descriptor_replies, reused_descriptor_run, shut_write_side_commands, shut_write_side_replies, shut_write_side_run, stale_deadline_commands, stale_deadline_replies, stale_deadline_run, temporary_break_commands, temporary_break_replies, temporary_break_run};
 ghost use Rattle.nr_programs.specs.Among.{replies_among};
 ghost use Rattle.nr_programs.specs.Transcript.{enough, no_memory, no_memory_to_search, no_room, replies, start};
 
-/// The sessions of examples/: the bytes of the commands get exactly the bytes of the replies. The first session is
-/// the README's.
+/// The sessions of examples/: the replies to the commands are exactly the expected replies, byte for byte. The
+/// first session is the README's.
 pub fn examples_have_their_replies()
     ensures first { replies first_run start true first_commands [] ≡ first_replies }
     ensures leaked_reference { replies leaked_reference_run start true leaked_reference_commands [] ≡ leaked_reference_replies }

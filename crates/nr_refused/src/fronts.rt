@@ -37,7 +37,7 @@ enum Answer {
 }
 
 impl Answer {
-    // Returns which answer this reply is, given the text of the expected reply.
+    // Compares the reply with the expected text, and returns the kind of answer.
     fn of(reply: Result<Reply, FrontFault>, text: &str) -> Answer {
         match reply {
             Ok(reply) => {
@@ -82,7 +82,8 @@ fn prints_as(reply: &Reply, text: &str) -> bool {
     is_out && room.get(..all.saturating_sub(left)) == Some(text.as_bytes())
 }
 
-/// Sends a line to a front, and returns which answer it got, given the text of the expected reply.
+/// Sends a line to a front, compares the reply with the expected text, and returns the kind of
+/// answer.
 fn ask<H: Threads + Sync>(
     front: &mut Lone<'_, H>,
     journal: &Journal,
@@ -393,9 +394,9 @@ static SIX_LINES: [(&str, &str, usize); 6] = [
     ("info position", "at 2 of 12 forward\n", 4),
 ];
 
-// Sends a line until it is answered. If memory ran out for the line's query, or for another front's
-// command, sends the line again. If the line's command was placed and its reply is owed, which
-// happens only for a search, requests the reply.
+// Sends a line and gets its answer, even if memory runs out. If memory ran out for the line's
+// query, or for another front's command, sends the line again. If the line's command was placed but
+// its reply is still owed, requests the reply. This happens only for a search.
 fn answered<H: Threads + Sync>(
     journal: &Journal,
     front: &mut Lone<'_, H>,

@@ -81,8 +81,8 @@ fn came_of_sock(made: Result<Sock, Memory>, bytes: &[u8]) -> Came {
     }
 }
 
-// Returns whether exactly these bytes can be read. If `bytes` is empty, returns whether the socket
-// wasn't opened.
+// Returns whether exactly these bytes can be read. If `bytes` is empty, the socket must not have
+// been opened.
 fn has_bytes(sock: &Sock, bytes: &[u8]) -> bool {
     sock.is_made() != bytes.is_empty()
         && sock.byte(Side::Read, 0) == bytes.get(0).copied()

@@ -30,7 +30,7 @@ const SHARING: Sharing = Sharing {
     connections: None,
 };
 
-// Returns a copy of the text, which the call consumes.
+// Returns a copy of the text, for a call that consumes the copy.
 fn copied_text(alloc: Global) -> Option<Vec<u8>> {
     Vec::from_slice(alloc, TEXT.as_bytes()).ok()
 }

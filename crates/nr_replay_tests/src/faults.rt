@@ -1,5 +1,5 @@
-//! The texts of faults: the line, whose text is proved, and the message, whose implementation is
-//! derived.
+//! The texts of faults. Each fault has a line and a message. The text of the line is proved; the
+//! code that writes the message is derived.
 
 use nr_recording::{Fault, MakeFault, ReadFault, WriteFault};
 use nr_rev::Refusal;

@@ -90,7 +90,8 @@ impl Observed {
         self.seen.fetch_add(1, Ordering::SeqCst) > 0
     }
 
-    /// Sets which of the following copies and restored worlds are refused: one bit for each, from the lowest on.
+    /// Sets which of the next copies and restored worlds are refused. Each has one bit of `refusals`, and the
+    /// lowest bit is for the first.
     pub fn refuse(&self, refusals: u32) {
         self.refusals.store(refusals, Ordering::SeqCst);
     }

@@ -111,7 +111,7 @@ fn answered(film: &Film<World>) -> Option<(Version, usize, [Option<Answer>; 2])>
     Some((recording.version(), recording.len(), answers))
 }
 
-/// Returns the number of steps of the film after its recording with answers was loaded again.
+/// Loads the film's recording with answers, and returns the number of steps of the new film.
 fn loaded_again(alloc: Global, film: &Film<World>) -> Option<usize> {
     let recording = film.with_answers().ok()?;
     let again = Snaps::load::<World>(alloc, recording, 64).ok()?;

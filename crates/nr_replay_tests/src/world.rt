@@ -120,7 +120,8 @@ fn there_and_back(
     Ok((made, there, world.cell(observed)))
 }
 
-/// Takes and releases a reference, with both steps in one list and with one step at a time.
+/// Takes and releases a reference twice: first with both steps in one list, then one step at a
+/// time.
 fn references(world: &mut World) -> Result<[(usize, CellValue, CellValue); 3], Refusal>
     requires { IsWorld world.old }
 {

@@ -1,4 +1,5 @@
--- Lemmas about the history: it is what the last pass has read after it has read all words.
+-- Lemmas about the history. After the last pass has read all words, the words that it has read are
+-- the history.
 use Rattle.std.proofs.Common.{◌≡◌, ◌≢◌, ◌<◌, ◌+◌, ℕ, zero, suc, add-one, inl, inr, List, [], ◌∷◌, ◌++◌, map, refl, ◌∙◌, sym, ap, subst, arith, append_assoc, append-nil, Result, Ok, Err}
 use Rattle.std.specs.Prelude.{IfOk, IfSome}
 use Rattle.std.specs.Global.{Vec}
@@ -118,7 +119,8 @@ tags_known : (all : List Done) → map (λ p. p.tag) (map (λ d. d.pass.pass_sta
 tags_known [] = refl
 tags_known (d ∷ all) = ap (λ (l : List ℕ). d.pass.pass_state.tag ∷ l) (tags_known all)
 
--- if the passes have all tags, each word has the tag of one of the passes
+-- if the passes have the tags below their number, one each, then each word has the tag of one of
+-- the passes
 theirs : (words : List ℕ) (n : ℕ) (all : List Done) (passes : ℕ) → map (λ d. d.pass.pass_state.tag) all ≡ numbers_below n → passes ≡ n → All (HasTagBelow passes) words
     → All (IsTheirs (map (λ d. d.pass.pass_state) all)) words
 theirs words n all passes tags is below =

@@ -63,10 +63,10 @@ adds_one starts all old mid new start one whole (more, behind, are) is put = (
 pub adds_none : (starts : List FrontState) (old : List (Done × Passed)) → starts ≡ [] → Adds starts old old
 adds_none starts old none = ([], sym (append-nil old), subst (λ (l : List FrontState). AreServed l []) (sym none) tt)
 
--- the part of a conjunction after its first ten parts
+-- removes the first ten parts of a conjunction
 pub behind_ten : {A B C D E F G H I J R : Type 0} → A × (B × (C × (D × (E × (F × (G × (H × (I × (J × R))))))))) → R
 behind_ten (a, (b, (c, (d, (e, (f, (g, (h, (i, (j, rest)))))))))) = rest
 
--- a conjunction of ten parts and the rest
+-- appends one more part to a conjunction of ten parts
 pub ten_before : {A B C D E F G H I J R : Type 0} → A × (B × (C × (D × (E × (F × (G × (H × (I × J)))))))) → R → A × (B × (C × (D × (E × (F × (G × (H × (I × (J × R)))))))))
 ten_before (a, (b, (c, (d, (e, (f, (g, (h, (i, j))))))))) rest = (a, (b, (c, (d, (e, (f, (g, (h, (i, (j, rest))))))))))

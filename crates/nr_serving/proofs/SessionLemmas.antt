@@ -69,7 +69,7 @@ same_journal table r fronts depth workers (s ∷ starts) (o ∷ ones) (is, are) 
     All-cons (λ d. d.pass.table ≡ table) o.0 (dones_of ones) (ap (λ (p : Entered). p.table) is.pass ∙ is.same ∙ ap (λ (k : FrontState). k.table) (All-head (IsFresh table r fronts depth workers) s starts fresh).2)
     (same_journal table r fronts depth workers starts ones are (All-tail (IsFresh table r fronts depth workers) s starts fresh))
 
--- each pass still has the right number of passes in its state
+-- at the end, the state of each pass still says that the session has `fronts` passes
 pub same_passes : (table : TableId) (r : Recording) (fronts depth workers : ℕ) (starts : List FrontState) (ones : List (Done × Passed)) → AreServed starts ones
     → All (IsFresh table r fronts depth workers) starts → All (λ d. d.pass.pass_state.passes ≡ fronts) (dones_of ones)
 same_passes table r fronts depth workers [] [] are fresh = All-nil (λ d. d.pass.pass_state.passes ≡ fronts)
@@ -99,7 +99,7 @@ ready table r fronts depth workers (f ∷ pairs) fresh none =
     (ap (λ (k : FrontState). k.table) (All-head (IsFresh table r fronts depth workers) f.0 (fronts_of pairs) fresh).2, All-head (λ f. f.1 ≡ none_passed) f pairs none)
     (ready table r fronts depth workers pairs (All-tail (IsFresh table r fronts depth workers) f.0 (fronts_of pairs) fresh) (All-tail (λ f. f.1 ≡ none_passed) f pairs none))
 
--- the list of fronts after another front was appended, whose callers haven't come yet
+-- Lemmas about appending a front to the list of fronts, before any front has had callers.
 pub fronts_more : (old new : List (FrontState × Passed)) (f : FrontState × Passed) (before : List FrontState) → new ≡ old ++ f ∷ [] → fronts_of old ≡ before → fronts_of new ≡ before ++ f.0 ∷ []
 fronts_more old new f before is was =
     ap fronts_of is ∙ map-append (λ g. g.0) old (f ∷ []) ∙ ap (λ (l : List FrontState). l ++ f.0 ∷ []) was
@@ -134,7 +134,7 @@ port_more old mid new number next was =
     next ∙ ap (λ (l : FrontsLog). record l { opened = l.opened ++ number ∷ [] }) was
     ∙ ap (λ (l : List ℕ). record { opened = l; ended = old.ended }) (append_assoc old.opened (numbers_below number) (number ∷ []) ∙ ap (λ (n : ℕ). old.opened ++ numbers_below n) (sym (add-one number)))
 
--- the ports of this number of fronts were opened, and then the fronts ended, each with its log
+-- `fronts` ports were opened, one for each front, and then the fronts ended, each with its log
 pub opens : (old mid new : FrontsLog) (n fronts : ℕ) (passed : List Passed) → mid ≡ record old { opened = old.opened ++ numbers_below n } → new ≡ record mid { ended = mid.ended ++ passed } → n ≡ fronts
     → Opens fronts passed old new
 opens old mid new n fronts passed first then is =

@@ -25,8 +25,8 @@ pub record Course : Type 0 where
 abbrev pub has_failed : Course → Bool
 has_failed course = course.cut_off || list_any is_failure course.callers
 
--- The log of a front that had this course: each caller that came was served, in turn, and then no
--- further caller came or the callers failed.
+-- The log of a front after this course. The callers that came were served one after another. The
+-- last arrival says that no further caller came, or that waiting for a caller failed.
 abbrev pub passed_in : Course → Passed
 passed_in course = record {
   arrivals =

@@ -32,10 +32,10 @@ fn place(journal: &Journal, pass: &mut Pass, argument: u32) -> bool
     false
 }
 
-/// The results of a pass that tries to place three words in a journal of two. They are the next
-/// word that the pass reads before it places any, its first word, whether each of the three words
-/// was placed, the number of words that the pass has seen, and the next word that it reads at the
-/// end.
+/// The results of a pass that tries to place three words in a journal of two. The fields are: the
+/// next word in the journal before the pass places a word; the pass's first word; whether each of
+/// the three words was placed; the number of words that the pass has seen at the end; and the next
+/// word in the journal at the end.
 type Filled = (Option<u64>, u64, [bool; 3], usize, Option<u64>);
 
 fn fill(journal: &Journal, one: &mut Pass) -> Filled

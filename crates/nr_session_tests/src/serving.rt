@@ -1,4 +1,5 @@
-//! Two fronts in threads of their own; one front waits until the caller of the other was answered.
+//! Two fronts, each in its own thread. One front waits until the other front's caller has been
+//! answered.
 
 use nr_machine::World;
 use nr_replay_tests::ticking;
@@ -76,7 +77,7 @@ struct Wire<'a> {
     noting: Noting<'a>,
 }
 
-/// The only caller of a front, until it has come.
+/// The only caller of a front. After the caller has come, `wire` is `None`.
 #[derive(Drop)]
 struct Caller<'a> {
     wire: Option<Wire<'a>>,

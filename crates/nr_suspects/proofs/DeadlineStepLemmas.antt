@@ -93,8 +93,8 @@ Sets step d side = (g : ℕ) × (mode : Mode) × (t : ℤ) × (step ≡ Step.Set
 abbrev pub IsNoOpening : Step → Answer → ℕ → Type 0
 IsNoOpening step answer d = (g s : ℕ) → step ≡ Step.PollOpen g s → answer ≢ answers.Number d
 
--- if a side has a deadline after a step, either it had one before or the step set it; and the step
--- didn't open the descriptor
+-- If a side has a deadline after a step, the step didn't open the descriptor. The side already had a
+-- deadline before, or the step set it.
 abbrev WasSet : World → Step → ℕ → Side → Answer × World → Type 0
 WasSet w step d side left = IsDeadline left.1 d side → (IsDeadline w d side ⊎ Sets step d side) × IsNoOpening step left.0 d
 
@@ -286,8 +286,8 @@ was_set w Step.Pop d side = untouched w Step.Pop d side refl refl (λ h s' is. c
 was_set w (Step.Fire i) d side = fire_was_set w i d side
 was_set w (Step.CloseWrite g k) d side = untouched w (Step.CloseWrite g k) d side refl refl (λ h s' is. cc)
 
--- if a side has a deadline after a step, either it had one before or the step set it; and the step
--- didn't open the descriptor
+-- If a side has a deadline after a step, the step didn't open the descriptor. The side already had a
+-- deadline before, or the step set it.
 pub set_before : (w : World) (step : Step) (answer : Answer) (next : World) (d : ℕ) (side : Side) → outcome w step ≡ Ok (answer, next) → IsDeadline next d side
     → (IsDeadline w d side ⊎ Sets step d side) × IsNoOpening step answer d
 set_before w step answer next d side is set = (was_set w step d side).value (answer, next) is set

@@ -52,8 +52,8 @@ abbrev pub IsRefusedOnTheWay : ℕ → Recording → WalkerState → WalkerState
 IsRefusedOnTheWay n r old new =
     IsRefusedBy (route (walk_of r old) n) (walk_of r old) n (walk_of r new)
 
--- True if a query about the world can have run out of memory. Either the walker ran out of memory
--- before it reached the debugger's position; or the walker reached that position, and the query
+-- True if a query about the world may have run out of memory. Either the walker ran out of memory
+-- before it reached the debugger's position, or the walker reached that position and the query
 -- copies what it prints.
 pub record LookIsRefused (query : Query) (m : ReplicaState) (new : WalkerState) : Type 0 where
   pub at_world : is_at_world query ≡ true

@@ -8,8 +8,8 @@ use Rattle.nr_programs.proofs.OpeningLemmas.{one_recording, prints_memory}
 use Rattle.nr_programs.proofs.RepliesLemmas.{refused_transcribes, walks_transcribe}
 use Rattle.nr_programs.proofs.run.run_bytes.Goals as goal
 
--- either the session runs; or memory ran out, and the fault is that the recording couldn't be
--- loaded for this reason
+-- either the session runs, or memory ran out while the recording was loaded and the program reports
+-- that fault
 pub returns-in-Ok-clause-runs : goal.returns-in-Ok-clause-runs
 returns-in-Ok-clause-runs g c =
     elim c.walk.ensures as (λ _. Runs c.args.text.items c.args.input.now c.walk.new.input c.args.output.now c.walk.new.output c.walk.result) [

@@ -2,7 +2,7 @@ use Rattle.nr_journal.specs.Rule.{journal_room}
 use Rattle.nr_serving.proofs.HistoryLemmas.{below_as, below_seen, others_more, seen_before}
 use Rattle.nr_serving.proofs.session.+collect.Goals as goal
 
--- the last pass read more words, which are words of other passes
+-- the words that the last pass read at the end are words of other passes
 pub returns-clause-last : goal.returns-clause-last
 returns-clause-last t c =
     seen_before (journal_room c.args.journal.now) c.collect-history.result c.args.last.now.pass_state c.see_all_of.new.one.pass_state c.in-Some.other.pass.pass_state.seen

@@ -1,4 +1,5 @@
--- Each offer so far lost its place to another user's word, which was read and run.
+-- Each offer so far failed, because another user's word was placed first. The front read and ran
+-- that word.
 use Rattle.std.proofs.Common.{◌≡◌, ◌-◌, length}
 use Rattle.nr_journal.specs.Rule.{journal_room}
 use Rattle.nr_front.specs.Front.{Learns}

@@ -1,5 +1,5 @@
--- The method `and` returns a struct without fields. As the struct's log, the proof chooses the one
--- that the contract requires.
+-- The method `and` returns a struct without fields. The proof chooses the log of this struct: the
+-- log that the contract requires.
 use Rattle.std.proofs.Common.{[], ◌∷◌, ◌++◌, refl}
 use Rattle.std.proofs.raw_atomic.Walks.{proved}
 use Rattle.nr_text.proofs.CallWalks.{nothing_made, of_no_fields}

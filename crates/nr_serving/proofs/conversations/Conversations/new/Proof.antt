@@ -1,4 +1,4 @@
--- The method `new` returns a struct without fields. As the struct's log, the proof chooses the
+-- The method `new` returns a struct without fields. The proof chooses the log of this struct: the
 -- empty log.
 use Rattle.std.proofs.Common.{[], ◌∷◌, refl}
 use Rattle.std.proofs.raw_atomic.Walks.{proved}

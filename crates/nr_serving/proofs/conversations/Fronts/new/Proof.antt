@@ -1,5 +1,5 @@
--- The method `new` returns a struct without fields. As the struct's log, the proof chooses the
--- empty log: no port was opened.
+-- The method `new` returns a struct without fields. The proof chooses the log of this struct: the
+-- empty log, because no port was opened.
 use Rattle.std.proofs.Common.{[], ◌∷◌, refl}
 use Rattle.std.proofs.raw_atomic.Walks.{proved}
 use Rattle.nr_text.proofs.CallWalks.{nothing_made, of_no_fields}
