@@ -1,5 +1,5 @@
--- If other fronts place no words before the lines of a front, the replies depend only on the memory
--- and room that each line has.
+-- If other fronts place no words before the lines of a front, the replies depend only on the
+-- `Supply` of each line.
 use Rattle.std.proofs.Common.{Option, None, Some, ◌≡◌, ℕ, ◌+◌, Bool, true, false, cond, List, [], ◌∷◌, map, Result, Ok, Err, refl, ap, ◌∙◌, subst, arith}
 use Rattle.std.specs.List.{All, concat}
 use Rattle.std.proofs.lemmas.List.Elements.{All-head, All-tail}
@@ -19,7 +19,7 @@ use Rattle.nr_programs.specs.Transcript.{AllMayHave, Answered, CommandMayHave, J
 abbrev pub MeetsNoOther : Met → Type 0
 MeetsNoOther m = m.others ≡ []
 
--- the memory and room that each line has
+-- the `Supply` of each line
 abbrev pub supplies_of : List Met → List Supply
 supplies_of met = map (λ m. m.supply) met
 

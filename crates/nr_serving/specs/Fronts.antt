@@ -14,14 +14,14 @@ came callers = map (λ c. arrivals.Came) callers
 abbrev pub is_failure : Conversation → Bool
 is_failure c = is_err c.ending
 
--- The course of a front: its conversation with each caller, whether its callers failed, and the
--- final state of the front.
+-- The course of a front: its conversation with each caller, whether waiting for a caller failed,
+-- and the final state of the front.
 pub record Course : Type 0 where
   pub callers : List Conversation
   pub cut_off : Bool
   pub last : FrontState
 
--- true if the front's callers failed, or serving one of them failed
+-- true if waiting for a caller failed, or serving one of the callers failed
 abbrev pub has_failed : Course → Bool
 has_failed course = course.cut_off || list_any is_failure course.callers
 

@@ -22,8 +22,8 @@ pub enum Next<I, O> {
     Serve(I, O),
     /// The front ends, since no further caller will come.
     Ended,
-    /// The front ends, since its callers failed: the port wasn't bound, or a caller wasn't
-    /// accepted.
+    /// The front ends, because waiting for a caller failed: the port wasn't bound, or a caller
+    /// wasn't accepted.
     Failed,
 }
 

@@ -19,7 +19,7 @@ pub enum Arrival {
     Came,
     /// No further caller will come.
     Ended,
-    /// The callers failed.
+    /// Waiting for a caller failed.
     Failed,
 }
 

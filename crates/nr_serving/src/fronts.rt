@@ -17,12 +17,13 @@ use std::thread::{Threads, join};
 #[derive(Drop)]
 pub(crate) struct Done {
     pub(crate) pass: Pass,
-    /// True if its callers failed, or if a read or a write failed.
+    /// True if waiting for a caller failed, or if a read or a write failed.
     pub(crate) failed: bool,
 }
 
-// Serves a front's callers one after the other, until no further caller comes or the callers fail.
-// The call always returns: after `u64::MAX` callers, it treats the callers as failed.
+// Serves a front's callers one after the other, until no further caller comes or waiting for a
+// caller fails. The call always returns: after `u64::MAX` callers, it gives up as if waiting had
+// failed.
 fn serve_one<W, F, C>(
     journal: &Journal,
     mut front: Front<'_, W, F>,

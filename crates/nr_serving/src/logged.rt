@@ -23,7 +23,7 @@ pub(crate) enum Came {
     Served(Result<End, LineEnd>),
     /// No further caller will come.
     Ended,
-    /// The callers failed.
+    /// Waiting for a caller failed.
     Failed,
 }
 
@@ -132,7 +132,7 @@ impl<C: Connections + Drop> LoggedCallers<C> {
         }
     }
 
-    // Gives up after 2^64 - 1 callers, and logs that the callers failed.
+    // Gives up after 2^64 - 1 callers, and logs that waiting for a caller failed.
     pub(crate) fn give_up(&mut self)
         requires { 2 ^ 64 - 1 ≤ length self.old.arrivals }
         ensures { self.new ≡ with_arrival Arrival.Failed self.old }

@@ -311,7 +311,7 @@ just_an_unlock_frees w step s side answer next is before after = by ((turns w s 
     by (Locked g e got was now) = absurd (true≢false (sym before ∙ was))
     by (Unlocked g e was now) = (g, e)
 
--- ---- a try
+-- ---- a read or write that is answered `Again`
 
 -- the result of an rwlock
 record Lock-left (w : World) (g s : ℕ) (side : Side) (left : Answer × World) : Type 0 where

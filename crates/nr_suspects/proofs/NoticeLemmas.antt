@@ -99,8 +99,8 @@ socket_cases capacity answers.Pipe = inr refl
 
 -- ---- notices by step
 
--- true if the notice is a try, a reference that was taken or returned, a socket that was opened, a
--- peer's close, or `Nothing`
+-- true if the notice is a read or write that was answered `Again`, a reference that was taken or
+-- returned, a socket that was opened, a peer's close, or `Nothing`
 abbrev pub is_quiet : Notice → Bool
 is_quiet (notices.Tried s side) = true
 is_quiet (notices.TookReference g s) = true

@@ -1,4 +1,5 @@
--- A try is answered `Again` if and only if its socket doesn't have what the side waits for.
+-- A read or write is answered `Again` if and only if its socket doesn't have what the side waits
+-- for.
 use Rattle.std.proofs.Common.{◌≡◌, ℕ, ◌<◌, Bool, true, false, List, length, Some, None, Ok, refl, sym, ap, subst, ◌∙◌, arith}
 use Rattle.std.specs.Prelude.{◌↔◌, ◌==◌, if◌then◌else◌, min, nat_lt, slice_get}
 use Rattle.std.proofs.lemmas.Option.{none-some, same_Some}

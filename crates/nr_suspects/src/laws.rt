@@ -102,8 +102,8 @@ pub fn if_no_sleeper_is_listed_no_side_has_to_be_answered()
         → HasNothing side socket) }
 {}
 
-/// A socket has what a side waits for if and only if a try at that side wouldn't be answered
-/// `Again`, for any goroutine and any number of bytes.
+/// A socket has what a side waits for if and only if a read or write at that side wouldn't be
+/// answered `Again`, for any goroutine and any number of bytes.
 pub fn a_socket_has_nothing_just_if_a_try_is_answered_again()
     ensures read { (w : World) (g s n : ℕ) (socket : Socket) (answer : Answer) (next : World)
         → slice_get w.sockets s ≡ Some socket → outcome w (Step.SysRead g s n) ≡ Ok (answer, next)
@@ -202,9 +202,9 @@ pub fn a_leaked_reference_keeps_the_socket()
 /// An event of an earlier opening changes nothing. An event for a descriptor that was ever opened
 /// is answered `Stale`, and leaves the world as it was, if and only if the descriptor is closed or
 /// has another tag; it is answered `Done` if and only if the descriptor is open and has its tag. No
-/// step lowers a tag, and a close raises it. Take the tag that a descriptor had when it was closed,
-/// or a lower tag. Events with this tag are answered `Stale` from then on, whatever steps follow
-/// the close.
+/// step lowers a tag, and a close raises it. So after a close, each event with the tag that the
+/// descriptor had before the close, or with a lower tag, is answered `Stale`, whatever steps come
+/// between.
 pub fn events_of_an_earlier_opening_change_nothing()
     ensures stale { (w : World) (d tag : ℕ) (mode : Mode) (error : Bool) (row : DescriptorRow)
         → slice_get w.descriptors d ≡ Some row

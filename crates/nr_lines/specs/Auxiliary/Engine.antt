@@ -28,7 +28,7 @@ Turns d (line ∷ lines) (text ∷ texts) d' =
 Turns d [] (text ∷ texts) d' = ⊥
 Turns d (line ∷ lines) [] d' = ⊥
 
--- The front only appended words to those that it had read. Its count of unsuccessful looks for a
+-- The front only appended words to those that it had read. Its count of failed attempts to read a
 -- word hasn't decreased.
 pub record Grows (d d' : FrontState) : Type 0 where
   pub words : StartsWith d'.pass_state.seen d.pass_state.seen

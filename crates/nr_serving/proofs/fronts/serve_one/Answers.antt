@@ -45,7 +45,7 @@ returns-in-Ended g c =
       same = i.0 ∙ sym c.requires.table;
     }
 
--- the callers failed
+-- waiting for a caller failed
 pub returns-in-Failed : goal.returns-in-Failed
 returns-in-Failed g c =
     let i = c.loop.invariant in
