@@ -68,7 +68,7 @@ refused: ready
 loopback: ready
 	@sh scripts/pytest.sh python/tests/program/loopback.py
 
-# Tests bad recordings and bad command lines: each reason, faulty lines, headers and answers, each beginning of a short recording.
+# Tests bad recordings and bad command lines: each reason, faulty lines, headers and answers, each prefix of a short recording.
 hostile: ready
 	@sh scripts/pytest.sh --beside python/tests/program/hostile.py
 
@@ -148,8 +148,8 @@ pace:
 	@python3 python netrev_bench.pace $(lastword $(STEPS))
 
 # Installs netrev, nrdb and netrev-go with their man pages and completions below PREFIX: `make install PREFIX=~/.local`. With NETREV=FILE it
-# installs that program and proves nothing. Python is compiled too, as users may not be allowed to write there; compiled files go by a
-# sum of their source, whatever their times, and another Python ignores them.
+# installs that program and proves nothing. Python is compiled too, because users may not be allowed to write there. Compiled files
+# are checked by a checksum of their source, not by its time, and another version of Python ignores them.
 install: ready install-files
 
 install-files:
@@ -171,12 +171,13 @@ vsix:
 	@python3 scripts/vsix.py out/netrev.vsix && echo out/netrev.vsix
 
 # Packs the program that passed the gate as out/netrev-VERSION-linux-x86_64.tar.gz, and tries the archive. `make test` must have
-# passed here. NETREV=FILE is accepted only if FILE is that program, by its sum; VERSION=other names another version.
+# passed here. NETREV=FILE is accepted only if FILE has that program's checksum. VERSION=other names another version.
 package:
 	@sh scripts/package.sh $(VERSION) $(GIVEN)
 	@sh scripts/try_package.sh out/netrev-$(VERSION)-linux-x86_64.tar.gz
 
-# Makes out/netrev_VERSION_amd64.deb of that archive, and checks it with lintian if that is installed. As `make package` otherwise.
+# Makes out/netrev_VERSION_amd64.deb from that archive, and checks it with lintian if that is installed. The conditions and variables are
+# those of `make package`.
 deb: package
 	@sh scripts/deb.sh $(VERSION)
 
@@ -192,14 +193,15 @@ try-deb:
 	@sh scripts/try_deb.sh out/netrev_$(VERSION)_amd64.deb
 
 # Records Go's own tests, those of other projects and the samples, and compares all answers and lock words: `make real` with the
-# `go` on the PATH, `make real GO=1.27` or `make real GO=all` with releases of Debian's, fetched and not installed. An hour or so a
-# release; `make real ONLY=net/rpc` for some, `ONLY='^net$$' TESTS='^TestUnix'` for some of a package. The gate does a small part.
+# `go` on the PATH, `make real GO=1.27` or `make real GO=all` with releases of Debian's, fetched and not installed. A release
+# takes about an hour. `make real ONLY=net/rpc` runs some packages, `ONLY='^net$$' TESTS='^TestUnix'` some tests of a package. The gate runs a
+# small part.
 real: ready
 	@sh scripts/pytest.sh $(addprefix python/tests/,go_tool.py go_kept.py go_planted.py go_signals.py go_tests.py go_waits.py)
 	@python3 python netrev_go.real --only '$(ONLY)' --tests '$(TESTS)' --go "$(GO)"
 
-# Tries that recording changes nothing of a program and loses no run: `make trials GO="1.19 1.27"`. Some ten minutes a release, and not in
-# the gate but for a part.
+# Tests that recording changes nothing about a program and loses no run: `make trials GO="1.19 1.27"`. A release takes about ten minutes;
+# the gate runs only a part.
 trials: ready
 	@python3 python tests.go_untouched $(GO)
 	@python3 python tests.go_killed $(GO)

@@ -1,7 +1,7 @@
 #!/bin/sh
 # Plays an example: examples/play.sh NAME shows each command of NAME.script with its reply on
-# NAME.jsonl, and fails where the replies aren't those of NAME.replies. Where those begin with the fault of a step, netrev has
-# to refuse the recording: no command is answered then, and its status is 1.
+# NAME.jsonl, and fails if the replies differ from NAME.replies. If NAME.replies begins with the fault of a step,
+# netrev must refuse the recording: it answers no command, and exits with status 1.
 set -eu
 here=$(dirname "$0")
 netrev=${NETREV:-$here/../crates/netrev/out/netrev}

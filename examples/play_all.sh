@@ -1,5 +1,5 @@
 #!/bin/sh
-# Plays all examples of the list in README.md, and last a session that two share:  examples/play_all.sh [--alone]
+# Plays all examples in README.md's list, and then a session that two people share:  examples/play_all.sh [--alone]
 #
 # NETREV names the program, as for play.sh. With --alone no session is shared.
 set -eu

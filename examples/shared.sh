@@ -1,9 +1,9 @@
 #!/bin/sh
 # Plays the session of docs/guide/sharing.md:  examples/shared.sh
 #
-# Two people share examples/first.jsonl, each by an `nc` of their own, and take turns as examples/shared.script says. It
-# shows each line with its reply, and fails where the replies, and what is printed in the end, aren't those of
-# shared.replies, or within a minute.
+# Two people share examples/first.jsonl, each with their own `nc`, and take turns as examples/shared.script says. The
+# script shows each line with its reply. It fails if the replies and the last output differ from shared.replies, or if
+# the session takes more than a minute.
 [ -n "${WITHIN-}" ] || WITHIN=60 exec timeout 60 sh "$0"
 set -eu
 here=$(cd "$(dirname "$0")" && pwd)
@@ -28,7 +28,7 @@ with socket.create_connection(("127.0.0.1", int(sys.argv[1]))) as caller, caller
 	}
 fi
 
-# Joins at a port, as soon as it is there. (A join that is refused has read nothing.)
+# Joins at a port as soon as netrev listens there. (A join that is refused has read nothing.)
 join_soon() {
 	tries=0
 	until join "$1" 2> /dev/null; do
@@ -41,7 +41,7 @@ join_soon() {
 if [ -d "$here/../python/tests" ]; then
 	port=$(python3 "$here/../python" tests.program.sharing 2)
 else
-	# (an archive of netrev has no tests, which know whose ports are free)
+	# (an archive of netrev lacks the tests, which choose free ports)
 	port=$((10240 + $$ % 10000 * 2))
 fi
 "$netrev" serve "$here/first.jsonl" --port "$port" --fronts 2 --connections 1 > "$work/end" &

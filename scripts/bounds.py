@@ -2,8 +2,8 @@
 """Finds the numbers that no proof needs:  scripts/bounds.py [--list] [CRATE ..]
 
 In a copy of the repository, reduces each constant and each loop bound by one; `rt ci` tries each change as an edit that
-must fail. If the change is refused, a contract fixes the number. If the crate is still proved, the number rests only on
-the source: with a smaller number netrev is slower, or gives up earlier, and no theorem excludes that.
+must fail. If the change is refused, a contract fixes the number. If the crate is still proved, only the source fixes the
+number: with a smaller number netrev is slower, or gives up earlier, and no theorem excludes that.
 
 Without names it tries netrev's crates. With --list it prints what it would change. A crate takes some minutes. The status is 0 if each
 change was tried, else 1.
@@ -71,7 +71,7 @@ def numbers_of(crate: str) -> Iterator[Number]:
 
 
 def verdicts(numbers: list[Number]) -> dict[tuple[str, str], str]:
-    """The prover's verdict on each decreased number, by crate and name."""
+    """The prover's verdict on each number that was reduced by one, by crate and name."""
     with tempfile.TemporaryDirectory(prefix="netrev-bounds-") as folder:
         copy = Path(folder) / "netrev"
         shutil.copytree(ROOT, copy, ignore=shutil.ignore_patterns("must-fail", ".git", "target"))

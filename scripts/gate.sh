@@ -2,19 +2,20 @@
 # The gate:  scripts/gate.sh [--anew]
 #
 # It runs `rt ci` first, with the log in out/gate.log and the time of each crate in out/minutes.tsv. A toolchain that
-# stores results doesn't prove or try again what passed in an earlier run on this machine and hasn't changed, unless
-# --anew is given, which other toolchains don't know. The verdicts are stored in out/verdicts.json, to be compared with
-# docs/proof/TRUSTED.md. If `rt ci` passes, each edit that must fail has to have been refused for the right reason: an
-# edit doesn't count if it couldn't be tried, if the prover gave up on it, or if it is refused only because a proof file
-# names what the edit removes. Then all tests in Python run, and the scripts that belong to them (scripts/tests.sh): the
-# tests of the built program in python/tests/program, scripts/refused.sh, each example and examples/shared.sh, the tests
-# of nrdb, which include the hunts of examples/hunts, and the tests of the recorder and the fuzzer. If a Go is
-# installed, the samples and ten tests are recorded with it and compared; otherwise the gate says that they were left
-# out. netrev and netrev_plain, over a world of lists, must print the same (python/tests/program/agree.py). The pages
-# must agree with the tree (scripts/pages.py), and black and mypy, if installed, must have no complaint about the Python
-# code (scripts/lint.sh). The last line is `rt ci`'s, plus one failure for each of these that failed, and the number of
-# tests that were skipped for lack of a tool; they are named before it, and don't count as passed. If nothing failed and
-# pytest is installed, the checksum of the tested program is stored in out/gate.sum, for scripts/package.sh.
+# stores results skips what passed in an earlier run on this machine and hasn't changed. --anew makes such a toolchain
+# prove and try everything again; other toolchains don't know this option. The verdicts are stored in out/verdicts.json,
+# to be compared with docs/proof/TRUSTED.md. If `rt ci` passes, each edit that must fail has to have been refused for
+# the right reason: an edit doesn't count if it couldn't be tried, if the prover gave up on it, or if it is refused only
+# because a proof file names what the edit removes. Then all tests in Python run, and the scripts that belong to them
+# (scripts/tests.sh): the tests of the built program in python/tests/program, scripts/refused.sh, each example and
+# examples/shared.sh, the tests of nrdb, which include the hunts of examples/hunts, and the tests of the recorder and
+# the fuzzer. If a Go is installed, the samples and ten tests are recorded with it and compared; otherwise the gate says
+# that they were left out. netrev and netrev_plain, over a world of lists, must print the same
+# (python/tests/program/agree.py). The pages must agree with the tree (scripts/pages.py), and black and mypy, if
+# installed, must have no complaint about the Python code (scripts/lint.sh). The last line is that of `rt ci`, with one
+# more failure for each of these checks that failed, and with the number of tests that were skipped because a tool is
+# missing. Skipped tests are listed above that line, and don't count as passed. If nothing failed and pytest is
+# installed, the checksum of the tested program is stored in out/gate.sum, for scripts/package.sh.
 set -eu
 cd "$(dirname "$0")/.."
 mkdir -p out
@@ -22,14 +23,15 @@ log=out/gate.log sum=out/gate.sum
 rm -f "$sum"
 unset NETREV NETREV_PLAIN # (so that the program built here is tested)
 
-# One job for each check, and as many checks as there are processors and 5 GB of memory for: a check with four jobs uses
-# a quarter more processor time than with one. (If `rt ci` is given a number of checks, it ignores the memory.)
+# One job for each check, because a check with four jobs uses a quarter more processor time than with one. There are as
+# many checks at once as processors, but at most one for each 5 GB of available memory. (If `rt ci` is given a number of
+# checks, it ignores the memory.)
 fit=$(awk '/^MemAvailable:/ { print int($2 / 5000000) }' /proc/meminfo)
 lanes=$(nproc)
 [ "$fit" -ge "$lanes" ] || lanes=$fit
 [ "$lanes" -lt 1 ] || export RT_JOBS="${RT_JOBS:-$lanes}"
 
-# (sh keeps the status of a pipe's first command only if that writes it somewhere)
+# (The status of a pipe's first command is lost unless the command itself writes it to a file.)
 { python3 scripts/minutes.py out/minutes.tsv rt ci "$@" 2>&1 && echo 0 > out/gate.status || echo $? > out/gate.status; } | tee "$log"
 read -r status < out/gate.status
 [ "$status" = 0 ] || exit "$status"

@@ -63,7 +63,7 @@ def check_of(number):
 
 
 class Watch:
-    """The observed times of the checks below a process."""
+    """The observed times of the checks that a process starts, directly or through its children."""
 
     def __init__(self, top):
         self.top = top

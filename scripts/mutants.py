@@ -2,12 +2,12 @@
 """Tries mutants:  scripts/mutants.py [--plant FILE] [--list] CRATE [NAME ..]
                scripts/mutants.py around [--seed N] [--count N] [--list] [FILE ..]
 
-`around` draws mutants of nrdb, netrev_calls and netrev_go by a seed, and tries them against their tests (scripts/mutating). Otherwise the
+`around` chooses random mutants of nrdb, netrev_calls and netrev_go from a seed, and runs their tests against them (scripts/mutating). Otherwise the
 edits of a crate are tried, many in a single check.
 
 The gate tries each edit of crates/CRATE/must-fail alone, over the whole crate. This script puts the edits of different
 functions into one copy of the repository, and checks only these functions, each separately, because the proof of a
-function doesn't rest on the body of another function. So all edits of a crate are tried in minutes. This is a tool for
+function doesn't depend on the body of another function. So all edits of a crate are tried in minutes. This is a tool for
 developers, and not a part of the gate.
 
 An edit counts as refused if a function that it changes isn't proved because of a goal of its own. A goal doesn't count
@@ -90,8 +90,8 @@ def name_of_impl(head):
 
 
 def function_at(crate, file, text, place):
-    """The end of the name that the prover prints for the function whose body contains this place of a source; None if
-    no body contains it. A method is named after its type, wherever its block is."""
+    """The function whose body contains this place of a source: the end of the name that the prover prints for it. None
+    if no body contains the place. A method is named after its type, wherever its block is."""
     if not file.startswith("src/"):
         return None
     head = text[:place]
@@ -170,8 +170,8 @@ def check(folder, functions, jobs):
 
 
 def is_own(function, line, output):
-    """Whether the function isn't proved because of a goal of its own, and not only because of a function that it
-    calls."""
+    """Whether one of the function's own goals failed. If not, the function is unproved only because of a function
+    that it calls."""
     answers = "/".join(["proofs", *function.split("::")[1:], "Answers.antt"])
     return bool(
         UNPROVED.match(line) or line.startswith("not proved;") and re.search(rf"{answers}:\d+:\d+: error", output)

@@ -19,11 +19,11 @@ The gate runs all rules. These are about pages and Python code, and about what p
 
 And these are about the source itself:
 
-    modules              the two groups of a specs/Lib.antt are the modules that callers need, and the others
+    modules              a specs/Lib.antt has two groups: the modules that callers need, and the others
     comments             no comment depends on the one before it: "The same."
     lines                no line of specs/ has more than 100 columns
-    forgotten            `mem::forget`, and all that leaks memory, is in one file
-    refused              no function of the program reports refused memory without an error that says so
+    forgotten            only one file calls `mem::forget` or leaks memory in another way
+    refused              no function of the program reports that memory ran out unless it has the library's error
 
 `--diagram` prints the diagram of the crates. `--write` first updates the imports of the packages in CONTRIBUTING.md's table. With RULE ..,
 only these rules run. Prints each finding with its file and line; the status is 1 if there is any.

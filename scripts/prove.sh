@@ -3,8 +3,8 @@
 #
 # The default NAME is netrev. `rt ci` proves the program and the crates below it in a copy without the other crates.
 # What an earlier run on this machine proved for the same files, in any checkout, isn't proved again. CPU names the
-# processors for which the program is built, such as x86-64-v3; by default it is all of x86-64. With CPU the proofs,
-# which are the same, are made in this checkout.
+# processors for which the program is built, such as x86-64-v3; without CPU these are x86-64-v2 and later.
+# With CPU the crates are proved in this checkout, and not in a copy; the proofs don't depend on CPU.
 set -eu
 cd "$(dirname "$0")/.."
 top=${1:-netrev}

@@ -5,9 +5,9 @@
 # refused, a missing file and a usage error. netrev must report a refused allocation once, and change nothing else.
 # While it loads, it reports `fault 108 memory` with status 1. After that, the report replaces one reply: a query gets
 # `fault 301 memory`, and is sent again; a `continue` or `reverse-continue` gets `fault 302 memory, placed N`, and
-# `resume` asks for its reply. That reply and all others must then be right. `upgrade` reports it as in loading, after
-# the first lines of the right text, all of them whole. If nothing is refused, or netrev could do without the
-# allocation, then status, replies and standard error must be right. The first difference ends the script.
+# `resume` asks for its reply. That reply and all others must then be right. After it has written some whole lines of
+# the right text, `upgrade` reports `fault 108 memory` with status 1 too. If nothing is refused, or netrev could do
+# without the allocation, then status, replies and standard error must be right. The first difference ends the script.
 set -eu
 here=$(cd "$(dirname "$0")" && pwd)
 examples=$here/../examples
@@ -88,9 +88,9 @@ is_begun() {
 	[ "$status" = 1 ] && cmp -s "$work/output" "$work/begun"
 }
 
-# Refuses each allocation of netrev, run with the words from $3 on, until none is left to refuse. It must end with
-# status $1 and $2 on standard error once nothing is refused. It may also do so if it could do without the allocation,
-# or if one line had to be sent again.
+# Refuses each allocation of netrev, run with the words from $3 on, until none is left to refuse. Once nothing is
+# refused, it must end with status $1 and print $2 on standard error. It may also end so after a refusal, if it didn't
+# need the allocation, or if one line had to be sent again.
 refuse_each() {
 	ends=$1 says=$2
 	shift 2

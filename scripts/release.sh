@@ -1,8 +1,8 @@
 #!/bin/sh
 # Puts a release into out/release, ready to be published:  scripts/release.sh VERSION
 #
-# It takes the archive and the Debian package of a gate that passed from out/ (`make deb`), and adds SHA256SUMS and
-# RELEASE-NOTES.md, which has the sections of CHANGELOG.md about VERSION and about unreleased changes.
+# It takes the archive and the Debian package from out/, where `make deb` leaves them after the gate has passed. It adds
+# SHA256SUMS and RELEASE-NOTES.md, which has the sections of CHANGELOG.md about VERSION and about unreleased changes.
 set -eu
 cd "$(dirname "$0")/.."
 version=$1

@@ -17,7 +17,7 @@ ROOT = Path(__file__).resolve().parent.parent
 
 
 def main(given_words: list[str] | None = None) -> int:
-    """Stores the verdicts in the log that these arguments, or those of the command line, name."""
+    """Stores the verdicts in a log. These arguments, or those of the command line, name the log."""
     given = argparse.ArgumentParser(description=__doc__, formatter_class=argparse.RawDescriptionHelpFormatter)
     given.add_argument("--root", type=Path, default=ROOT, help=argparse.SUPPRESS)
     given.add_argument("log", nargs="?", type=Path, metavar="LOG", help="the log (out/gate.log)")

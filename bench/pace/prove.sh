@@ -1,8 +1,8 @@
 #!/bin/sh
 # Proves and builds the program of bench/pace/crate, nr_pace, and leaves it at out/nr_pace:  bench/pace/prove.sh
 #
-# Its sources end in .in, since the gate reads no .rt or .antt file but those of the crates in crates.txt, and this one is proved here
-# alone: as crates/nr_pace in a copy of the repository, with a line for it in crates.txt.
+# Its sources end in .in, because the gate reads all .rt and .antt files and expects only the crates in crates.txt. This crate is proved only
+# here: as crates/nr_pace in a copy of the repository, with a line for it in crates.txt.
 set -eu
 cd "$(dirname "$0")/../.."
 copy=$(mktemp -d)

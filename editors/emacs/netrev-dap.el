@@ -1,7 +1,7 @@
 ;;; netrev-dap.el --- netrev's recordings in dap-mode  -*- lexical-binding: t -*-
 
-;; Load it behind dap-mode, open a recording, and type M-x netrev-debug. dap-mode has commands of its own for going forwards;
-;; those for going back and for stopping where a cell changed are here.
+;; Load it after dap-mode, open a recording, and type M-x netrev-debug. dap-mode has commands for going forwards;
+;; this file has those for going back and for stopping where a cell changed.
 
 (require 'dap-mode)
 

@@ -44,7 +44,7 @@ CALLS_FORGOTTEN = {
 
 @dataclass(frozen=True)
 class Mutant:
-    """A change of a file, which replaces the text between two places."""
+    """A change to a file, which replaces the text between two places."""
 
     file: str  # relative to the repository's folder
     line: int

@@ -19,9 +19,9 @@ from pathlib import Path
 from .changes import Mutant
 
 OVERRIDES = Path(__file__).with_name("topics.txt")
-NOTED = ("python/tests", "python/tests/program/nrdb")  # folders of tests whose calls are recorded
-MOST = 60.0  # seconds of tests for a mutant
-FEW = 4  # the fraction of these for a function that no test called
+NOTED = ("python/tests", "python/tests/program/nrdb")  # folders with the tests whose calls are recorded
+MOST = 60.0  # the most seconds that a mutant's tests may take
+FEW = 4  # if no test called the function, MOST is divided by this
 
 
 @dataclass(frozen=True)
@@ -135,7 +135,7 @@ def _file_of(row: dict[str, str]) -> str:
 
 
 def read_overrides(text: str) -> list[tuple[str, list[str]]]:
-    """The lines `PATTERN: TEST ..` of a text. For a file, the first line counts whose pattern matches the file's
-    name."""
+    """The lines `PATTERN: TEST ..` of a text. The first line whose pattern matches a file's name applies to that
+    file."""
     lines = [line for line in text.splitlines() if line.strip() and not line.startswith("#")]
     return [(pattern.strip(), tests.split()) for pattern, _, tests in (line.partition(":") for line in lines)]

@@ -26,13 +26,13 @@ ROOT = Path(__file__).resolve().parent.parent.parent
 PACKAGES = ("python/nrdb", "python/netrev_calls", "python/netrev_go")
 UNTOUCHED = (
     "messages",  # texts
-    "costs", "fetching", "real", "results", "suites",  # measure the recorder; no command uses them
+    "costs", "fetching", "real", "results", "suites",  # scripts that measure the recorder; no command uses them
 )  # fmt: skip
 FOUND, SURVIVED, UNTESTED, UNBUILT = "found", "survives", "no test calls it", "can't be compiled"
 FAILS_ANYWAY = "its test fails without it too"
 PATIENCE, GO_PATIENCE = 600, 1_800  # seconds
 COMPILING = "from netrev_go.toolchain import find_go, overlay; overlay(find_go())"
-LONGEST, TIMES = 30.0, 20.0  # seconds for any test, and the factor over its time when its calls were recorded
+LONGEST, TIMES = 30.0, 20.0  # a test may take LONGEST seconds, plus TIMES its recorded time
 
 
 @dataclass
@@ -145,7 +145,7 @@ class Worker:
         os.utime(path, (self.time, self.time))
 
     def run_anew(self, tests: list[str], patience: float) -> str:
-        """The first of the tests, or test files, that fails in a new pytest; empty if no test fails."""
+        """The first of the tests, or test files, that fails in a new pytest process; empty if no test fails."""
         process = subprocess.Popen(
             [*pytest_by(self.python), "-x", *tests], cwd=self.room, env={**os.environ, "PYTHONHASHSEED": "0"},
             stdin=subprocess.DEVNULL, stdout=subprocess.PIPE, stderr=subprocess.STDOUT, start_new_session=True,
@@ -225,7 +225,7 @@ class Worker:
             self._server.end()
 
     def is_unbuilt(self, mutant: Mutant, text: str) -> bool:
-        """Whether Go doesn't compile the mutant."""
+        """Whether the mutant fails to compile."""
         self.put(mutant.file, mutant.applied(text))
         path = os.pathsep.join([str(self.room / "python"), os.environ.get("PYTHONPATH", "")])
         environment = {**os.environ, "PYTHONPATH": path, "GO111MODULE": "off"}

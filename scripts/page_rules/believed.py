@@ -1,8 +1,8 @@
 """Finds the definitions in the crates' specs/ that a law rests on: the definitions that it names, the definitions that
 these name, and so on.
 
-It reads words, not types: a word that a definition contains and imports, or that its file defines, counts as named. So
-it may count too many definitions, but it doesn't miss a named definition. Definitions of the toolchain's libraries
+It reads words, not types. A definition names each word in it that its file imports or defines. So the rule may count
+too many definitions, but it doesn't miss a named definition. Definitions of the toolchain's libraries
 aren't followed.
 """
 
@@ -53,7 +53,7 @@ class Definition:
 
     @property
     def words(self) -> set[str]:
-        """All words and signs in it, without comments and strings."""
+        """All words and symbols in it, without comments and strings."""
         code = " ".join(
             TEXT.sub("", COMMENT.sub("", line)) for line in self.lines if not line.lstrip().startswith("--")
         )
@@ -83,7 +83,7 @@ class Module:
 
 
 def _name_of(line: str, in_module: bool) -> str:
-    """The name that a line begins to define, or None."""
+    """The name of the definition that begins in this line; empty if none does."""
     found = HEAD.match(line) or PLAIN.match(line) or (PLAIN_IN_MODULE.match(line) if in_module else None)
     return found.group(1) if found else ""
 
@@ -148,7 +148,7 @@ class Beliefs:
             yield Place(crate, module, name)
 
     def _named_by(self, place: Place, word: str) -> Iterator[Place]:
-        """The definitions that a word of a definition may mean."""
+        """The definitions that a word in the definition at this place may mean."""
         module = self.module(place)
         owner, dot, members = word.partition(".")
         member = members.partition(".")[0]

@@ -1,4 +1,4 @@
-"""Checks that each function, clause and definition that docs/proof/PROMISES.md cites exists, and each name of the sources in other pages.
+"""Checks that each function, clause and definition that docs/proof/PROMISES.md cites exists, and that names in other pages exist.
 
 The right column of PROMISES names functions and, after a colon, the labels of their clauses: `Snaps::load`: `film`, `good`. Names after
 "against", "over", "with" and the like are definitions. "The same" refers to the names in the previous row.
@@ -63,7 +63,7 @@ class Cited:
 
 
 def _wrong_in(part: str, cited: Cited, before: list[str]) -> Iterator[str]:
-    """The citations in a part of a cell that don't exist. Adds the part's subjects to the list of earlier subjects."""
+    """The names that a part of a cell cites although they don't exist. Adds the part's subjects to the list of earlier subjects."""
     left, colon, right = (OUTSIDE_CODE.split(part, maxsplit=1) + ["", ""])[:3]
     subjects = CODE.findall(left) if colon else CODE.findall(part)
     before.extend(subjects)
@@ -101,7 +101,7 @@ def promises(tree: Tree) -> Iterator[Finding]:
 
 # names of Go, Python and the system
 ELSEWHERE = {"TestMain", "RuntimeError", "O_NONBLOCK", "ReadTimeout"}
-# the history page, whose names needn't exist any more
+# the history page, which may name things that no longer exist
 HISTORY = "CHANGELOG.md"
 # a page's name for something in the sources: with an owner, or of more than one word
 OURS = re.compile(r"[A-Za-z]\w*(?:::\w+)+|[a-z]+(?:_[a-z0-9]+)+|(?:[A-Z][a-z0-9]+){2,}|[A-Z]+(?:_[A-Z]+)+")

@@ -104,7 +104,7 @@ def listed_as_shared(tree: Tree) -> Iterator[tuple[int, str, set[str]]]:
 
 
 def shared_names(tree: Tree) -> Iterator[Finding]:
-    """Names that definitions of several crates have, if the list doesn't have exactly these crates."""
+    """Names that several crates define, unless the list of shared names has exactly these crates for the name."""
     listed: dict[str, tuple[int, set[str]]] = {}
     for row, name, crates in listed_as_shared(tree):
         listed[name] = row, crates | listed.get(name, (0, set()))[1]

@@ -21,7 +21,7 @@ PLACES, IMPORTS = 0, 2  # columns
 
 @dataclass
 class Row:
-    """A row of the table: its places below python/, its line in the page, and the rows that it names, by their first places."""
+    """A row of the table: its places below python/, its line in the page, and the first place of each row that it names."""
 
     places: list[str]
     line: int
@@ -33,7 +33,7 @@ class Row:
         return self.places[0]
 
     def fits(self, path: str) -> int:
-        """The length of the row's place that matches a module, by its path below python/; 0 if none does."""
+        """The length of the longest of the row's places that contains the module at this path below python/; 0 if no place does."""
         return max((len(place) for place in self.places if f"{path}/".startswith(f"{place}/")), default=0)
 
 

@@ -19,7 +19,7 @@ ELSEWHERE = re.compile(
 )
 # names in an archive, examples in a page, and a reader's own files
 NAMED_ONLY = {"bin/nrdb", "src/m.rt", "bad.jsonl", "recording.jsonl", "recording.where", "now.jsonl", "bug.md", "./pkg"}
-# the history page, whose files needn't exist any more
+# the history page, which may name files that no longer exist
 HISTORY = "CHANGELOG.md"
 
 

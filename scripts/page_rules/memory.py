@@ -25,18 +25,18 @@ def forgotten(tree: Tree) -> Iterator[Finding]:
                 yield Finding(path, number, f"{found[0]} leaks memory, and is allowed only in {MAY_FORGET}")
 
 
-# the library's refusal as a type: in the result of a function, in a conversion from it, and in an import under its own name
+# places that only name the library's error type: a function's result, a conversion from the error, and an import without renaming
 TYPE = re.compile(
     r", AllocError>|\bFrom<AllocError>|\bfn from\(\w+: AllocError\)|^use std::alloc::(?:AllocError|\{[\w, ]*\});$"
 )
-# the name of the refusal; anywhere else, it means that a refusal is created or renamed there
+# the name of the error type; outside the places above, the line creates or renames a refusal
 MADE = re.compile(r"\bAllocError\b")
 # a library's own name for a refused allocation, without the type that carries the refusal
 SAID = re.compile(r"\b(?:\w+::OutOfMemory|Category::Memory)\b.*=>")
 # the line that reports a refusal
 PRINTED = re.compile(r'"fault 108 memory')
 MESSAGE = re.compile(r"\s*#\[error\(")
-# the file of the type that carries a refusal, and the file of the types that contain one and are printed that way
+# the file with the type that carries a refusal, and the file with the faults that contain a refusal and print this line
 CARRIES = "crates/nr_rev/src/memory.rt"
 PRINTS = "crates/nr_recording/src/fault.rt"
 

@@ -110,7 +110,7 @@ def _is_run(tree: Tree, name: str, limits: str, steps: str) -> bool:
 
 
 def runs(tree: Tree) -> Iterator[Finding]:
-    """Definitions that aren't the runs of their recordings."""
+    """Definitions whose limits and steps differ from the recording that they name."""
     for path in filter(tree.has, (EXAMPLES, SHORT)):
         source = tree.text(path)
         found = list(RUN.finditer(source))

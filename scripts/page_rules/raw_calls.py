@@ -1,8 +1,8 @@
 """Checks that the calls that reach a stream, a caller or a log are made only in the places that docs/proof/TRUSTED.md lists.
 
-The laws are about logs. A call that bypasses the logs, for example on a reader taken out of its source, would be missing from all of them,
-and an entry without a call would be in one of them. So each such call in the program's sources is listed here with the functions that make
-it. Those functions that no contract checks are the rows of TRUSTED's table of code that is read by eye.
+The laws are about logs. If a call bypassed the logs, for example on a reader taken out of its source, no log would have it; and a log could
+have an entry without a call. So each such call in the program's sources is listed here with the functions that make it. No contract checks
+some of these functions; TRUSTED lists them in its table of code that is read by eye.
 """
 
 import re

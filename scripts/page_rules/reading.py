@@ -1,9 +1,9 @@
 """Checks the reading list of docs/proof/THEOREM.md: the definitions that its laws rest on, by crate and file, and their lines.
 
-A file comes after the files that it rests on, and a crate after the crates that it imports. Only the lines of
-definitions are counted, and not imports. Comments count for a file, but not for a law. If a law has a definition only
-in a premise, which another contract proves, that definition counts, but not the definitions that it uses: the law only
-says what follows from the premise.
+A file comes after the files that it depends on, and a crate after the crates that it imports. Only the lines of
+definitions are counted, and not imports. Comments count for a file, but not for a law. Some premises of a law are
+proved by another contract. A definition that a law uses only in such a premise counts, but the definitions that it uses
+don't, because the law only says what follows from the premise.
 
 The definitions that the laws rest on are in separate files, and each crate lists these files under one heading.
 """
@@ -92,8 +92,8 @@ class Count:
     """The numbers of definitions that some laws rest on, and of their lines and files."""
 
     definitions: int
-    lines: int  # without comments
-    comments: int  # comment lines
+    lines: int  # lines that aren't comments
+    comments: int  # lines that are comments
     files: int
     types: int  # the number of Rust types that the definitions name
 
@@ -144,7 +144,7 @@ class ReadingList:
         return Count(len(here), self.lines(here) - comments, comments, len({place.path for place in here}), len(types))
 
     def _behind(self, path: str, by_file: dict[str, set[Place]], ordered: list[str]) -> None:
-        """Appends a file to the list, after those files of its crate that it rests on."""
+        """Appends a file to the list, after the files of its crate that it depends on."""
         if path in ordered:
             return
         named = set().union(*map(self.beliefs.named, sorted(by_file[path])))
@@ -164,7 +164,7 @@ class ReadingList:
         return [(path, sorted(by_file[path])) for path in ordered]
 
     def strays(self) -> Iterator[tuple[str, str]]:
-        """Definitions that no law rests on, in files that also have definitions that laws rest on: the file and the name."""
+        """The file and name of each definition that no law uses although laws use other definitions of its file."""
         by_file: dict[str, list[Place]] = {}
         for place in self.defined(self.all):
             by_file.setdefault(place.path, []).append(place)
@@ -234,7 +234,7 @@ def reading_list(tree: Tree) -> Iterator[Finding]:
 
 
 def tables(tree: Tree) -> list[str]:
-    """The page's tables: the laws' and the hunts'."""
+    """The rows of the page's tables: those for LAWS and, after an empty row, those for HUNTS."""
     rows = list(ReadingList(tree, LAWS).rows())
     return [*rows, "", *ReadingList(tree, HUNTS).rows()] if HUNTS else rows
 

@@ -26,8 +26,8 @@ class Function:
     """A function of a source: its owner, and its contract."""
 
     name: str
-    owner: str  # a type, a trait, or empty
-    trait: str  # the trait of its `impl`, or empty
+    owner: str  # the type or trait that it belongs to; empty if none
+    trait: str  # the trait that its `impl` implements; empty if none
     module: str
     is_public: bool
     contract: str

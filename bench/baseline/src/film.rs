@@ -1,4 +1,4 @@
-//! Replay once, copies each `every` steps, and the walker.
+//! A recording that is replayed once, a copy of the world after every `every` steps, and the walker.
 
 use crate::recording::Recording;
 use crate::world::*;

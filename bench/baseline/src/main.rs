@@ -20,7 +20,7 @@ use std::process::exit;
 
 /// Steps between two copies.
 const EVERY: usize = 1_024;
-/// Bytes that are read at once, as many as netrev reads: both answer the lines of one read by one write.
+/// The most bytes that one read takes, as in netrev. Both programs send the replies to all lines of one read with one write.
 const CHUNK: usize = 512;
 const USAGE: &str = "usage: netrev-baseline check FILE, netrev-baseline run FILE, or netrev-baseline FILE";
 
@@ -29,7 +29,7 @@ fn fail(status: i32, text: &str) -> ! {
     exit(status)
 }
 
-/// The recording in a file, whose text is let go.
+/// The recording in a file. The file's text is freed.
 fn recording_of(file: &OsStr) -> Recording {
     let text = File::open(file).and_then(|mut opened| {
         let mut text = Vec::with_capacity(opened.metadata()?.len() as usize + PADDING);
@@ -57,7 +57,7 @@ fn check(file: &OsStr) -> String {
     }
 }
 
-/// Answers lines from standard input until `quit` or its end; all that came at once, before it reads again.
+/// Answers lines from standard input until `quit` or the end of the input. It answers all lines of one read before the next read.
 fn run(film: &Film) -> std::io::Result<()> {
     let mut session = Session::new(film);
     let (mut input, mut output) = (std::io::stdin().lock(), std::io::stdout().lock());

@@ -1,4 +1,4 @@
-//! How fast the machine is without commands: thousand steps a second, each the best of three runs.
+//! The speed of the machine without commands, in thousands of steps per second, each the best of three runs.
 
 use crate::film::{Film, Walker};
 use crate::search::first_change;
@@ -9,7 +9,7 @@ use std::time::Instant;
 
 const RUNS: usize = 3;
 
-/// Thousand steps a second of the fastest run.
+/// The speed of the fastest run, in thousands of steps per second.
 fn rate(steps: usize, runs: impl IntoIterator<Item = f64>) -> u64 {
     let least = runs.into_iter().fold(f64::MAX, f64::min);
     (steps as f64 / least.max(1e-9) / 1e3) as u64

@@ -118,7 +118,7 @@ impl Scan<'_> {
             None
         }
     }
-    /// The kind behind `["`, up to and with its closing quotation mark.
+    /// The kind after `["`, up to and including its closing quotation mark.
     #[inline(always)]
     fn kind(&mut self) -> Option<u8> {
         let w = u128::from_le_bytes(self.b.get(self.p..self.p + 16)?.try_into().ok()?);
@@ -325,7 +325,7 @@ impl Scan<'_> {
 
 // ---- the recording ------------------------------------------------------------------------------
 
-/// A number behind `"KEY":` in the header's line.
+/// The number after `"KEY":` in the header's line.
 fn limit(line: &[u8], key: &str, most: u32) -> Option<u32> {
     let line = std::str::from_utf8(line).ok()?;
     let rest = &line[line.find(&format!("\"{key}\":"))? + key.len() + 3..];
@@ -343,10 +343,10 @@ fn header(line: &[u8]) -> Option<Limits> {
     })
 }
 
-/// Spaces behind the text: a kind is looked up in sixteen bytes.
+/// The number of spaces after the text, because looking up a kind reads sixteen bytes.
 pub const PADDING: usize = 16;
 
-/// Reads the header's line and the steps' behind it, with the padding last; else the first line that is none of these.
+/// Reads the header's line and the steps' lines; the padding comes last. If a line is neither, returns the first such line's number.
 pub fn read(padded: &[u8]) -> Result<Recording, usize> {
     let text = &padded[..padded.len() - PADDING];
     let end = text.iter().position(|&c| c == b'\n').unwrap_or(text.len());

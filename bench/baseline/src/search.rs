@@ -4,7 +4,7 @@ use crate::film::Film;
 use crate::step::Cell;
 use crate::world::{NoLog, World};
 
-/// The first position behind the start where the cell has another value than one step before.
+/// The first position after the start at which the cell's value differs from its value one step before.
 pub fn first_change(world: &mut World, film: &Film, cell: Cell) -> Option<usize> {
     world.restore(&film.snaps[0]);
     let old = world.cell(cell);
@@ -17,7 +17,7 @@ pub fn first_change(world: &mut World, film: &Film, cell: Cell) -> Option<usize>
     None
 }
 
-/// A mark's number, and what has it: the bench places one break and one watch.
+/// The break and the watch, each with its mark number. The bench sets at most one of each.
 #[derive(Default)]
 pub struct Marks {
     /// the position before the step with the break
@@ -41,7 +41,8 @@ impl<'a> Finder<'a> {
         Finder { film, world: World::fresh(film.rec.lim) }
     }
 
-    /// From copy `copy`, the first (else the last) position behind a step of [from, to) that changes the cell.
+    /// The position after the first step in [from, to) that changes the cell, or after the last such step if `FIRST` is false. The search
+    /// starts from copy `copy`.
     fn changed<const FIRST: bool>(&mut self, copy: usize, from: usize, to: usize, cell: Cell) -> Option<usize> {
         let rec = &self.film.rec;
         let base = copy * self.film.every;
@@ -74,10 +75,10 @@ impl<'a> Finder<'a> {
         self.hit(marks, change, place)
     }
 
-    /// The greatest hit below `pos`; the copies are taken from the last on.
+    /// The greatest hit below `pos`. The search takes the copies in reverse order.
     pub fn last_before(&mut self, marks: &Marks, pos: usize) -> Option<Hit> {
         let place = marks.place.map(|(_, place)| place).filter(|&place| place < pos && place < self.film.len());
-        // hits at positions from the break's, or 1, to the last before come from steps one before
+        // a hit at position p comes from step p - 1; p runs from the break's position, or 1, to pos - 1
         let (from, to) = (place.unwrap_or(0).max(1) - 1, pos.max(1) - 1);
         let every = self.film.every;
         let change = marks.cell.filter(|_| from < to).and_then(|(_, cell)| {
@@ -89,7 +90,7 @@ impl<'a> Finder<'a> {
         self.hit(marks, change, place)
     }
 
-    /// A change, where there is one, is at least as near as the break.
+    /// The hit at the change or, if there is none, at the break. A change is never farther from the start of the search than the break.
     fn hit(&self, marks: &Marks, change: Option<usize>, place: Option<usize>) -> Option<Hit> {
         let pos = change.or(place)?;
         let by_place = marks.place.filter(|&(_, place)| place == pos && place < self.film.len());

@@ -148,8 +148,8 @@ pub struct Firing {
 
 // ---- undo records ---------------------------------------------------------------------------
 
-/// A fixed undo record. `words` more u64 and, for the two reading kinds, `c` bytes lie in the
-/// log's stacks.
+/// An undo record of fixed size. The log's stacks hold the rest: `words` more u64 and, for SYSREAD
+/// and DRAIN, `c` bytes.
 #[derive(Clone, Copy, Debug)]
 pub struct Rec {
     pub op: u8,
@@ -292,7 +292,7 @@ impl UndoLog {
             bytes: Stack { v: Vec::new(), start: 0 },
         }
     }
-    /// How many records lead back.
+    /// The number of records that can be undone.
     #[inline(always)]
     pub fn kept(&self) -> usize {
         self.tail - self.head
@@ -360,7 +360,7 @@ pub struct World {
     rings: Vec<u8>,
 }
 
-/// A compact copy of a world: the bytes held alone.
+/// A compact copy of a world. Of the buffers it has only the bytes that they hold.
 #[derive(Clone, PartialEq, Eq, Debug)]
 pub struct Snap {
     clock: i64,
@@ -470,7 +470,7 @@ impl World {
         self.part(s, dir, r.head as usize, r.len as usize)
     }
 
-    /// n bytes of a ring from a place on, as two slices.
+    /// n bytes of a ring, starting at index `at`, as two slices.
     #[inline(always)]
     fn part(&self, s: usize, dir: usize, at: usize, n: usize) -> (&[u8], &[u8]) {
         let buf = self.lim.buf as usize;
@@ -690,7 +690,7 @@ impl World {
 
     // ---- apply ----
 
-    /// Applies steps in order; where one is refused, its index and the reason.
+    /// Applies steps in order. If one is refused, returns its index and the reason.
     pub fn replay<L: Log>(&mut self, steps: &[Step], data: &[u8], log: &mut L) -> Result<(), (usize, u8)> {
         for (i, s) in steps.iter().enumerate() {
             if let Err(Refusal(reason)) = self.apply(s, data, log) {
@@ -1339,7 +1339,7 @@ impl World {
                         self.next_arm -= 1;
                     }
                     if r.f & 16 << sd != 0 {
-                        // the entry's when is the old deadline: the write one lies deepest
+                        // the entry's time is the old deadline; the write deadline was pushed first, so it is below the record's other words
                         let pq = log.words.pop();
                         let arm = log.words.pop();
                         let when = if sd == 0 { r.w as i64 } else { log.words.v[log.words.v.len() - (r.words as usize - 2)] as i64 };
@@ -1410,7 +1410,7 @@ impl World {
 
     // ---- reads ----
 
-    /// A cell's value as a number whose meaning its kind tells; None: absent.
+    /// A cell's value as a number, whose meaning depends on the cell's kind. None means absent.
     #[inline(always)]
     pub fn cell(&self, c: Cell) -> Option<u64> {
         let n = c.num as usize;

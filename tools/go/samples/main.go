@@ -1,4 +1,4 @@
-// Programs that hang or come too late, each for a different reason:  netrev-go run main.go NAME
+// Programs that hang or time out, each for a different reason:  netrev-go run main.go NAME
 package main
 
 import (
@@ -92,7 +92,7 @@ func writers(end, other *net.TCPConn) {
 	end.Close()
 }
 
-// busy has many connections, with several goroutines and short deadlines at each.
+// busy has many connections, with several goroutines and short deadlines on each.
 func busy(*net.TCPConn, *net.TCPConn) {
 	for i := 0; i < 8; i++ {
 		end, other := pair()

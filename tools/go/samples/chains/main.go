@@ -514,7 +514,7 @@ func connect(ctx context.Context, end net.Conn) error {
 	return secure.HandshakeContext(ctx)
 }
 
-// handshake: a server shakes hands in its accept loop, so a silent client holds up all other clients.
+// handshake: a server performs the TLS handshake in its accept loop, so a silent client holds up all other clients.
 func handshake(isBad bool) {
 	listener := listen()
 	go accept(listener, &tls.Config{Certificates: []tls.Certificate{certificate()}}, isBad)
@@ -721,7 +721,7 @@ func serveAll(count int, isBad bool) []string {
 	return addresses
 }
 
-// shared: the goroutines started in a loop share a variable, so all accept at the last listener.
+// shared: the goroutines started in a loop share a variable, so all of them accept on the last listener.
 func shared(isBad bool) {
 	for _, address := range serveAll(2, isBad) {
 		end, err := net.Dial("tcp", address)

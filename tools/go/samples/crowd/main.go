@@ -1,4 +1,4 @@
-// A server of many connections at once. At each connection, one goroutine reads, and another goroutine waits for texts to write:
+// A server with many connections at once. On each connection, one goroutine reads, and another goroutine waits for texts to write:
 //
 //	crowd CONNECTIONS SECONDS
 //

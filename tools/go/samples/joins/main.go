@@ -351,7 +351,7 @@ func stuck(isBad bool) {
 	writers.Wait()
 }
 
-// polled: a request is served until its context ends, which Shutdown doesn't cause.
+// polled: a handler runs until its request's context ends, but Shutdown doesn't end that context.
 func polled(isBad bool) {
 	listener, quit := listen(), make(chan struct{})
 	ends := quit

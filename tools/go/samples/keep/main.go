@@ -1,6 +1,6 @@
 // A server with clients over keep-alive connections that send requests repeatedly:  keep CONNECTIONS SECONDS BUG PAUSE
 //
-// A client pauses PAUSE milliseconds between requests. One connection is as old as the server: a line passes every 20 ms, and its answer. After SECONDS, a bug occurs, or none:
+// A client pauses PAUSE milliseconds between requests. One connection is as old as the server: every 20 ms its client sends a line, and gets an answer. After SECONDS, the bug BUG occurs:
 //
 //	none      the program ends
 //	deadline  the old connection's server has set both deadlines once, and then moves only the read deadline: a write fails

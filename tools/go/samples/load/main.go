@@ -51,7 +51,7 @@ func serve(listener net.Listener) {
 	}
 }
 
-// talk runs two goroutines at one connection, until they have made this many round trips.
+// talk runs two goroutines on one connection, which add their round trips to made, until made reaches most.
 func talk(address string, made *int64, most int64) {
 	connection, err := net.Dial("tcp", address)
 	must(err)

@@ -231,7 +231,7 @@ func slots(bad bool) error {
 	})
 }
 
-// site answers a page with what it requests from itself.
+// site requests a part from itself to answer a request for a page.
 type site struct {
 	lock sync.Mutex
 	self string

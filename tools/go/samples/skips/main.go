@@ -77,7 +77,7 @@ func (p *press) print(end net.Conn, page string) error {
 	return nil
 }
 
-// kept: each jam takes away one of a few trays.
+// kept: after a jam, print doesn't free its tray, and the press has only two.
 func kept(bad bool) error {
 	listener, p := listen(), &press{make(chan bool, 2)}
 	go serve(listener, func(end net.Conn) {
@@ -273,7 +273,7 @@ func menu(out io.Writer, dishes []dish) {
 	}
 }
 
-// ending: the last line of a reply is marked as the end, but the last dish is sold out.
+// ending: only the last dish's line marks the end of a reply, and a sold-out dish has no line.
 func ending(bad bool) error {
 	listener := listen()
 	dishes := []dish{{"soup", false}, {"fish", false}, {"cake", bad}}

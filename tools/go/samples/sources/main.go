@@ -1,4 +1,4 @@
-// Programs in which a goroutine waits for an action of another goroutine; only the source shows its place, and no stack does. The
+// Programs in which a goroutine waits for an action of another goroutine. The source shows where that action is; no stack does. The
 // line marked BUG causes the hang, and the first cause names it. With the argument `good`, each program runs without its bug.
 //
 //	sources NAME bad|good
@@ -583,7 +583,7 @@ func (a *alarm) deliver(end net.Conn, count int) {
 	}
 }
 
-// unheard: a busy goroutine isn't woken, and then sleeps although a line has come meanwhile.
+// unheard: a busy goroutine misses a wake-up, and then sleeps although a line arrived while it was busy.
 func unheard(isBad bool) {
 	listener, a := listen(), &alarm{wake: make(chan bool)}
 	if !isBad {
