@@ -1,4 +1,4 @@
-"""What pytest is told of the tests: what they are given, which come first, and how those that are left out are named."""
+"""pytest's settings for these tests: options, fixtures, the order of the tests, and the list of skipped tests."""
 
 import random
 import signal
@@ -27,16 +27,16 @@ def pytest_addoption(parser: pytest.Parser) -> None:
 
 
 def pytest_configure() -> None:
-    # What a shell begins in the background inherits an ignored SIGINT and SIGQUIT, and hands them on; then the tests of Ctrl-C and
-    # Ctrl-\ fail.
+    # A shell's background jobs ignore SIGINT and SIGQUIT, and so do the processes that they start. Without these lines, the tests
+    # of Ctrl-C and Ctrl-\ would then fail.
     signal.signal(signal.SIGINT, signal.default_int_handler)
     signal.signal(signal.SIGQUIT, signal.SIG_DFL)
 
 
 def pytest_collection_modifyitems(config: pytest.Config, items: list[pytest.Item]) -> None:
-    """Those that take long come first, and functions and rows of tables last: they fill the time that others leave. Skipped are
-    those that play the built program where there is none, and those that have to run alone where others run beside them.
-    """
+    """Long tests come first. Test functions and rows of tables come last, because they fill the time in which processes would wait
+    for longer tests. Tests that need the built program are skipped if it isn't built. Tests that must run alone are skipped
+    under `-n`."""
     items.sort(key=lambda item: (item.get_closest_marker("long") is None, item.getparent(pytest.Class) is None))
     for item in items:
         if PLAYED in item.path.parents and not IS_BUILT:
@@ -47,8 +47,8 @@ def pytest_collection_modifyitems(config: pytest.Config, items: list[pytest.Item
 
 @pytest.hookimpl(optionalhook=True)
 def pytest_xdist_make_scheduler(config: pytest.Config, log: Any) -> Any:
-    """With `-n`, the classes of a module are for one process, since they may share what takes long to make; each function, and
-    each row of a table, for whichever has time."""
+    """With `-n`, one process runs all classes of a module, because they may share objects that take long to make. Any process
+    that is free runs a test function or a row of a table."""
     from xdist.scheduler import LoadScopeScheduling
 
     class Scheduling(LoadScopeScheduling):
@@ -60,7 +60,7 @@ def pytest_xdist_make_scheduler(config: pytest.Config, log: Any) -> Any:
 
 
 def pytest_terminal_summary(terminalreporter: Any) -> None:
-    """Names what was skipped, a line each; all that need the built program are in one."""
+    """Prints a line for each skipped test, and one line for all tests that need the built program."""
     skipped = [(report.nodeid, report.longrepr[2]) for report in terminalreporter.stats.get("skipped", ())]
     named = [(name, why.removeprefix("Skipped: ")) for name, why in skipped]
     unbuilt = sum(why == UNBUILT for _, why in named)
@@ -71,7 +71,7 @@ def pytest_terminal_summary(terminalreporter: Any) -> None:
 
 @pytest.fixture(scope="session", autouse=True)
 def logs_of_their_own() -> Iterator[None]:
-    """netrev-go puts logs into a folder of the tests', so that logs which others left aren't offered there."""
+    """In these tests, netrev-go puts logs into a new folder, so that it doesn't offer logs of other runs."""
     with tempfile.TemporaryDirectory(prefix="netrev-logs-") as name, pytest.MonkeyPatch.context() as patch:
         patch.setenv("NETREV_LOGS", name)
         yield
@@ -79,14 +79,14 @@ def logs_of_their_own() -> Iterator[None]:
 
 @pytest.fixture
 def folder() -> Iterator[Path]:
-    """A folder of the test's own, which is gone behind it."""
+    """A temporary folder for the test, which is removed after the test."""
     with tempfile.TemporaryDirectory() as name:
         yield Path(name)
 
 
 @pytest.fixture
 def dice(request: pytest.FixtureRequest) -> random.Random:
-    """Random numbers of a seed, which is told where the test fails."""
+    """Random numbers from a seed. If the test fails, pytest shows the seed."""
     seed = request.config.getoption("--seed")
     print(f"--seed {seed}")
     return random.Random(seed)

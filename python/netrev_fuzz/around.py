@@ -1,12 +1,17 @@
 """Runs the fuzzer of the tools around netrev, as `make fuzz-around` does:  python3 python netrev_fuzz.around [--of logs] [--minutes M]
 [--cases N] [--seed S]
 
-Runs random cases of each kind for the same time: damaged `logs` of the recorder; logs of random `programs`, which must
-become complete recordings; `views` of nrdb over recordings with any file of lines beside them; `editors` that send the
-adapter any request; `browsers` that send any line. A fault is a Python traceback (even if nrdb reports the error in a
-line), too much time or memory, an unexpected file, or a terminal control. Each case has a seed, `S-logs-1` and so on;
-`--case S-logs-1` runs only that case. The program is $NETREV, or else the built netrev. The status is 1 if there was a
-fault.
+Runs random cases of each kind for the same time. The kinds are:
+
+    logs       damaged logs of the recorder
+    programs   logs of random programs, which must become complete recordings
+    views      nrdb's views of recordings, with any file of lines beside them
+    editors    any request to the adapter
+    browsers   any line for the page
+
+A fault is a Python traceback (even if nrdb reports the error in a line), too much time or memory, an unexpected file, or
+a terminal control. Each case has a seed, `S-logs-1` and so on; `--case S-logs-1` runs only that case. The program is
+$NETREV, or else the built netrev. The status is 1 if there was a fault.
 """
 
 import argparse
@@ -63,7 +68,7 @@ def in_time() -> Iterator[None]:
 
 @contextmanager
 def tracebacks() -> Iterator[io.StringIO]:
-    """In this context, nrdb prints the tracebacks of its own errors, which it otherwise reports in a line, to this stream."""
+    """While this context lasts, nrdb prints its own errors to this stream, with their tracebacks. Otherwise it reports them in a line."""
     printed, before = io.StringIO(), os.environ.get(WANTED_BY)
     os.environ[WANTED_BY] = "1"
     try:

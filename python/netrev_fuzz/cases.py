@@ -50,7 +50,7 @@ def damaged_recording(dice: random.Random) -> Made:
 
 
 def refused_step(dice: random.Random) -> Made:
-    """A recording whose last step doesn't apply, unless no such step was found."""
+    """A recording whose last step doesn't apply. If no such step is found, all steps apply."""
     return texts.write_text(dice, with_refused_step(dice, Author(dice))), None
 
 

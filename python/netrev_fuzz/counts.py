@@ -31,8 +31,8 @@ class Met(Observer):
         self.reasons[kind, reason] += 1
 
     def differed(self, kind: str, recorded: Answer, answer: Answer) -> None:
-        """Counts a recorded answer that isn't the machine's. It may have only another number, be another answer of the
-        step's kind, or be no answer of that kind."""
+        """Counts a recorded answer that isn't the machine's. Either only its number differs, or it is another answer of
+        the step's kind, or the step's kind has no such answer."""
         if recorded[0] == answer[0]:
             self.others["another number"] += 1
         else:

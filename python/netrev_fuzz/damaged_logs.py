@@ -178,7 +178,7 @@ def log_of(seed: str) -> bytes:
 
 
 def tests_of(seed: str) -> bytes:
-    """The lines of the tests of a seed: well formed, or with damaged bytes."""
+    """The text of a LOG.tests file, made from a seed. Its lines are well formed, or some bytes are damaged."""
     dice = random.Random(f"{seed} tests")
     numbers = ("0", "1", "9", "20", "100", "1000", str(2**63), "9" * 30, "-1", "")
     lines = ["1 1 5 package example.org/p"] * dice.randrange(2)

@@ -11,7 +11,7 @@ from netrev_machine.steps import apply
 from netrev_words.recording import Answer, Limits
 
 Turns = Generator[None, None, Any]  # a call: it yields after each of its steps, and returns the result of Go's function
-CLOSED, EOF = -1, 0  # results of a read instead of a count; a negated code of the poller is one too
+CLOSED, EOF = -1, 0  # a read may return these in place of a count, or a negated code of the poller
 
 
 class Program:
@@ -23,7 +23,7 @@ class Program:
         self.steps: list[list[Any]] = []
         self.running: dict[int, Turns] = {}
         self.stopped: set[int] = set()  # goroutines that the scheduler no longer chooses
-        self.descriptors: dict[int, int] = {}  # of the sockets
+        self.descriptors: dict[int, int] = {}  # the descriptor of each socket
 
     def do(self, kind: str, *arguments: Any) -> tuple[Any, ...]:
         """Makes a step and returns its answer."""

@@ -34,7 +34,7 @@ def binary(
     holders_lost: int = 0,
     is_sparse: bool = False,
 ) -> bytes:
-    """The log with these points, each of which is at the place for its number. `room` is the number of places.
+    """The log with these points. A point's number gives its place in the log; `room` is the number of places.
     `holders` is the table of locked mutexes, or None. `holders_lost` is how many times the table was full. In a sparse
     log, a point without a time has the previous point's time."""
     points = list(points)

@@ -2,12 +2,12 @@
 
     python3 -m netrev_fuzz.long_hunts keeper|refused STEPS OUT.jsonl [SEED]
 
-`keeper`: each connection has a reader, and a keeper that extends its read deadline. From some step on, one keeper
-extends the write deadline instead. So the old timer fires, and a reader gives up a connection that was meant to stay
-alive.
+`keeper`: each connection has a reader goroutine, and a keeper goroutine that extends the read deadline. From some step
+on, one keeper extends the write deadline in place of the read deadline. So the old timer fires, and a reader gives up a
+connection that was meant to stay alive.
 
-`refused`: each request is a write with a deadline. If a write times out, the program checks the connection by
-`RawConn.Control`. Once, that function never drops its reference, and a later Close hangs.
+`refused`: each request is a write with a deadline. If a write times out, the program checks the connection with
+`RawConn.Control`. One such call never drops its reference, and a later Close hangs.
 """
 
 import sys
@@ -178,7 +178,7 @@ class Refused(Hunt):
             pass
 
     def control(self, g: int, s: int, may_leak: bool) -> Turns:
-        """`RawConn.Control`. With the bug, it once doesn't drop its reference after a failed write."""
+        """`RawConn.Control`. With the bug, one call after a failed write doesn't drop its reference."""
         if self.do("incref", g, s)[0] != "yes":
             return (yield)
         for _ in range(4):

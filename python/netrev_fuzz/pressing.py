@@ -61,7 +61,7 @@ def undisturbed() -> Iterator[None]:
 
 
 def settle() -> None:
-    """Waits until everything that was started has happened."""
+    """Waits until all threads that may send Ctrl-C have ended."""
     with undisturbed():
         for thread in threading.enumerate():
             if thread.name == MEANWHILE:

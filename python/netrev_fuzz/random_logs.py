@@ -246,7 +246,7 @@ class Program:
         same = [one for one in (fd.pd.rd, fd.pd.wd) if runtime.begin + now < one < 2**62]
         if same and dice.random() < 0.4:  # the same time as the other side's
             d = same[0] - runtime.begin - now
-        if 0 < d <= runtime.clock - now:  # (a recording has no deadline that has passed when it is set)
+        if 0 < d <= runtime.clock - now:  # (in a recording, no new deadline is already in the past)
             d, now = d + runtime.clock - now, runtime.clock
         self.read_clock[g] = self.read_clock[fd.pd] = now
         called.name = {"r": "SetReadDeadline", "w": "SetWriteDeadline", "rw": "SetDeadline"}[mode]
@@ -281,7 +281,7 @@ class Program:
     # the network, the poller and the processors
 
     def happens(self) -> None:
-        """An action that no goroutine makes."""
+        """Makes an action of the network, the poller or a processor, which no goroutine takes."""
         runtime, dice = self.runtime, self.dice
         what = dice.choices(("clock", "pop", "fire", "event", "network"), (3, 3, 1, 2, 2))[0]
         if what == "clock":
@@ -477,7 +477,7 @@ def socket_differs(program: Program, recording: Recording, machine: Machine, num
 
 
 def bytes_differ(points: list[tuple[Point, int]], steps: list[tuple[Step, Any]]) -> str:
-    """The socket that moved other bytes in the recording than in the log."""
+    """A message if a socket moved different numbers of bytes in the recording and in the log."""
     moved, had = Counter[tuple[int, str]](), Counter[tuple[int, str]]()
     for point, socket in points:
         if point.kind in (Kind.READ, Kind.WRITE) and point.b > 0:

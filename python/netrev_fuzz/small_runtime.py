@@ -75,8 +75,8 @@ class Descriptor:
     output: int = 0
     peer_closed: bool = False
     shut: bool = False
-    was_shut: bool = False  # as the log has it
-    reset: bool = False  # by the other end
+    was_shut: bool = False  # whether the log shows that it was shut
+    reset: bool = False  # whether the other end reset the connection
     is_gone: bool = False
     first: int = -1  # the number of its first point
     notes: list[int] = field(default_factory=list)  # the numbers of the points that note its state

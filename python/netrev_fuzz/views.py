@@ -215,7 +215,7 @@ class Judge:
         return self.differs(line, told, right)
 
     def wrong_changed(self, line: str, rows: Rows, rest: str) -> str:
-        """Checks the cells that the last step changed: they must be all cells that differ before and after the step."""
+        """Checks the cells that nrdb prints for the last step. They must be exactly the cells whose values the step changed."""
         told = sorted((row["cell"], row["old"], row["new"]) for row in rows)
         numbers = {
             Of.ALL: [""],

@@ -17,7 +17,7 @@ from .toolchain import Go, Trouble, find_go, points_program
 
 
 class Row(NamedTuple):
-    """Calls with the same steps, those steps, and what isn't recorded."""
+    """Calls that make the same steps, the steps, and the actions of these calls that aren't recorded."""
 
     calls: str
     steps: str

@@ -1,7 +1,6 @@
 """Makes the steps of a version 2 recording from points. A recorded answer is Go's own, if Go has an answer. Go doesn't see what the other
-end
-does. So bytes, which are all zeros, arrive just before the read that gets them; they are drained just before the write that needs the room;
-and a socket's output is just large enough to be full when Go found it full."""
+end does, so the converter chooses those steps. Bytes arrive just before the read that gets them, and are all zeros. Written bytes are drained
+just before the write that needs the room. A socket's output is just large enough to be full when Go found it full."""
 
 from __future__ import annotations
 
@@ -43,8 +42,10 @@ class Converter:
         self.points = points
         self._ends = ends or []  # free numbers of goroutines, the last one first
         self._unused: deque[int] = deque()
-        self.taken: list[tuple[int, int, int]] = []  # numbers that several goroutines had: after which step, and which
-        self._taken_over: set[int] = set()  # these numbers
+        self.taken: list[
+            tuple[int, int, int]
+        ] = []  # (number, step, goroutine): the goroutine takes the number after the step
+        self._taken_over: set[int] = set()  # numbers that several goroutines had
         self.begin = begin
         self.lines: list[Line] = []
         self.stacks: list[int] = []
@@ -63,8 +64,10 @@ class Converter:
         self.behind = sum(passing(socket.leads) for point, socket in points if point[1] == NOTED)  # nanoseconds
         self.deadlines = Deadlines()
         self.later_fires = {(socket, *self.firing(point)) for point, socket in points if point[1] == FIRE}
-        self.early: dict[int, int] = {}  # for writes whose points a closewrite overtook, the number of steps after each
-        self.closings: dict[int, Lead] = {}  # noted closewrites, by the points of the writes that they overtook
+        self.early: dict[
+            int, int
+        ] = {}  # the number of steps after each write that a closewrite overtook, by the write's point
+        self.closings: dict[int, Lead] = {}  # the noted closewrites, by the points of the writes that they overtook
         self.beside = Beside()
         if any(socket.note for _, socket in points):
             self.goroutine(NOBODY)
@@ -131,7 +134,7 @@ class Converter:
         return counts
 
     def steps_before(self, number: int) -> int:
-        """The number of steps that the points up to this one became."""
+        """The number of steps that were made of the points up to this one."""
         place = bisect_right(self.points, number, key=lambda pair: pair[0].number)
         return self.ended[place - 1] if place else 0
 
@@ -209,8 +212,8 @@ class Converter:
         self.of(g, socket, point.stack, read_line(g, socket.number, point.a, answer))
 
     def write(self, point: Point, socket: Socket) -> None:
-        """Makes the steps of a write, unless they were already made with a closewrite whose point overtook it; then the steps of a noted
-        closewrite that overtook the write, if any."""
+        """Makes the steps of a write, unless they were made earlier because a closewrite overtook the write. If a noted closewrite overtook
+        the write, makes the closewrite's steps too."""
         if point.number not in self.early:
             self.make_write(point, socket)
             if closing := self.closings.get(point.number):
@@ -342,9 +345,9 @@ class Converter:
         self.beside.named(socket.number, point, self.last_steps[self.goroutine(point.goroutine)] if point.c else 0)
 
     def noted(self, point: Point, socket: Socket) -> None:
-        """Makes the steps that lead to a noted socket. The clock advances to the first note, but not past a deadline that will be set. It
-        lags behind Go's clock by the time that the steps for later notes take, so that deadlines set between the notes are
-        Go's."""
+        """Makes the steps that lead to a noted socket. The clock advances to the first note, but not past a deadline that will be set. The
+        steps for later notes also advance the clock. Until then it is as far behind Go's clock, so that deadlines set between the notes
+        equal Go's."""
         if not self.clock:
             sockets = {socket for one, socket in self.points if one.kind == Kind.NOTED}
             dues = [due - 1 for socket in sockets if socket.note for due in socket.note.deadlines if due > 0]

@@ -1,4 +1,4 @@
-"""Makes a recording of a log with its lines, and the report about it."""
+"""Makes a recording from a log, adds the program's lines to it, and makes the report about it."""
 
 from __future__ import annotations
 

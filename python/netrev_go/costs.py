@@ -1,9 +1,10 @@
 """Measures the cost of recording:  python3 python netrev_go.costs [RELEASE ..] [--times N] [--before FOLDER] [--requests [N]]
 
-It builds samples/cost and samples/load of tools/go without and with the overlay, and prints what a call costs, what channels, locks,
-goroutines and timers cost, and the round trips a second: without the overlay, with it and no log, with a log, with the program's
-orders, with lines, and with both. With --requests it builds samples/served instead, and prints the processor time of an HTTP request
-over 20 and over 200 keep-alive connections, beside runtime/trace and its FlightRecorder, and how many bytes each keeps of a request.
+It builds samples/cost and samples/load of tools/go without and with the overlay. It prints the cost of calls, channels, locks, goroutines
+and timers, and the round trips a second, for each of six settings: without the overlay; with the overlay but no log; with a log; and with
+a log and the program's orders, lines, or both. With --requests it builds samples/served instead. It then prints the processor time of an
+HTTP request over 20 and over 200 keep-alive connections, and how many bytes a recording keeps of a request. It prints both for
+runtime/trace and its FlightRecorder too.
 
 RELEASE is one of Debian's (netrev_go.fetching), such as 1.27; the default is the `go` on the PATH. FOLDER is another clone of the
 repository, whose recorder is measured too. All are measured in turn, N times each, and the machine's load is printed.
@@ -35,7 +36,7 @@ from .trying import ready
 HERE = pathlib.Path(__file__).resolve().parents[2]
 OVERLAY = "from netrev_go.toolchain import find_go; from netrev_go.trying import ready; print(ready(find_go()))"
 
-# The settings of each way; None means without the overlay.
+# The environment for each setting; None means without the overlay.
 WAYS: dict[str, dict[str, str] | None] = {
     "without the overlay": None,
     "with it, no log": {},
@@ -44,7 +45,7 @@ WAYS: dict[str, dict[str, str] | None] = {
     "with a log and lines": {"NETREV_LINES": "1", "NETREV_ORDERS": "0"},
     "with all three": {"NETREV_LINES": "1", "NETREV_ORDERS": "1"},
 }
-# The ways of a server: whether it has the overlay, the settings for its log (None: no log), and how it traces itself.
+# The settings for a server: whether it has the overlay, the environment for its log (None: no log), and how it traces itself.
 SERVED: dict[str, tuple[bool, dict[str, str] | None, str]] = {
     "without the overlay": (False, None, ""),
     "with it, no log": (True, None, ""),
@@ -121,7 +122,7 @@ def ran(programs: tuple[pathlib.Path, pathlib.Path], way: str, logs: pathlib.Pat
 
 @dataclass
 class Measured:
-    """The programs of one Go with one recorder, and the measurements of each way: the nanoseconds of each call, and the round trips a
+    """The programs of one Go with one recorder, and the measurements for each setting: the nanoseconds of each call, and the round trips a
     second."""
 
     name: str
@@ -132,17 +133,17 @@ class Measured:
     trips: dict[str, list[int]] = field(default_factory=lambda: {way: [] for way in WAYS})
 
     def measure(self, logs: pathlib.Path) -> None:
-        """Measures each way once more."""
+        """Measures each setting once more."""
         for way in WAYS:
             self.calls[way].append([int(word) for word in ran(self.cost, way, logs)])
             self.trips[way].append(int(ran(self.load, way, logs, "64", "20000", "0")[-3]))
 
     def best(self) -> dict[str, list[int]]:
-        """The smallest figures for each way of recording."""
+        """The smallest figures for each setting."""
         return {way: [min(values) for values in zip(*calls)] for way, calls in self.calls.items()}
 
     def tell(self) -> None:
-        """Prints a row for each way: the best of the calls, and the median of the round trips."""
+        """Prints a row for each setting: the best of the calls, and the median of the round trips."""
         base: list[int] = []
         for way, best in self.best().items():
             base = base or best
@@ -161,8 +162,8 @@ class Measured:
 
 @dataclass
 class Served:
-    """The server of one Go with one recorder, and its measurements by connections and way: the nanoseconds of a request, and the bytes kept
-    of it."""
+    """The server of one Go with one recorder, and its measurements by number of connections and setting: the nanoseconds of a request, and
+    how many bytes of a request are kept."""
 
     name: str
     programs: tuple[pathlib.Path, pathlib.Path]
@@ -173,7 +174,7 @@ class Served:
     points: dict[tuple[int, str], list[float]] = field(default_factory=lambda: defaultdict(list))
 
     def measure(self, logs: pathlib.Path) -> None:
-        """Measures each way once more."""
+        """Measures each setting once more."""
         for connections in CONNECTIONS:
             for way in self.ways:
                 self.measure_one(logs, connections, way)
@@ -200,8 +201,8 @@ class Served:
             log.unlink()
 
     def tell(self) -> None:
-        """Prints a row for each number of connections and way: the median processor time, how much more that is than the first way's (the
-        median over all rounds, in each of which both had the same load), and the other medians."""
+        """Prints a row for each number of connections and setting: the median processor time, its increase over the first setting, and the
+        other medians. The increase is the median over all rounds; in a round, both settings had the same load."""
         for (connections, way), took in self.took.items():
             base = self.took[connections, self.ways[0]]
             more = statistics.median(one / other for one, other in zip(took, base)) - 1
@@ -222,8 +223,8 @@ def loads() -> str:
 def measured_by(
     recorder: pathlib.Path, name: str, go: Go, folder: pathlib.Path, requests: int, is_before: bool
 ) -> Measured | Served:
-    """The samples, built with the overlay of a clone's recorder. For a server with the earlier recorder, only the ways that differ are
-    measured."""
+    """The samples, built with the overlay of a clone's recorder. For a server with the earlier recorder, only the settings with the
+    overlay, and the first one, are measured."""
     folder.mkdir(parents=True)
     overlay = overlay_by(recorder, go)
     if requests:

@@ -18,7 +18,7 @@ from .toolchain import Go, Trouble, cache, find_go
 FETCHED = cache() / "releases"
 KEYS = "/usr/share/keyrings/debian-archive-keyring.gpg"
 MIRROR = "http://deb.debian.org/debian"
-# The suite of Debian that has each release.
+# The Debian suite that has each release.
 SUITES = {
     "1.19": "bookworm",
     "1.21": "bookworm-backports",

@@ -1,4 +1,4 @@
-"""The results of tests for machines: JSON lines, GitHub annotations and JUnit XML (docs/reference/OPTIONS.md)."""
+"""Machine-readable test results: JSON lines, GitHub annotations and JUnit XML (docs/reference/OPTIONS.md)."""
 
 from __future__ import annotations
 
@@ -69,7 +69,7 @@ class Told:
         return (self.causes[0].file, self.causes[0].line) if self.causes else None
 
     def say(self, lines: list[str]) -> None:
-        """Adds lines of the report on its recording."""
+        """Adds the report about the test's recording."""
         self.says = lines
         self.suspects = suspects_in(lines)
         self.causes = causes_in(lines)

@@ -17,8 +17,8 @@ from .goroutines import (
 )  # fmt: skip
 from .lines import OF_GO, OF_THE_PROGRAM, Calls
 
-MOST = 2**16  # limits for waits, uses of channels, timers, and goroutines
-OTHERS = 4  # at most a quarter of these have ended when the log ends
+MOST = 2**16  # the most entries that are kept of each list: waits, uses of channels, timers, goroutines
+OTHERS = 4  # at most a quarter of them have ended when the log ends
 REASONS = (
     "", "a value from a channel", "room in a channel", "a select", "a condition", "time.Sleep", "a mutex", "a read lock", "a write lock",
     "a WaitGroup", "a semaphore", "a nil channel", "a select without cases",
@@ -43,7 +43,7 @@ FUNCTIONS = (
 
 
 def names_of_go(calls: Calls | None) -> list[str]:
-    """The functions of Go's own code in which the program or a library is, from the innermost."""
+    """The functions of Go that the program or a library called, from the innermost."""
     names = []
     for call in calls.calls if calls else ():
         if call.of != OF_GO:
@@ -84,7 +84,8 @@ class Kept:
 
 
 def newest(waits: list[bool], most: int) -> Iterator[bool]:
-    """The entries of a list to keep: first the entries that still wait, then the newest of the rest, up to a quarter as many."""
+    """Whether to keep each entry of a list: first the entries that still wait, the newest `most` of them; then the newest of the rest, at most
+    a quarter of `most`."""
     waiting = sum(waits)
     too_many, others = max(waiting - most, 0), len(waits) - waiting
     too_old = others - max(min(most - waiting, most // OTHERS, others), 0)
@@ -176,8 +177,8 @@ class Everybody:
 
     found: Goroutines
     kept: Kept
-    numbers: dict[int, int]  # the recording's numbers, by Go's
-    last_stacks: dict[int, int]  # of the recording's goroutines, by Go's names
+    numbers: dict[int, int]  # the recording's numbers of goroutines, by Go's numbers
+    last_stacks: dict[int, int]  # the last stacks of the recording's goroutines, by Go's numbers
 
     def lines(
         self, calls: dict[int, Calls], stack: Callable[[int], int], call: Callable[[int], int], most: int = MOST
@@ -234,7 +235,7 @@ class Everybody:
 
     @staticmethod
     def park(park: Park, calls: Calls | None, objects: Objects, stack: int) -> tuple[object, ...]:
-        """A wait in the form of the file."""
+        """A wait as the file has it."""
         found = waited_for(park.what, calls)
         back = semaphore_at(park.what, found, calls)
         sort = SORTS.get(found, CHANNEL)
@@ -263,7 +264,7 @@ class Everybody:
         return {goid: stacks[goid] for goid in compress(in_order, choice)}
 
     def goroutine(self, goid: int, made: int) -> tuple[object, ...]:
-        """A goroutine in the form of the file."""
+        """A goroutine as the file has it."""
         maker, first, begin = self.found.born.get(goid, (0, UNENDED, UNENDED))
         last, end = self.found.ended.get(goid, (UNENDED, UNENDED))
         return goid, self.numbers.get(goid, -1), made, maker, first, last, begin, end

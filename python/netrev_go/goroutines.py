@@ -110,8 +110,8 @@ class Making(NamedTuple):
 
 
 class Held(NamedTuple):
-    """A mutex that is locked when the log ends: its address, the goroutine that locked it, whether for reading, the stack, and the step
-    before."""
+    """A mutex that is locked when the log ends: its address, the goroutine that locked it, whether it is locked for reading, the goroutine's
+    stack, and the last step before it was locked."""
 
     address: int
     goroutine: int
@@ -183,7 +183,7 @@ class Goroutines:
 
 
 def objects_of(what: int, at: int, b: int, c: int) -> tuple[At, ...]:
-    """The objects of a point PARKS or CASES: one object, or up to three channels of a select, each with two bits for its use."""
+    """The objects of a PARKS or CASES point: one object, or up to three channels of a select, each with two bits for its use."""
     if not at:
         return ()
     use = what & 255
@@ -283,7 +283,7 @@ class Passing:
         return tuple([At(keys.get(one.address, one.address), one.use) if one.use else one for one in objects])
 
     def _parks(self, point: Point, step: int, time: int) -> None:
-        """Records that a goroutine begins to wait. If it waits already, the log was damaged, and the wait lasts to the end."""
+        """Records that a goroutine begins to wait. If it is already waiting, the log was damaged, and the earlier wait lasts to the end."""
         _, _, g, at, a, b, c, _, stack = point
         what = a & 255
         self._ready.pop(g, None)

@@ -1,4 +1,4 @@
-"""Adds the steps that lead to a noted socket to a recording, with the numbers that the recording uses."""
+"""Adds to a recording the steps that lead to a noted socket, with the recording's own numbers."""
 
 from __future__ import annotations
 

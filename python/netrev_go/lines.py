@@ -106,7 +106,7 @@ class Roots:
 
 
 def is_ours(call: Call) -> bool:
-    """Whether a function in Go's own files is the recorder's, or a function literal in one."""
+    """Whether a function in Go's own files belongs to the recorder. Its function literals belong to the recorder too."""
     return call.of == OF_GO and "etrev" in call.function.rpartition("/")[2].partition(".")[2]
 
 

@@ -1,5 +1,5 @@
 """Reads the log of a process (go/log/runtime.go describes the format). A log may be incomplete, because its process was killed or
-still runs: complete points are used, and notes say what is missing."""
+is still running. Complete points are used, and notes say what is missing."""
 
 from __future__ import annotations
 
@@ -24,7 +24,7 @@ MAGIC = 0x31676F6C7665726E
 HEADER_BYTES = 4096
 STACK_WORDS = 32
 HOLDER_WORDS = 16
-HOLDER_CALL = 4  # the first call in a row of the table of locked mutexes
+HOLDER_CALL = 4  # the index of a row's first call, in the table of locked mutexes
 POINT_WORDS = 8
 WORD = 8
 PAGE = 4_096
@@ -36,8 +36,8 @@ AT_ONCE = 2**16  # points
 MOST_POINTS = 2**24
 MOST_STACKS = 2**20
 MOST_HOLDERS = 2**20  # rows of the table of locked mutexes
-HOLDER_BEGUN = 1  # instead of an address, in a row that is being written
-# As many points may be unfinished on other processors while one is written.
+HOLDER_BEGUN = 1  # a row's address while the row is being written
+# While one point is written, this many points may be unfinished on other processors.
 UNDER_WAY = 64
 LOW = 2**32 - 1
 NEVER, UNKNOWN = -1, 0  # instead of a time
@@ -64,9 +64,9 @@ class Header:
         self.has_orders = words[11] == 1
         self.holders = words[12]
         self.knows_holders = words[14] == 1 and not words[13]
-        self.rows, self.queue = words[15:17]  # (0 in older logs)
+        self.rows, self.queue = words[15:17]  # 0 in older logs
         self.is_copy = words[17] == 1  # made while the program wrote
-        self.is_sparse = words[18] == 1  # points without a time have that of the point before
+        self.is_sparse = words[18] == 1  # points without a time have the previous point's time
         are_possible = 0 < self.points <= MOST_POINTS and self.stacks <= MOST_STACKS and self.holders <= MOST_HOLDERS
         are_possible = are_possible and self.rows <= MOST_POINTS and self.queue <= MOST_POINTS
         if not are_possible or self.begin >= 2**63:
@@ -220,7 +220,7 @@ def as_one(column: array[int]) -> int:
 def behind_the_last_gap(points: list[Point]) -> list[Point]:
     """The points after the last gap that is too large to be explained by unfinished points."""
     if points and points[-1].number - points[0].number < len(points) - 1 + UNDER_WAY:
-        return points  # no more points are missing than may have been unfinished
+        return points  # all missing points may be unfinished ones
     for index in range(len(points) - 1, 0, -1):
         if points[index].number - points[index - 1].number > UNDER_WAY:
             return points[index:]

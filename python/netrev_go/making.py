@@ -55,9 +55,9 @@ class Recording:
     orders: list[tuple[int, int]] | None = None  # None if the log has no orders
     notes: list[str] = field(default_factory=list)
     beside: Beside = field(default_factory=Beside)
-    bytes: int | None = None  # the greatest count of a read or a write, if one moved more bytes
+    bytes: int | None = None  # the limit for the count of a read or a write, if one moved more bytes
     made: list[Made] = field(default_factory=list)  # the goroutines' steps
-    times: list[int] | None = None  # the time of each step, from the log's begin; None if the log has no times
+    times: list[int] | None = None  # the time of each step since the log began; None if the log has no times
     points: list[tuple[Point, Socket]] = field(default_factory=list)
     ended: list[int] = field(default_factory=list)  # the number of steps after each point
     everybody: Goroutines = field(default_factory=Goroutines)  # also goroutines without a step
@@ -66,7 +66,7 @@ class Recording:
     has_tags: bool = False  # Go's events have tags, which Go compares with the descriptor's current use
     taken: list[tuple[int, int, int]] = field(
         default_factory=list
-    )  # numbers that another goroutine took: after which step, and the number
+    )  # (number, step, goroutine): the goroutine takes the number after the step
 
     @cached_property
     def words(self) -> list[LockWord]:
@@ -147,7 +147,7 @@ class Window:
 
 
 def window_of(log: Log, all_bytes: bool) -> Window:
-    """The points from the first complete notes on, if earlier points are missing from the log; otherwise all points."""
+    """If the log lacks its first points, the points that begin with the first complete notes; otherwise all points."""
     noted = [] if log.from_the_start else spans(log.of_kinds(NOTING))
     if not noted:
         return Window(owned(list(log.of_kinds(AT_A_SOCKET)), all_bytes))

@@ -59,12 +59,14 @@ class Note:
     counts: tuple[int, int]
     tag: int = 0
     sequences: tuple[int, int] = (0, 0)
-    deadlines: tuple[int, int] = (0, 0)  # by Go's clock
-    flags: int | None = None  # None until that point comes
+    deadlines: tuple[int, int] = (0, 0)  # in Go's time
+    flags: int | None = None  # None until the note's point with the flags comes
     inside: dict[int, Inside] = field(default_factory=dict)  # by side
     queued: list[Queued] = field(default_factory=list)
-    holders: dict[int, int] = field(default_factory=dict)  # by side
-    references: Counter[int] = field(default_factory=Counter)  # references of goroutines besides those of locks
+    holders: dict[int, int] = field(default_factory=dict)  # the goroutines that have the locks, by side
+    references: Counter[int] = field(
+        default_factory=Counter
+    )  # how many references each goroutine has, besides those of its locks
     evicter: int = 0
     is_in_motion: bool = False  # the lock was being passed from one goroutine to a waiting one
 
@@ -113,8 +115,8 @@ def side_of(mode: int) -> int:
 
 
 class Debts:
-    """Finds which goroutines had a socket's locks and references when it was noted. Such a goroutine releases a lock or reference that it
-    hasn't acquired since."""
+    """Finds which goroutines had a socket's locks and references when it was noted. Such a goroutine later releases a lock or
+    reference that it hasn't acquired after the note."""
 
     def __init__(self, note: Note) -> None:
         self.note = note
@@ -164,7 +166,7 @@ class Span(NamedTuple):
 
 
 def spans(points: Iterable[Point]) -> list[Span]:
-    """The complete notes of a log, whose first and last points are both in it."""
+    """The spans of the complete notes. A note is complete if the log has its first and its last point."""
     begun: dict[int, int] = {}
     found = []
     for point in points:

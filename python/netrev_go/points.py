@@ -80,7 +80,7 @@ WAITING = frozenset(range(Kind.PARKS, Kind.DIAL_FAILED + 1))
 NOTING = frozenset(range(Kind.NOTED, Kind.NOTED_NAMED + 1))
 AT_A_SOCKET = KINDS - ORDERING - WAITING - NOTING
 LOCKING = frozenset(map(int, (Kind.INCREF, Kind.INCREF_CLOSE, Kind.DECREF, Kind.RW_LOCK, Kind.RW_UNLOCK)))
-# Points at a lock word's address. All other points except INIT are at a descriptor's address.
+# The kinds of points that have a lock word's address. All other points except INIT have a descriptor's address.
 AT_A_WORD = LOCKING | set(map(int, (Kind.READ, Kind.WRITE, Kind.ACQUIRE, Kind.RELEASE, Kind.CLOSE_WRITE, Kind.NAMED)))
 
 

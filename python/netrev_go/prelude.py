@@ -7,8 +7,8 @@ that side. Goroutines that are queued for a lock are queued in their order.
 - Each place of a wait, with a word that is nil, ready, wait or the goroutine. A woken goroutine parks first, and an event, a past
 deadline or the close wakes it.
 - Future deadlines, deadlines that passed while their timers run, and deadlines set in the past; also one timer for both sides.
-- Go's sequences and tags may be millions. The machine's numbers begin anew, and Go's are counted from there: instead of a number, an
-event or a firing names the descriptor's use, or the timer, to which it belongs.
+- Go's sequences and tags may be in the millions, but the machine begins to count anew. So an event names the use of the descriptor to
+which it belongs, and a firing names its timer; neither has Go's number.
 - Bytes aren't known. The input is empty, because bytes arrive just before the read that gets them; the output is full if a goroutine waits
   to write there, or if a write finds it full later.
 
@@ -171,7 +171,7 @@ class Leading:
                 self.add(kind, goroutine, answer=answer, stack=stack)
 
     def wake(self, side: int) -> None:
-        """Wakes a goroutine that isn't ready, by a deadline in the past unless the close wakes it."""
+        """Wakes a goroutine that isn't ready: sets a deadline in the past, unless the close wakes the goroutine."""
         inside, word = self.note.inside.get(side), self.note.word_of(side)
         is_woken = inside and (inside.place == CHECKING or inside.place != ENTERING and word == NIL)
         if is_woken and not (self.note.flags or 0) & CLOSING:
@@ -179,7 +179,7 @@ class Leading:
             self.deadlines[side] = -1
 
     def check(self, side: int) -> None:
-        """Lets a goroutine take the word, and check why it was woken."""
+        """If a woken goroutine is checking why it was woken, makes the `blockswap` before that check."""
         inside = self.note.inside.get(side)
         if inside and inside.place == CHECKING:
             self.add("blockswap", inside.goroutine, answer=NO, stack=inside.stack)

@@ -129,7 +129,8 @@ class Recorder:
         keep(self.results, self.out)
 
     def suite(self, suite: Suite) -> None:
-        """Runs each test of a package in a process of its own; does nothing if it is another project's and missing."""
+        """Runs each test of a package in a process of its own. If the package isn't here, as another project's may not be, adds it to
+        `missing`."""
         folder = source_folder(self.go, suite)
         if not folder.is_dir():
             self.missing.append(suite.package)

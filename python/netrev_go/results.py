@@ -31,7 +31,7 @@ class Result:
     went: str = ""  # how the test itself ended
     steps: int = 0
     words: int = 0
-    answers: int = 0  # answers that are values of Go's
+    answers: int = 0  # answers that are Go's own values
     events: int = 0
     stale: int = 0  # events
     said: str = ""

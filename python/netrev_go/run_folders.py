@@ -45,7 +45,7 @@ def claim(folder: pathlib.Path) -> pathlib.Path:
     marks = folder / UNRECORDED
     try:
         marks.mkdir(0o700)
-        if os.geteuid() == 0:  # its programs may have children of other users, which may leave a mark but read nothing
+        if os.geteuid() == 0:  # programs may start processes as other users, which may leave a mark but read nothing
             folder.chmod(0o711)
             marks.chmod(0o1733)
         file = (folder / OWNER).open("x", encoding="utf-8", errors="surrogateescape")
@@ -126,7 +126,7 @@ def is_own(path: pathlib.Path, is_of_kind: Callable[[int], bool]) -> bool:
 
 
 def take_over(run: LeftRun) -> bool:
-    """Makes this netrev-go the owner of a run that is left, unless another netrev-go was faster."""
+    """Makes this netrev-go the owner of a leftover run, unless another netrev-go already is."""
     try:
         file = (run.folder / OWNER).open("r+", encoding="utf-8")
         fcntl.flock(file, fcntl.LOCK_EX | fcntl.LOCK_NB)

@@ -175,7 +175,7 @@ class Runner:
         signal.pthread_sigmask(signal.SIG_UNBLOCK, (signal.SIGINT, signal.SIGUSR1))
 
     def is_cancelled(self) -> bool:
-        """Whether a signal ended the run, or came since its end."""
+        """Whether a signal ended the run, or has arrived since the run ended."""
         return self.cancelled or not signal.sigpending().isdisjoint(CANCELLING)
 
     def attend(self, seen: signal.struct_siginfo, so_far: Callable[[], None]) -> None:
@@ -198,7 +198,7 @@ class Runner:
             self.process.send_signal(number)
 
     def let_them_end(self, seconds: float) -> None:
-        """Waits a while for programs that still run after Go has exited."""
+        """Waits a while for programs that are still running after Go has exited."""
         end = time.monotonic() + seconds
         while still_written(self.folder) and time.monotonic() < end:
             time.sleep(LOOK)

@@ -45,8 +45,8 @@ class Socket:
     opening: int
     opener: int = 0  # the goroutine
     goroutines: set[int] = field(default_factory=set)
-    steps: int = 0  # at least
-    text: int = 0  # characters for the bytes that it moves
+    steps: int = 0  # a lower bound
+    text: int = 0  # how many characters of the recording its bytes take
     has_descriptor: bool = False
     failed: bool = False  # the poller rejected it, for example because it is a regular file
     closed: bool = False  # the log contains its end
@@ -124,7 +124,8 @@ class Owners:
         return socket
 
     def note(self, point: Point) -> Socket | None:
-        """The socket of the first point of a note, if it isn't known yet; and its names."""
+        """Reads a point of a note. Returns the note's socket if this is the note's first point and the socket isn't known yet, or if this is
+        a point with the socket's names."""
         kind, at = point.kind, point.at
         if kind == NOTED:
             known = self.words.get(at)
@@ -254,8 +255,9 @@ class Owned:
     cut: int  # reads and writes that count as fewer bytes
 
     def began(self) -> dict[int, int]:
-        """The number of each goroutine's first point, or of the note of a socket that it waited for or was using. (From the last point
-        backwards, so that the first one stays: there may be a million points.)"""
+        """For each goroutine, the number of its first point, or, if smaller, of the note of a socket. The goroutine waited for that socket or
+        was using it. (The points are read from the last to the first, so that the first one stays: there may be a million points.)
+        """
         points = list(map(POINT, reversed(self.points)))
         began = dict(zip(map(GOROUTINE, points), map(NUMBER, points)))
         for note in (socket.note for socket in self.sockets if socket.note):
@@ -266,7 +268,7 @@ class Owned:
 
 
 def owned(points: list[Point], all_bytes: bool = True) -> Owned:
-    """Each point with its socket; also counts the goroutines of each socket, and a lower bound of its steps."""
+    """Each point with its socket. Also finds each socket's goroutines, and a lower bound on the number of its steps."""
     owners = Owners()
     of, words, uses = owners.of, owners.words, owners.uses
     mine: list[tuple[Point, Socket]] = []

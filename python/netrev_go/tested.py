@@ -31,7 +31,7 @@ from .toolchain import Go
 MAJOR = re.compile(r"v\d+\Z")
 UNFIT = re.compile(r"[^A-Za-z0-9_.-]+")
 LONGEST_NAME = 255 - len(LONGEST_ENDING)
-OTHER = "process"  # the recording of a process without tests
+OTHER = "process"  # the name of a process without tests
 FOUND = 4  # nrdb's status if a schedule ends badly
 GRACE = 60  # seconds for reducing the findings
 INDENT = "  "
@@ -124,7 +124,7 @@ class Recordings:
                 say([messages.TEST_USED_NONE.format(test=head)])
 
     def keep(self, told: Told, name: pathlib.Path, outcome: Outcome, saying: Saying) -> None:
-        """Prints the report of a recording, and stores it for machines."""
+        """Prints the report about a recording, and stores it for the machine-readable output."""
         told.say(outcome.lines)
         told.accepted = outcome.taken
         if name.exists():

@@ -164,7 +164,7 @@ class Run:
 
 
 def tell(options: argparse.Namespace, recordings: Recordings, came: Came) -> None:
-    """Prints how many tests failed in how many runs, and writes the output for machines."""
+    """Prints how many tests failed in how many runs, and writes the machine-readable output."""
     told = list(recordings.told.values())
     red = [one for one in told if one.is_red()]
     is_kept = any(one.recording for one in told)
@@ -186,7 +186,7 @@ def tell(options: argparse.Namespace, recordings: Recordings, came: Came) -> Non
 
 
 def put(name: str, text: str, came: Came) -> None:
-    """Writes a file for machines; - means standard output."""
+    """Writes a machine-readable file; - means standard output."""
     if name == STANDARD_OUTPUT:
         say([text.rstrip("\n")], sys.stdout)
         return

@@ -1,5 +1,5 @@
 """Checks whether the installed Go can be recorded by recording a small program with each kind of step, and comparing each answer and each
-lock word. A rule may fit and its file compile although Go never reaches that place: this trial detects that."""
+lock word. A rule may fit, and the changed file may compile, although Go never runs the changed code. This trial detects that."""
 
 from __future__ import annotations
 
@@ -77,7 +77,7 @@ def tried_in(go: Go, folder: pathlib.Path) -> Trial:
 
 
 def recorded(command: list[str], folder: pathlib.Path, processors: int, is_whole: bool) -> Trial:
-    """Records one run, and compares the recording. If no rule is left out, it must have all bytes."""
+    """Records one run, and compares the recording. If no rule is left out, the recording must have all bytes."""
     folder.mkdir()
     environment = os.environ | {
         "NETREV_LOG": str(folder / "log"), "GOMAXPROCS": str(processors), "NETREV_POINTS": "65536"

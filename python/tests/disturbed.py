@@ -39,7 +39,7 @@ Action = Callable[["Weather[Of]", Of], None]
 
 
 class Weather(Generic[Of]):
-    """The events at points, which are counted over all netrevs of a session from the time when `left` is set."""
+    """Counts the points that all netrevs of a session reach, and makes an action happen at the one where `left` falls below 0."""
 
     def __init__(self, interrupts: Interrupts):
         self.interrupts = interrupts

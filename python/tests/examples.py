@@ -14,7 +14,7 @@ REFUSED_AT = re.compile(r"refused at step (\d+)")
 class Example(NamedTuple):
     """A row of the list."""
 
-    name: str  # the path in the folder, without its ending
+    name: str  # the path in the folder, without the ending
     suspect: Optional[str]  # the rule of the first suspect
     refused_at: Optional[int]  # the step that netrev refuses
 

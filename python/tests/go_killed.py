@@ -38,7 +38,10 @@ MAIN = program(
 TEST = MAIN.replace("package main", "package p").replace('"net"', '"net"\n\t"testing"')
 TEST = TEST.replace("func main()", "func TestServe(t *testing.T)")
 WORDS = {"run": ["run", "main.go"], "test": ["--all", "test", "."]}  # with --all, tests that pass have recordings too
-EARLIEST, LATEST = -2.0, 4.0  # seconds to the signal, from the program's beginning, or, if negative, from netrev-go's
+EARLIEST, LATEST = (
+    -2.0,
+    4.0,
+)  # the signal's time in seconds after the program began, or, if negative, after netrev-go began
 
 
 @dataclass

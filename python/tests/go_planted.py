@@ -1,4 +1,4 @@
-"""Plants changes that a future release of Go may have into a copy of Go 1.27: doctor must name each change, and nothing
+"""Makes changes in a copy of Go 1.27, as a future release of Go may have them. doctor must name each change, and nothing
 may be recorded. It needs netrev, and Go 1.27 or Debian's packages of it; `make real` runs it."""
 
 import contextlib

@@ -38,8 +38,8 @@ POSTGRES = "/usr/lib/postgresql/*/bin"
 
 @dataclass(frozen=True)
 class Server:
-    """A sample with a bug. It has the options of the `watch` that waits for the bug, or None if a snapshot is made
-    after the bug, and the expected output, in which {line} is the bug's place."""
+    """A sample with a bug. `watch` has the options of the `watch` command that waits for the bug, or is None if a
+    snapshot is made after the bug. `printed` is the expected output, in which {line} is the bug's place."""
 
     sample: str
     bug: str

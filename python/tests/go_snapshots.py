@@ -40,7 +40,7 @@ PROGRAMS = {
 }
 PROCESSORS = (1, 4)
 LONGEST = 0.3  # seconds between two snapshots
-PATIENCE = 60.0  # seconds until the ring has been filled twice
+PATIENCE = 60.0  # seconds, within which the ring must be filled twice
 
 
 @dataclass

@@ -1,5 +1,5 @@
-"""netrev-go with a real Go: programs of all kinds, and everything that can go wrong. It needs netrev, and on the PATH
-Go (Debian's golang-go, or a release that netrev_go.fetching fetched); `make real` runs it."""
+"""netrev-go with a real Go: programs of all kinds, and everything that can go wrong. It needs netrev, and a Go on
+the PATH (Debian's golang-go, or a release that netrev_go.fetching fetched); `make real` runs it."""
 
 import dataclasses
 import json

@@ -24,7 +24,7 @@ from netrev_go.toolchain import Go, overlay, quiet_go
 
 SOURCE = Path(__file__).with_suffix(".go")
 NAMES = re.findall(r'^\t"([^"]+)": +(?:func\(\)|\w+,$)', SOURCE.read_text(), re.MULTILINE)
-OF_ROOT = ("another user", "another user works", "another root folder")  # only root can run these
+OF_ROOT = ("another user", "another user works", "another root folder")  # the programs that only root can run
 DAEMONS = ("a daemon", "a daemon of a daemon")  # the test waits for the file that they leave
 INPUT = b"first, and the rest\n"
 PATIENCE = 300.0  # seconds; on an idle machine a program takes a twentieth of a second
@@ -51,7 +51,7 @@ class Programs:
 
     def __init__(self, go: Go, folder: Path) -> None:
         self._folder, self._runs = folder, 0
-        folder.chmod(0o755)  # for children of other users
+        folder.chmod(0o755)  # for child processes that run as other users
         flags_of: dict[str, list[str]] = {"plain": [], "recording": ["-overlay", str(overlay(go))]}
         for name, flags in flags_of.items():
             run = quiet_go(go, folder, "build", *flags, "-o", str(folder / name), str(SOURCE))

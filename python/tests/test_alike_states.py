@@ -23,7 +23,7 @@ SETS: Steps = [("setdeadline", 0, 0, "r", 5)]
 
 
 def at(which: int, steps: Steps) -> Steps:
-    """The steps at this socket and descriptor instead of the first."""
+    """The steps, moved to this socket and descriptor."""
     return [
         (step[0], *(which if form in "sd" else value for form, value in zip(KINDS[step[0]].arguments, step[1:])))
         for step in steps

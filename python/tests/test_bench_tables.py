@@ -86,7 +86,7 @@ def cases(*programs: str) -> Cases:
 
 
 def named(name: str, of: Cases) -> Cases:
-    """These cases with only the figures of the walk, under another name."""
+    """These cases with only their figures for the walk, which get another name."""
     return {case: {one: {name: figures["walk"]} for one, figures in all_of.items()} for case, all_of in of.items()}
 
 

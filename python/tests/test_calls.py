@@ -82,7 +82,9 @@ class Calls(unittest.TestCase):
         assert one is not None, made
         found = seen(one)
         if found.name == "Control" and (found.outcome is Outcome.CLOSED or not found.last):
-            found = found._replace(name=made.name)  # (only a call that sets a deadline shows that it is about one)
+            found = found._replace(
+                name=made.name
+            )  # (a call that sets a deadline can't be told from Control until it has done so)
         if not made.last:  # (it hasn't ended, or its last step was made but its goroutine has had no turn since)
             made = made._replace(last=found.last, outcome=found.outcome)
         self.assertEqual(found, made)

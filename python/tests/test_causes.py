@@ -213,7 +213,7 @@ class Causes(unittest.TestCase):
         self.assertRegex(table.rows[1].text, r"The other end, socket 2, was closed in net/http")
 
     def test_of_calls_that_fail_alike_one_cause_is_looked_for(self) -> None:
-        """A program that spins at a closed descriptor has a failed call for each step."""
+        """A program that spins on a closed descriptor has a failed call for each step."""
         recording = with_lines([*OPEN, *CLOSES_IT, *[["rwlock", 1, 0, "r"]] * 500])
         with patch("nrdb.causes.first.cause_of", wraps=cause_of) as looks:
             told = first_words(recording, "spin")

@@ -1,4 +1,4 @@
-"""Completions at the prompt, and the commands of nrdb that other debuggers' command names stand for."""
+"""Completions at the prompt, and other debuggers' names for nrdb's commands."""
 
 import unittest
 

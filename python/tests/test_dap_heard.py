@@ -43,7 +43,7 @@ def busy(_: Interrupts) -> None:
 
 
 def polled(interrupts: Interrupts) -> None:
-    """Work that checks between two pieces, as a move does."""
+    """Work in short pieces that checks for interrupts after each piece, as a move does."""
     while True:
         time.sleep(0.05)
         interrupts.check()
@@ -123,7 +123,7 @@ class Heard(unittest.TestCase):
             paused = self.hearing.request()
             assert paused is not None
             with self.hearing.work(paused, self.interrupts):
-                self.interrupts.check()  # it was handled already, and stops nothing more
+                self.interrupts.check()  # the pause was handled already, so it doesn't interrupt this work
         names: tuple[tuple[int, dict[str, Any]], ...] = ((20, {"requestId": 20}), (21, {"progressId": "netrev-21"}))
         for number, named in names:
             request = self.asked(framed(number, "variables"))

@@ -170,7 +170,7 @@ def test_a_breakpoint_stops_by_its_condition_and_hit_count(
 
 
 def test_breakpoints_of_a_kind_are_replaced() -> None:
-    """Only those of this kind that are no longer wanted are deleted, unless that was done in the console."""
+    """Only breakpoints of this kind that are no longer wanted are deleted, unless the console deleted them already."""
     lines: list[str] = []
     numbers = iter(range(1, 9))
 

@@ -187,7 +187,7 @@ def test_of_many_who_say_nothing_the_oldest_is_ended() -> None:
 
 
 def test_a_port_can_be_served_again_at_once(capsys: pytest.CaptureFixture[str]) -> None:
-    """The system still remembers the connection of the editor before."""
+    """The system still remembers the previous editor's connection."""
 
     def served(port: int) -> tuple[int, int]:
         """The exit status, and the port; an editor connects meanwhile, and nrdb ends the connection."""
@@ -242,7 +242,7 @@ def test_the_steps_of_a_thread(position: int) -> None:
     for maker in (None, 0, 1, 2):
         made = [number for number in range(1, position + 1) if MAKERS[number] == maker]
         assert shown.last_step_of(maker) == max(made, default=0)
-    with mock.patch.object(debuggee, "FAR", 2):  # a search among the steps of nobody ends after so many steps
+    with mock.patch.object(debuggee, "FAR", 2):  # a search for a step that no goroutine makes ends after FAR steps
         near = [number for number in range(max(position - 1, 1), position + 1) if MAKERS[number] is None]
         assert shown.last_step_of(None) == max(near, default=0)
 

@@ -1,5 +1,5 @@
 """Exploring finds calls that succeed in the recording and fail in another schedule: each kind of failure, and none in a
-similar correct program. It also finds bugs of programs in tools/go/samples/causes in their good runs."""
+similar correct program. It also finds bugs in good runs of the programs in tools/go/samples/causes."""
 
 import unittest
 from pathlib import Path

@@ -1,5 +1,5 @@
 """Each schedule respects the program's orders and what the network may answer. A hang is a finding only if the call's
-deadline was set, and a deadline may pass that no goroutine sees pass in the recording."""
+deadline was set. In a schedule, a deadline may pass even if no goroutine sees it pass in the recording."""
 
 import unittest
 from itertools import islice

@@ -90,7 +90,7 @@ FOUND = [suspect("a", False), suspect("b"), suspect("b", socket=1), suspect("c",
     [(FOUND[1], 1), (FOUND[2], 2), (FOUND[3], 3), (FOUND[0], 1), (suspect("c", goroutine=3), 1), (suspect("d"), 1)],
 )
 def test_a_suspect_is_reduced_by_its_number(one: Suspect, number: int) -> None:
-    """Its number among the suspects of the finding's own recording that are shown; else the first."""
+    """The number counts only the shown suspects of the finding's own recording. A suspect that isn't among them gets 1."""
     with mock.patch.object(commands, "suspects_of", return_value=mock.Mock(suspects=FOUND)):
         wanted = Keeping(mock.Mock(), mock.Mock())._wanted(mock.Mock(length=9), mock.Mock(suspect=one))
     assert wanted == Wanted(number, "", "", 9)

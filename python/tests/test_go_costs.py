@@ -1,4 +1,4 @@
-"""The output about what recording a server costs. The programs print fixed figures and leave a log with a given number
+"""The output about the cost of recording a server. The programs print fixed figures and leave a log with a given number
 of points, so no Go is needed."""
 
 import io

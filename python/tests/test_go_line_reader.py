@@ -1,5 +1,5 @@
-"""The program that reads source lines: it comes with Go, or is built once for each release; a shell script is called in
-place of Go."""
+"""The program that reads source lines comes with Go, or is built once for each release. A shell script plays the part of
+Go."""
 
 import os
 import struct

@@ -84,7 +84,7 @@ def test_a_log_has_room_for_a_point() -> None:
 def test_points_that_a_log_lacks_are_named_unless_newer_ones_replace_them(
     room: int, is_written: bool, missing: int, says: str
 ) -> None:
-    """Every second point of the newest is missing, so that no gap is large."""
+    """Among the newest points, every second one is missing, so that no gap is large."""
     points = opened(200)
     gone = {len(points) - 1 - 2 * index for index in range(1, missing + 1)}
     data = binary((point for point in points if point.number not in gone), room=room)
@@ -283,7 +283,7 @@ def test_the_results_for_which_the_machine_has_an_answer(
     [("a", 0), ("r", 1), ("t", 4), ("ra", 1), ("ar", 1), ("tr", 4), ("rt", 4), ("", 0)],
 )
 def test_the_status_of_recovered_runs(statuses: str, ends: int, monkeypatch: Patch, capsys: Output) -> None:
-    """Each run's recordings are all accepted (a), not all accepted (r), or can't be written (t); its logs are left by the same rules."""
+    """Each run's recordings are all accepted (a), not all accepted (r), or can't be written (t). In each case its logs are left alike."""
     left: list[bool] = []
     looked: list[Path] = []
     runs = [Made(folder=Path(kind), command=kind, when=lambda: "today") for kind in statuses]
@@ -367,7 +367,7 @@ def test_a_goroutine_is_told_with_the_line_that_started_it(made: Call | None, sa
 
 
 def passed(*points: tuple[int, ...], begin: int = 0) -> Goroutines:
-    """What points of these kinds, goroutines, addresses, values, times and stacks say, each after the step with its own number."""
+    """The goroutines that these points describe. Each tuple has a point's fields except its number; point N comes after step N."""
     passing = Passing(begin)
     for number, point in enumerate(points, 1):
         passing.point(Point(number, *point), number)

@@ -1,5 +1,5 @@
-"""The places where channels are made, also at a reused address, and dials that fail: made-up logs become lines, which
-nrdb reads. Other tests are about the functions that belong to the recorder itself. No program is needed."""
+"""Made-up logs become lines, which nrdb reads: the places where channels are made, also at a reused address, and dials that
+fail. Other tests are about the functions that belong to the recorder itself. No program is needed."""
 
 import errno
 import json

@@ -18,7 +18,7 @@ from .test_go_converting import WORD, Points
 from .test_go_logs import read
 
 CHANNEL = 5_000
-MADE = 1  # of a point READY: by a `go` statement
+MADE = 1  # in a READY point: a `go` statement made the goroutine ready
 
 
 class Ordered(Points):

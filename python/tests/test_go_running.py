@@ -33,7 +33,7 @@ class Room(unittest.TestCase):
         os.environ.pop("NETREV_LOGS", None)
 
     def made_with(self, **free: int) -> pathlib.Path:
-        """The folder that is chosen if file systems have this much room; the test has its own temporary folder."""
+        """The folder for logs that netrev-go chooses if each file system has the given room. The test has its own temporary folder."""
         with with_room(**free), mock.patch.object(tempfile, "gettempdir", lambda: str(self.folder)):
             made = logs_folder(MOST_POINTS)
         self.addCleanup(shutil.rmtree, made, ignore_errors=True)

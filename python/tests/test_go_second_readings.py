@@ -25,7 +25,7 @@ class Synchronized:
         self.points: list[Point] = []
         self.steps: dict[int, int] = {}  # the goroutine of each point that is a step
         self.edges: Edges = {}
-        self.last: dict[int, set[int]] = {}  # for each goroutine, the points that its next one follows
+        self.last: dict[int, set[int]] = {}  # for each goroutine, the points that precede its next point
         self.rooms = {900 + at: self.dice.randint(1, 3) for at in range(2)}
         self.sent: dict[int, list[int]] = {channel: [] for channel in self.rooms}
         self.received: dict[int, list[int]] = {channel: [] for channel in self.rooms}
@@ -197,7 +197,7 @@ def test_a_wait_ends_where_its_goroutine_goes_on_and_by_who_made_it_ready(seed: 
 
 @pytest.mark.parametrize("seed", range(40))
 def test_waits_of_a_recording_are_those_with_a_step_in_them(seed: int) -> None:
-    """Goroutine 4 has no number, and goroutine 3 got its number, which another goroutine had before, after step 5."""
+    """Goroutine 4 has no number. Goroutine 3 got its number after step 5; before that, another goroutine had that number."""
     points, steps = random_waits(seed)
     found, numbers, since = goroutines_of(points, steps, BEGIN), {1: 0, 2: 1, 3: 2}, {3: 5}
     ended = sorted(

@@ -1,5 +1,5 @@
-"""A goroutine that was a connection's only reader and has ended while bytes still arrive; and a Read in an io.ReadFull,
-for which only a part of the bytes is counted."""
+"""A connection's only reader, a goroutine, has ended while bytes still arrive. An io.ReadFull waits for
+the rest of its bytes, and its next Read tells how many it has."""
 
 import unittest
 from typing import Any

@@ -1,4 +1,4 @@
-"""The end of programs with millions of small objects."""
+"""How programs with millions of small objects exit."""
 
 import subprocess
 import sys

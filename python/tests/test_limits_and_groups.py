@@ -61,8 +61,8 @@ class OfServers(unittest.TestCase):
 
 class OfClients(unittest.TestCase):
     def says(self, *earlier: tuple[int, int]) -> str:
-        """The text about a limit of an http.Client whose goroutine also made earlier timers at the same place; each
-        pair says how much earlier such a timer was made and was due."""
+        """The text about an http.Client's time limit. Its goroutine also made earlier timers at the same place, one for
+        each pair in `earlier`: how much earlier the timer was made, and how much earlier it was due."""
         made = recording()
         lines = made.lines
         timer = next(one for one in lines.timers[0] if has(lines.stacks[one.stack], CLIENT_TIMEOUT))
@@ -91,7 +91,7 @@ class OfClients(unittest.TestCase):
 
 
 class OfGroups(unittest.TestCase):
-    """Goroutine 7 waits in `main.walk`, which also started goroutine 7 itself."""
+    """Goroutine 7 waits in `main.walk`. The same function started goroutine 7."""
 
     def says(self, *others: tuple[int, int], waiter: int = 0, maker: int = 1) -> str:
         """The text about the wait of a goroutine that `main.walk` started together with other goroutines. `others` has

@@ -26,7 +26,8 @@ ERRORS = {
 
 
 class Use(NamedTuple):
-    """A message that a module names, and the words that it fills in there; None if the module doesn't show that."""
+    """A message that a module uses. `given` has the names of the arguments that the module fills in. It is None if the
+    source doesn't show these."""
 
     table: str
     name: str

@@ -1,5 +1,5 @@
-"""The rules of what goroutines need, and of the texts about them, at their boundaries: a row for each side of a boundary, with made-up calls
-and waits."""
+"""The boundaries of the rules for what goroutines need, and of the texts about them. A table has a row for each side of a boundary, with
+made-up calls and waits."""
 
 from types import SimpleNamespace as Made
 from typing import Any, cast

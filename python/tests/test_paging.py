@@ -1,5 +1,5 @@
-"""The pager on a screen of a given size: it asks when the next line would push the first line since the last question
-off the screen."""
+"""The pager on a screen of a given size. It asks as soon as one more line would scroll the first line after its last
+question off the screen."""
 
 import io
 import os

@@ -1,5 +1,5 @@
-"""Lines and functions of the program as places: breaks in both directions, moves, frames and source, at the prompt and in the adapter's
-breakpoints, with a model of netrev."""
+"""A place may be a line or a function of the program. The tests use such places at the prompt and in the adapter's breakpoints: they
+break in both directions, move, and show frames and source. A model takes netrev's part."""
 
 import io
 import unittest

@@ -1,5 +1,5 @@
-"""Forms of other debuggers at the prompt: apropos, delete for everything, functions for list and break, Tab for places, with a model of
-netrev."""
+"""Command forms that other debuggers have: `apropos`, `delete` without an argument, `list` and `break` with a function, and completion of
+places with Tab. A model takes netrev's part."""
 
 import io
 

@@ -20,7 +20,8 @@ LOGIC = "rattle-kit-1 logic d0e1"
 
 @pytest.fixture
 def package(tmp_path: Path, monkeypatch: pytest.MonkeyPatch) -> Path:
-    """An installation with a package's program and the package's claim about its proof; returns the program."""
+    """Makes an installation: a package's program, and the file in which the package says that it is proved. Returns the
+    program."""
     packages, program = tmp_path / "lib/netrev", tmp_path / "bin/netrev"
     packages.mkdir(parents=True)
     program.parent.mkdir()

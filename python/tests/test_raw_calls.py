@@ -14,7 +14,7 @@ LOOPBACK = "crates/netrev/src/loopback.rt"
 
 
 def findings(path: str = "", old: str = "", new: str = "") -> list[str]:
-    """The rule's findings in the tree after a text that occurs once in a file was changed."""
+    """The rule's findings in the tree, with one text of a file replaced. The text must occur once in the file."""
     tree = PAGES.Tree(ROOT)
     if path:
         assert tree.text(path).count(old) == 1, "the text is there once"

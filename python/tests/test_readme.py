@@ -13,7 +13,7 @@ from nrdb.options import parser as nrdb_parser
 
 ROOT = Path(__file__).resolve().parents[2]
 README = (ROOT / "README.md").read_text(encoding="utf-8")
-MOST_LINES = 300  # of a module
+MOST_LINES = 300  # the most lines of a module
 OF_OTHERS = {"ready", "install-files"}  # targets that only other targets use
 CODE = re.compile(r"`((?:make|nrdb|netrev-go) [^`]+)`")
 

@@ -136,7 +136,7 @@ def netrev(tmp_path: Path) -> Path:
 
 
 def arriving(netrev: Path, script: str, interrupts: "Interrupts | None" = None) -> tuple[ArrivingChanges, list[str]]:
-    """The changes that this shell script prints, and the output in the meantime."""
+    """The changes that this shell script prints, and the messages that nrdb prints while it waits for them."""
     netrev.write_text(f"#!/bin/sh\n{script}\n")
     netrev.chmod(0o755)
     told: list[str] = []

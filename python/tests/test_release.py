@@ -1,4 +1,4 @@
-"""`make release` puts all published files into one folder, and packs nothing without a passed gate."""
+"""`make release` puts all published files into one folder. It packs nothing unless the gate has passed."""
 
 import hashlib
 import os

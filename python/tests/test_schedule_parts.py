@@ -33,7 +33,7 @@ from tests.test_suspects import COMES, OPEN, PARK, READ, Steps, recording_of
     ("made", "row"),
     [
         ("g1 s5 s6", "g1 s5 s6"),
-        ("s5 g1", "s5 g1"),  # a goroutine that came after a socket checks after it
+        ("s5 g1", "s5 g1"),  # goroutine 1 came after socket 5, so it checks after socket 5
         ("s5 g1 s6 g2", "s5 g1 s6 g2"),
         ("g1 s5 g2 look", "g1 g2"),  # the network's check is due at its own time
         ("g1 look s5", "g1 s5"),  # (no socket waited)
@@ -164,7 +164,7 @@ def test_the_networks_causes_are_in_their_order() -> None:
 
 
 def test_all_due_waiters_have_checked() -> None:
-    """After that, a goroutine that waits checks after the sockets that came before it."""
+    """Socket 5 has checked. Therefore it now waits after socket 6, which came later."""
     passing = Passing([[Order(9, 1, 9)], []], [], [Place(9), Place()])
     passing.wait(1, NETWORK, 5, (0, 0))
     passing.waiting[1].look_again((7, 3))
@@ -211,7 +211,7 @@ def begun(steps: list[Step], ordinals: list[int]) -> tuple[Others, Board, Number
         (item("peerclose", 5), [("peerclose", 1)], []),
         (item("drain", 5, 2), WRITTEN, [("drain", 1, 2)]),
         (item("drain", 5, 1), WRITTEN, [("drain", 1, 1)]),
-        (item("drain", 5, 3), WRITTEN, None),  # so many bytes haven't been written yet
+        (item("drain", 5, 3), WRITTEN, None),  # 3 bytes haven't been written yet
         (item("drain", 5, 2), [*WRITTEN, ("peerclose", 1)], [("drain", 1, 2)]),
         (item("pollevent", 0, 1, "r", 0), [], [("pollevent", 1, 1, "r", 0)]),
         (item("pollevent", 1, 4, "rw", 1), [], [("pollevent", 0, 4, "rw", 1)]),
@@ -234,7 +234,7 @@ def test_an_action_has_the_numbers_of_the_schedule(
 
 @pytest.mark.parametrize(("tag", "given"), [(3, 1), (4, 2), (2, 0), (1, 0)])
 def test_an_events_tag_is_as_far_from_its_descriptors(tag: int, given: int) -> None:
-    """Use 0 was the third of its descriptor in the recording, and is the first of another in the schedule."""
+    """In the recording, use 0 was its descriptor's third use. In the schedule, it is another descriptor's first use."""
     others, board, numbers = begun([], [2, 0])
     assert others.steps_of(item("pollevent", 0, tag, "r", 0), board, numbers) == [("pollevent", 1, given, "r", 0)]
 
@@ -406,7 +406,7 @@ def made_of(numbers: list[int], time: int) -> list[Made]:
 def test_why_a_call_fails(
     why: Why, numbers: list[int], time: int, reason: Optional[Reason], stays: tuple[int, ...]
 ) -> None:
-    """The calls end at steps 11 and 16, and 17 closes the socket. The step without a number, or else the last, fails."""
+    """The calls end at steps 11 and 16, and step 17 closes the socket. The step with number 0 fails."""
     script = script_of(recording_of(OPEN + sets(5) + READS + READS + CLOSES))
     script.watched = watched(script)
     assert {number for row in ends_of(script).values() for number in row} == {11, 16}

@@ -22,7 +22,7 @@ def test_a_netrev_that_was_lent_looks_first_and_is_given_back() -> None:
     lent = opens()
     scout, own = Scout(opens, lent), Scout(opens)
     assert scout.values(7, ["lock 0"]) == own.values(7, ["lock 0"])
-    assert len(opened) == 2  # (the second one belongs to the scout without a borrowed one)
+    assert len(opened) == 2  # (`own` started the second one, because it wasn't lent one)
     scout.drop()
     own.drop()
     assert [one.has_ended for one in opened] == [False, True]

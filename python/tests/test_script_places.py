@@ -175,7 +175,7 @@ def read(count: int) -> Steps:
         (READ + READY + [["waitbegin", 1, 0, "w"], ["blockarm", 1]] + UNLOCKS, "LOCK RESET READ:1 WAIT:2 UNLOCK"),  # (of the other side)
         (READ + READY + [["waitbegin", 1, 0, "r"], ["blockarm", 1]] + UNLOCKS, "LOCK RESET READ:3 UNLOCK"),
         (READ[:2] + READY + [["waitbegin", 1, 0, "r"], ["blockarm", 1]] + UNLOCKS, "LOCK RESET WAIT:2 UNLOCK"),
-        (BYTES + READ[:2] + read(2) + read(2) + UNLOCKS, "LOCK RESET READ:2 UNLOCK"),  # (all that was asked for came)
+        (BYTES + READ[:2] + read(2) + read(2) + UNLOCKS, "LOCK RESET READ:2 UNLOCK"),  # (the first read got as many bytes as it asked for)
         (BYTES + READ[:2] + read(5) + read(2) + UNLOCKS, "LOCK RESET READ:1 READ:1 UNLOCK"),
         (BYTES + READ[:2] + read(4) + read(1) + UNLOCKS, "LOCK RESET READ:2 UNLOCK"),
         (BYTES + READ[:2] + read(3) + UNLOCKS + READ[:2] + read(1) + UNLOCKS, "LOCK RESET READ:1 UNLOCK LOCK RESET READ:1 UNLOCK"),

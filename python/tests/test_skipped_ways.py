@@ -218,7 +218,7 @@ def test_no_way_is_named_without_the_source(name: str) -> None:
 
 
 def with_often(name: str, what: str, often: int) -> Recording:
-    """A recording in which each goroutine did this the given number of times more often."""
+    """A recording in which each goroutine did this `often` more times."""
     recording = stored(f"{name}-bad")
     for uses in recording.lines.uses.values():
         uses[:] = [one._replace(often=one.often + often) if one.what == what else one for one in uses]

@@ -66,7 +66,7 @@ def at(folder: Path, source: str, number: int, function: str = "(*queue).pop") -
 
 
 def in_short(folder: Path, says: list[str]) -> list[str]:
-    """The sentences without what is the same in all of them."""
+    """The sentences without their common parts."""
     short = [one.replace(f"{folder}/", "").removeprefix("Perhaps ") for one in says]
     return [one.partition(", which the loop")[0] for one in short]
 

@@ -28,7 +28,7 @@ def lines_of(table: Table) -> list[str]:
 
 
 def said_of(name: str) -> dict[str, list[str]]:
-    """What nrdb says about a recording beside its program's source."""
+    """What nrdb says about a recording if the source of its program is in the current folder."""
     recording = Recording.read(str(CAUSED / f"{name}.jsonl"))
     recording.lines.written = float("inf")  # (a clone's files are newer than the recording)
     program = name.rpartition("-")[0]

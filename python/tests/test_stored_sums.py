@@ -69,7 +69,7 @@ def without(name: str, what: str) -> list[str]:
 
 
 def with_source(name: str, changed: Callable[[int, str], str]) -> list[str]:
-    """The texts about a recording beside a source in which `changed` replaces each line, given its number."""
+    """The texts about a recording if the source is changed. `changed` gets each line's number and text, and returns the new text."""
     before = os.getcwd()
     with tempfile.TemporaryDirectory() as folder:
         for path in Path().glob("*.go"):

@@ -536,7 +536,7 @@ NEXT = {
 
 
 def random_step(dice: random.Random, world: World) -> Step:
-    """The next step of a goroutine's wait, or a step of a deadline, which may not apply."""
+    """The next step of a goroutine's wait, or a step of a deadline or of the network. Such a step needn't apply."""
     g, side = dice.randrange(3), dice.choice("rw")
     kind = NEXT.get(world.goroutines[g][0])
     if dice.random() < 0.4:

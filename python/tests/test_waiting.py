@@ -119,8 +119,9 @@ class Asked(unittest.TestCase):
         self.assertIn("dump rq 0", many)
 
     def searched(self, count: int, sockets: int, with_lines: bool) -> tuple[int, int, int]:
-        """The work of `info goroutines` with `count` waiters at each of `sockets` sockets: the number of queries apart
-        from those of statuses, of searches of the recording's text, and of pieces of text that are searched."""
+        """How much work `info goroutines` does with `count` waiters at each of `sockets` sockets. Returns three numbers:
+        queries other than those for statuses, searches of the recording's text, and pieces of text that are searched.
+        """
         asked, begun = Counter[str](), mock.Mock()
         text = waiters(count, sockets)
         if with_lines:

@@ -332,7 +332,7 @@ def test_a_socket_that_cannot_listen_is_closed(call: str, error: Exception) -> N
 
 
 def test_a_port_can_be_listened_on_again_at_once() -> None:
-    """The system still remembers the connection of the browser before."""
+    """The system still remembers the previous browser's connection."""
     with listening(0) as at:
         port = at.getsockname()[1]
         with socket.create_connection((LOOPBACK, port)) as browser:

@@ -35,10 +35,10 @@ from .upgrades import RECORDINGS
 
 PLAIN = os.path.abspath(os.environ.get("NETREV_PLAIN", ROOT / "crates/netrev_plain/out/netrev_plain"))
 WAITS = 300  # seconds
-SHORT = 300  # the most steps of a recording whose cells are printed at each position
+SHORT = 300  # a recording with more steps isn't printed with its cells at each position
 MANY = 1_000  # the number of random cases that have every kind of step and every cell
-SHOWN = re.compile(rb"^(\w+)(?: \d+)? = ", re.MULTILINE)  # a cell with its value
-RUN_ALONE = ("full_journal", "many_steps")  # sorts of cases that take long; program/sizes.py has them
+SHOWN = re.compile(rb"^(\w+)(?: \d+)? = ", re.MULTILINE)  # a line with a cell's value
+RUN_ALONE = ("full_journal", "many_steps")  # kinds of cases that take long; program/sizes.py has them
 
 
 def ended(program: str, words: Sequence[object], script: bytes) -> tuple[int, bytes]:
@@ -157,7 +157,7 @@ def test_sides(folder: Path) -> None:
 
 
 def case(seed: str) -> tuple[str, Made]:
-    """The sort of a random case, and its parts."""
+    """The kind of a random case, and its parts."""
     dice = random.Random(seed)
     sorts = {sort: weight for sort, weight in SORTS.items() if sort.__name__ not in RUN_ALONE}
     sort = dice.choices(list(sorts), list(sorts.values()))[0]

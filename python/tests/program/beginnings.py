@@ -1,8 +1,8 @@
 """Tests every beginning of each short recording, byte by byte, for hostile.py: netrev accepts a beginning that ends
 with a whole line, and refuses any other beginning at its last line.
 
-There are some thirty thousand beginnings, and Python takes longer to start netrev than netrev takes to check one. So as
-many shells as the machine has processors run, and each checks many beginnings in a row.
+There are some thirty thousand beginnings of recordings, and Python takes longer to start netrev than netrev takes to
+check one. So one shell for each processor of the machine runs netrev, and checks many beginnings in a row.
 """
 
 import os

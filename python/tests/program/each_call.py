@@ -27,7 +27,7 @@ RIGHT, REFUSED = "right", "refused, then right"
 
 # calls that take no memory
 WITHOUT = {"restored-in-place", "restored-in-place-plain", "goto-a-copy", "journal-split"}
-# calls whose lines are sent again within the first call, so that one line alone can be refused
+# calls that send a refused line again themselves, so they aren't tested with all later requests refused
 LINES = {"six-lines"}
 # calls with threads, whose number of requests varies
 WITH_THREADS = {"search-forward-by-three", "search-backward-by-three", "serve-bytes"}

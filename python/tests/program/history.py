@@ -1,15 +1,16 @@
 """Finds a history for the replies of all fronts of a session, or reports that none exists.
 
-A history is an order of all lines that keeps each front's own order. A line comes before another line if its reply was
-read before the other line was sent, and each reply is what netrev_machine's debugger replies after the earlier
-commands. So a query shows a state that the session had between the query's sending and its reply, and that is no older
-than the last state its front has seen. Once the journal is full, each further command gets the reply that says so.
+A history is an order of all lines that keeps each front's own order. If a line's reply was read before another line was
+sent, the line comes before the other line. Each reply is what netrev_machine's debugger replies after the earlier
+commands. So a query shows a state that the session had after the query was sent and before its reply was read. This
+state is no older than the last state that the query's front has seen. Once the journal is full, each further command
+gets the reply that says so.
 
 The search goes from the beginning, and decides at each point which front's line comes next. A query or a fault that
 fits is taken at once. This loses no history, because the line changes nothing and could come this early in any history.
 If several commands fit, the search first tries the commands whose replies show where they began (such as the reply to
-`stepi`). The search doesn't leave a position that remaining lines need and can't reach again, and doesn't delete a mark
-that another line still shows. It doesn't enter the same state with the same remaining lines twice.
+`stepi`). The search doesn't leave a position if remaining lines need the position and can't reach it again. It doesn't
+delete a mark that another line still shows. It doesn't enter the same state with the same remaining lines twice.
 """
 
 from __future__ import annotations
@@ -138,8 +139,8 @@ class Search:
         return self.clues[front][self.taken[front]]
 
     def open_fronts(self) -> list[int]:
-        """The fronts whose next line may come now: it was sent before the reply to any of the remaining lines was
-        read."""
+        """The fronts whose next line may come now, because the line was sent before the first reply to a remaining line
+        was read."""
         left = [front for front, at in enumerate(self.taken) if at < len(self.fronts[front])]
         first: int = min((self.known[front][self.taken[front]] for front in left), default=0)
         return [front for front in left if self.next_of(front).sent < first]
@@ -186,7 +187,7 @@ class Search:
         self.state = state
 
     def choices(self) -> list[Choice]:
-        """Takes all lines that fit and change nothing. Returns the lines that fit after them, the best line last."""
+        """Takes all lines that fit now and don't change the state. Returns the lines that fit then, the best line last."""
         while True:
             fitting = [(front, state) for front in self.open_fronts() if (state := self.behind(front)) is not None]
             calm = [choice for choice in fitting if self.next_of(choice[0]).is_calm()]
@@ -197,8 +198,8 @@ class Search:
                 self.take(*choice)
 
     def may_go_now(self, front: int) -> bool:
-        """Whether the front's next line may come as soon as it fits: it deletes a mark or checkpoint, and no reply of
-        the session says that no more of them fit."""
+        """Whether the front's next line may come as soon as it fits. This holds if the line deletes a mark or checkpoint,
+        and no reply of the session says that there is no room for more of them."""
         return bool(self.clue_of(front).takes_away) and not self.are_full
 
     def worth(self, choice: Choice) -> tuple[bool, int]:

@@ -455,17 +455,17 @@ def other_reply(reply):
 
 
 def test_altered(parked, lives, dice):
-    """If two callers talk one after the other, only one history exists, so none exists after a reply is altered.
-    Commands with rising positions have only one possible order, so no history exists after the reply to a command is
-    altered. The altered reply to a query may fit an earlier or a later state."""
+    """If two callers talk one after the other, only one history exists. If one of their replies is altered, none exists.
+    Commands with rising positions have only one possible order. If the reply to such a command is altered, no history
+    exists. The altered reply to a query may fit an earlier or a later state."""
     two = [[Lines(dice, parked).some(20)] for _ in range(2)]
     expect_no_other(parked, share_lines(parked, two, at_once=1), lambda one: True)
     expect_no_other(lives, race_forwards(lives, dice, fronts=8, connections=1), lambda one: is_command(one.asked))
 
 
 def expect_no_other(recording, exchanged, has_one_place):
-    """Checks that a history exists, and that none exists if the reply to any line with only one possible place is
-    altered."""
+    """Checks that a history exists. Then alters replies, one at a time, to lines that can have only one place in a
+    history, and checks that no history exists."""
     history_of(recording, exchanged)
     for front, exchanges in enumerate(exchanged):
         for at, one in enumerate(exchanges):

@@ -2,7 +2,7 @@
 
 A block of README has four blanks before each line. `$ ` begins a command, and `(netrev) ` begins a line at the prompt
 that the last command opened. Other lines are output, and `...` matches any lines. If the text above a block says that
-numbers differ from run to run, any number matches any other. A command without shown output only has to succeed.
+numbers differ from run to run, any number matches any other. If a block shows no output of a command, the command only has to succeed.
 """
 
 import re
@@ -56,7 +56,7 @@ class Command(Typed):
     prompts: list[Typed] = field(default_factory=list)
 
     def fails(self) -> bool:
-        """Whether README shows that the command fails, because its output has a failed test."""
+        """Whether README shows that the command fails. It does if the shown output has a failed test."""
         return "FAIL" in "".join(self.shown)
 
 

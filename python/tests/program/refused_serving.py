@@ -3,15 +3,14 @@
 Two callers, each at its own front, send fixed lines one after the other, so the right replies are known: first over a
 short recording, which one worker searches, then over a recording of more than three thousand steps, which three workers
 search. In the second case, the allocations before callers are served aren't refused, because they are like those in the
-first case. The allocations come in the same order each time, except those of threads that are starting. So the tests go
-on to higher numbers until as many successive sessions as run at the same time refuse no allocation. A refused
-allocation must be reported once, and in one of these ways:
+first case. The allocations come in the same order each time, except those of threads that are starting. Several
+sessions run at the same time. The tests refuse allocations with ever higher numbers, until as many sessions in a row
+had no allocation to refuse. A refused allocation must be reported once, and in one of these ways:
 
 - before a caller is served, as `fault 108 memory`, with status 1;
 - in place of a reply to a query, or to a line that first has to complete another front's search, as
   `fault 301 memory`, after which the line is sent again;
-- in place of a reply to a search, as `fault 302 memory, placed N`, after which `resume` gives the reply, and no other
-  line;
+- in place of a reply to a search, as `fault 302 memory, placed N`; then only `resume` gives the reply;
 - at the end in place of `placed K`, as `fault 108 memory` with status 1.
 
 All other replies must be right, and every reply must be right if netrev could do without the allocation. So no command
@@ -43,8 +42,8 @@ class Played(NamedTuple):
 
 @dataclass
 class Script:
-    """A recording, the workers of a search, the lines of two callers with the right replies, and whether the
-    allocations that load the recording are refused too."""
+    """A recording, the number of workers of a search, and the lines of two callers with the right replies. `loading`:
+    whether the allocations that load the recording are refused too."""
 
     name: str
     text: str

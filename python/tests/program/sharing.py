@@ -1,7 +1,7 @@
 """A serving netrev and callers that talk to it at the same time, for the scripts that test `netrev serve`.
 
-No function here waits by sleeping. A wait for a port connects until the port exists, a wait for replies reads the
-socket, and a wait for the end waits for the process. Each wait has a limit.
+No function here waits by sleeping. To wait for a port, a function connects until it succeeds. To wait for replies, it
+reads the socket. To wait for netrev's end, it waits for the process. Each wait has a limit.
 """
 
 import os
@@ -41,7 +41,7 @@ class Exchange:
         return is_command(self.asked) and self.reply != (FULL,)
 
     def is_calm(self) -> bool:
-        """Whether the line changes nothing in any state in which it has this reply."""
+        """Whether a line with this reply never changes the state."""
         return not is_command(self.asked) or self.reply[0].startswith("fault ")
 
 
@@ -229,7 +229,7 @@ class Talker:
         self.unsent = self.unsent[self.caller.send(self.unsent) :]
 
     def receive(self):
-        """Reads what has arrived; the end of the stream ends this talker."""
+        """Reads what has arrived. At the end of the stream, this talker has ended."""
         came = self.caller.recv(1 << 16)
         self.ended = not came
         *whole, self.unread = (self.unread + came).split(b"\n")

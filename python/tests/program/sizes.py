@@ -150,7 +150,7 @@ def crowd() -> tuple[list[str], int]:
 
 def crowded(folder: Path) -> tuple[Path, int, int]:
     """A recording of that crowd, followed by ticks, so that copies of it are kept and all timers fire. Also returns the
-    position of the crowd, and the last position."""
+    position at which the whole crowd waits, and the last position."""
     steps, _ = crowd()
     timers = 2 * DESCRIPTORS
     more = [f'["tick",{time}]' for time in range(1, 3001)] + [f'["tick",{3 * 10**9}]'] + ['["pop"]'] * timers

@@ -4,7 +4,7 @@
               and with nothing on standard error
     input     standard input is closed, is a folder, is empty, or has no data yet
     words     command lines that are valid, and usage errors
-    file      unusual files: a folder, a pipe that comes in pieces, a name with spaces, a missing file
+    file      unusual files: a folder, a pipe that delivers pieces, a name with spaces, a missing file
     lines     commands and recordings without a line feed, of the greatest length and one byte longer, and with bytes that
               aren't text. In some cases netrev has less memory than the input has bytes, so it can't keep the input
     signals   a signal ends `run` and `serve` after whole lines, and no port stays in use; a stopped process can continue
@@ -501,8 +501,8 @@ def play_output_of_serve(into, _folder):
 
 
 def play_nothing_open(_folder):
-    """netrev starts without open streams, so its ports and callers get the streams' descriptors; it writes to none of
-    them as to a stream."""
+    """netrev starts with its standard streams closed, so its ports and callers get the descriptors 0 to 2. It must not
+    use any of them as a standard stream."""
     with Server(FIRST, fronts=2, through=["sh", "-c", 'exec "$@" <&- >&- 2>&-', "sh"]) as server:
         first, second = server.call(0), server.call(1)
         expect("the replies of front 0", ["at 3", "bye"], talk(first, ["stepi 3", "quit"]))

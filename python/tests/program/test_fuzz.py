@@ -34,7 +34,7 @@ def quietly(call, *arguments, **more):
 
 
 def decref_with_another_reason(world, g, s):
-    """A fault: A fault: `decref` without a reference is refused for another reason."""
+    """A fault: `decref` without a reference is refused for another reason."""
     try:
         return steps.decref(world, g, s)
     except Refused as refused:
@@ -52,7 +52,7 @@ def sorts_compared(recorded, answer):
 
 
 def shut_for_nothing(world, g, s, data):
-    """A fault: A fault: `syswrite` to a shut socket accepts bytes."""
+    """A fault: `syswrite` to a shut socket accepts bytes."""
     shut = s < len(world.sockets) and world.sockets[s].shut
     after, answer = WRITE(world.with_socket(s, shut=False) if shut else world, g, s, data)
     return (after.with_socket(s, shut=True) if shut else after), answer
@@ -161,7 +161,7 @@ class Pressing(unittest.TestCase):
         self.came += 1
 
     def give_up(self, happens):
-        """Sends netrev a line while its session is being given up, and ends it."""
+        """Sends netrev a line while its session is being given up, and ends netrev."""
         interrupts = Interrupts()
         with confined():
             netrev = Slow(NETREV, str(EXAMPLE), interrupts, happens)

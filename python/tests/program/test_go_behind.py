@@ -22,7 +22,7 @@ from .sharing import NETREV
 HOSTILE = "</script><script>alert(1)</script>\x1b[31m"
 CALLS = {0: Calls((Call(f"main.{HOSTILE}", f"{HOSTILE}.go", 7, OF_THE_PROGRAM),), None)}
 DATA = re.compile(r'<script type="application/json" id="data">(.*?)</script>', re.DOTALL)
-GOOD = EXAMPLES / "cancelled-read.jsonl"  # a recording of which other schedules hang
+GOOD = EXAMPLES / "cancelled-read.jsonl"  # some other schedules of this recording hang
 SECONDS = "600"  # far more time than its schedules take
 
 

@@ -50,7 +50,7 @@ def play(room: Room, *names: str) -> list[str]:
 
 
 def skip_without_go() -> None:
-    """Skips the test, and says that recording was left out."""
+    """Skips the test, with a reason that says that nothing was recorded."""
     if not commands_of_go():
         pytest.skip(f"Go {RELEASE} isn't here, so nothing was recorded: `python3 python netrev_go.fetching {RELEASE}`")
 

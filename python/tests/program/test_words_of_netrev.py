@@ -37,7 +37,7 @@ def reply_at(path: Path, position: str, cell: str) -> str:
 
 
 def foreign_words(text: str, path: Path) -> list[str]:
-    """The texts after `netrev:`, in a text about a recording, that aren't netrev's output."""
+    """A text about a recording quotes netrev after `netrev:`. These are the quotes that netrev doesn't print."""
     lines = [line for program in ("check", "suspects") for line in printed(program, path).splitlines()]
     answers = [answer for found in SAYS.findall(text) for answer in found.replace("`", "").split("; ")]
     return [answer for answer in answers if not is_printed(answer, path) and answer not in lines]

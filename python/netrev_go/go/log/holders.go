@@ -44,9 +44,9 @@ const (
 
 type netrevHolderRow = [netrevHolderWords]uint64
 
-// True if mutexes are in the table: both are set before the program begins, if the rules for mutexes fit, and never
-// reset. Mutex reads the first and sync's RWMutex the second, because a package can link to a name of the runtime only
-// once.
+// Both variables are 1 if mutexes are in the table. They are set before the program begins, if the rules for mutexes
+// fit, and never reset. Mutex reads the first and sync's RWMutex the second, because a package can link to a name of
+// the runtime only once.
 //
 //go:linkname netrevMutexesOn
 var netrevMutexesOn uint32

@@ -27,7 +27,7 @@ func (m *Mutex) netrevHas() bool {
 }
 
 // netrevDrops clears the lock bit, as Unlock does, and returns the new state. If there is a log, it returns -1, which
-// no state of a mutex is, and netrevUnlocks clears the bit.
+// is never a mutex's state, and netrevUnlocks clears the bit.
 func (m *Mutex) netrevDrops() int32 {
 	if netrevMutexesOn != 0 {
 		return -1

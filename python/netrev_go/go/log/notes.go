@@ -52,8 +52,8 @@ const (
 // descriptor's lock protects it.
 type netrevSide struct{ place, goid, stack, since uint64 }
 
-// A netrevRow is a descriptor, whose memory is never freed: it keeps its row when it is reused for another socket. The
-// lock word is 0 while no socket has the descriptor.
+// A netrevRow is the row of a descriptor. A descriptor's memory is never freed, and another socket that reuses the
+// descriptor has the same row. The lock word is 0 while no socket has the descriptor.
 type netrevRow struct {
 	pd, word uintptr
 	sides    [2]netrevSide
@@ -75,8 +75,8 @@ type netrevWaiter struct {
 	_                         [3]uint64
 }
 
-// Functions that read whether a descriptor's timers run, and its tag, which older releases keep in another way. They
-// are set if the rules for notes fit.
+// Functions that return which timers of a descriptor run, and the descriptor's tag. Go's releases keep these
+// differently. The functions are set if the rules for notes fit.
 var (
 	netrevRunning func(pd *pollDesc) int64
 	netrevTagOf   func(pd *pollDesc) int64
@@ -145,7 +145,7 @@ func netrevRowOf(pd uintptr, isNew bool) *netrevRow {
 	return nil
 }
 
-// netrevInside records that a goroutine has come to a place of a wait. The wait begins there if `since` is a time.
+// netrevInside records that a goroutine has reached a place in a wait. The wait begins there if `since` is a time.
 func netrevInside(pd *pollDesc, mode int32, place, goid, stack uint64, since int64) {
 	if netrevRows == 0 {
 		return
@@ -223,8 +223,8 @@ func netrevLeaves(addr *uint32) {
 	}
 }
 
-// Records that a descriptor was opened for the socket of a lock word. If notes are being written, they may have passed
-// its row already, so it is noted here.
+// Records that a descriptor was opened for the socket of a lock word. If notes are being written, the writer may have
+// passed the descriptor's row already, so this function writes the note.
 //
 //go:linkname poll_runtime_netrevKnows internal/poll.runtime_netrevKnows
 func poll_runtime_netrevKnows(descriptor uintptr, word *uint64) {
@@ -358,9 +358,9 @@ func netrevNoteLocked(row *netrevRow, state uint64, pd *pollDesc) {
 	}
 }
 
-// netrevNoteFlags returns bits, from bit 0: whether the descriptor is closing, had an event error, its read timer runs,
-// its write timer runs, its write side is shut; from bit 8 its words for reading and for writing, 2 bits each (0 nil, 1
-// ready, 2 wait, 3 a goroutine); and bit 12 if a goroutine may be queued that isn't noted.
+// netrevNoteFlags returns bits. Bits 0 to 4: the descriptor is closing, it had an event error, its read timer runs, its
+// write timer runs, its write side is shut. Bits 8 and 9: its wait word for reading (0 nil, 1 ready, 2 wait, 3 a
+// goroutine). Bits 10 and 11: its wait word for writing. Bit 12: a goroutine may be queued that isn't noted.
 func netrevNoteFlags(row *netrevRow, pd *pollDesc) int64 {
 	flags := netrevBit(pd.closing) | netrevBit(pd.info().eventErr())<<1 | netrevRunning(pd)<<2 | netrevBit(row.marks&netrevIsShut != 0)<<4
 	return flags | netrevWordCode(pd.rg.Load())<<8 | netrevWordCode(pd.wg.Load())<<10 | int64(atomic.Load(&netrevUnqueued))<<12

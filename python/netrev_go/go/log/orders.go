@@ -51,8 +51,8 @@ func netrevReadied(gp *g, traceskip int) int {
 	return traceskip &^ (netrevSema | netrevSemaRead)
 }
 
-// netrevMetSkip marks the frames to skip if the point for a waiting sender's value already says that the sender is made
-// ready.
+// netrevMetSkip marks the number of frames to skip if the channel has no buffer: the point of the value that is taken
+// from a waiting sender then also says that the sender is made ready.
 func netrevMetSkip(c *hchan, skip int) int {
 	if c.dataqsiz == 0 {
 		return skip + netrevSema
@@ -78,8 +78,8 @@ const (
 	netrevForNoCases
 )
 
-// netrevWaits returns what a goroutine waits for, by the reason's text in a stack dump, because the reasons have other
-// numbers in each release.
+// netrevWaits returns what a goroutine waits for. It compares the reason's text, as stack dumps show it, because the
+// reasons' numbers differ between releases.
 func netrevWaits(reason string) int64 {
 	switch reason {
 	case "chan receive", "chan receive (durable)":
@@ -156,9 +156,9 @@ func netrevAt(what int64, lock unsafe.Pointer) (unsafe.Pointer, int64) {
 	return nil, 0
 }
 
-// netrevSelects returns the channels of a select that is about to wait, all of which are locked: three of them, and, in
-// the bits of `what` above the lowest eight, two bits for each: whether the goroutine waits there for a value (1) or
-// for room (2). For each further three it first logs a point of their own.
+// netrevSelects returns up to three channels of a select that is about to wait; all its channels are locked. Above the
+// lowest eight bits of `what`, two bits for each say whether the goroutine waits for a value (1) or for room (2). If
+// there are more than three channels, it first logs a point for each three of the others.
 func netrevSelects(gp *g, what int64) (at unsafe.Pointer, bits, b, c int64) {
 	const most, often = 3, 8
 	var channels [most]uintptr

@@ -123,8 +123,8 @@ func netrevRelease(sema *uint32, read bool) {
 	runtime_netrevRelease(sema, read)
 }
 
-// netrevSetsDeadline sets a deadline as a single point, although this takes a reference to the socket and drops it again; it returns
-// whether it set the deadline.
+// netrevSetsDeadline sets a deadline and logs a single point, although the call takes a reference to the socket and drops it again.
+// It returns whether it set the deadline.
 func netrevSetsDeadline(fd *FD, d int64, mode int) bool {
 	if fd.pd.runtimeCtx == 0 {
 		return false

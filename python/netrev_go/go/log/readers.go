@@ -16,7 +16,7 @@ func runtime_netrevHasRead(mutex unsafe.Pointer)
 
 var _ = [1]byte{}[unsafe.Offsetof(RWMutex{}.w)] // a writer's mutex has the address of the whole RWMutex
 
-// netrevReads adds an RWMutex that the goroutine has locked for reading to the table.
+// netrevReads adds to the table an RWMutex that the goroutine has locked for reading.
 func (rw *RWMutex) netrevReads() bool {
 	if netrevReadersOn != 0 {
 		runtime_netrevReads(unsafe.Pointer(rw))
@@ -24,7 +24,7 @@ func (rw *RWMutex) netrevReads() bool {
 	return true
 }
 
-// netrevHasRead removes an RWMutex that the goroutine is about to unlock from the table.
+// netrevHasRead removes from the table an RWMutex that the goroutine is about to unlock.
 func (rw *RWMutex) netrevHasRead() {
 	if netrevReadersOn != 0 {
 		runtime_netrevHasRead(unsafe.Pointer(rw))

@@ -6,8 +6,8 @@
 // goroutines that are queued for their locks (notes.go), and a ring of points. Without NETREV_LOG, the functions only
 // read netrevOn.
 //
-// The program runs as it would without the log: no descriptor stays open, because a program may close all those that it
-// doesn't know and get their numbers again for files of its own, and nothing is printed.
+// The program runs as it would without the log. Nothing is printed. No descriptor stays open, because a program may close
+// every descriptor that it didn't open, and then the system reuses the numbers for the program's own files.
 
 package runtime
 
@@ -77,7 +77,7 @@ const (
 
 // The kinds of points that have a stack, and those that read the clock: a bit for each step, and one for each other
 // kind from netrevOpenFailed on (orders.go has those). Stacks and times are the costliest parts of a point. A later
-// step of a call has the stack with which the call came to its socket, and a point without a time has the previous
+// step of a call has the stack of the call's first step at the socket, and a point without a time has the previous
 // point's time.
 const (
 	netrevStackedSteps  = 1<<3 | 1<<9 | 1<<10 | 1<<12 | 1<<netrevAcquire | 1<<netrevWaitBegin // sockopen, incref, increfclose, rwlock
@@ -197,8 +197,8 @@ func netrevShared(file, size uintptr) (base, errno uintptr) {
 	return netrevSystem(netrevMmap, 0, size, readAndWrite, shared, file, 0)
 }
 
-// netrevReserve reserves room for the first bytes of an open file, and returns the error of a full disk or quota. A
-// file system that can't reserve is taken to have room.
+// netrevReserve reserves room for the first bytes of an open file, and returns the error of a full disk or quota. If a
+// file system can't reserve room, netrevReserve assumes that it has room.
 func netrevReserve(file, size uintptr) uintptr {
 	const noSpace, quota = 28, 122
 	if _, errno := netrevSystem(netrevFallocate, file, 0, 0, size); errno == noSpace || errno == quota {
@@ -386,8 +386,8 @@ func netrevNext() uint64 {
 	return number
 }
 
-// netrevWrite writes the point with this number and this stack. A half-written point is known by its checksum, so that no
-// store has to wait for the previous one, whose cache line is seldom loaded.
+// netrevWrite writes the point with this number and this stack. The checksum shows whether a point is complete, so no
+// store has to wait for the store before it. The point's cache line is seldom loaded, so such a wait would be long.
 func netrevWrite(number, kind, goid uint64, at uintptr, a, b, c, now int64, stack uint64) {
 	if number%netrevChunk == 0 {
 		netrevRoom(number)
@@ -589,8 +589,8 @@ func netrevCommitted(gp *g, pd *pollDesc, word *atomic.Uintptr, mode int64) bool
 	return parks
 }
 
-// netrevSetting has, for each of the first processors, the descriptor whose deadline is being set under the lock of its
-// lock word, and that word.
+// netrevSetting has a row for each of the first processors. While the processor sets a deadline and holds the lock that
+// guards the lock word, the row has the descriptor and the lock word's value.
 var netrevSetting [netrevNearEnd / netrevNearRows]struct {
 	descriptor uintptr
 	state      uint64
@@ -608,9 +608,9 @@ func netrevDeadline(pd *pollDesc, mode int, d int64) int64 {
 	return now
 }
 
-// Sets a deadline; the reference that the call takes and drops meanwhile has no point of its own, because the lock
-// word's lock is held all the time, and the word stays as it is. Returns whether that was possible. It isn't with
-// delays, which come between these points.
+// Sets a deadline. The reference that the call takes and drops has no points of its own, because the lock that guards the
+// lock word is held all the time and the word doesn't change. Returns whether it set the deadline. With delays it
+// doesn't, because a delay may come between these points.
 //
 //go:linkname poll_runtime_netrevSetsDeadline internal/poll.runtime_netrevSetsDeadline
 func poll_runtime_netrevSetsDeadline(descriptor uintptr, word *uint64, d int64, mode int) bool {
@@ -656,7 +656,7 @@ func netrevEvent(pd *pollDesc, mode int32, isError bool) {
 	}
 }
 
-// netrevTagged logs an event with a tag, and returns whether that is the descriptor's, as Go compares it.
+// netrevTagged logs an event with a tag, and returns whether the tag equals the descriptor's, which is Go's own test.
 func netrevTagged(pd *pollDesc, mode int32, events uint32, tag, current uintptr) bool {
 	const onlyError = 8
 	netrevLog(netrevEventCame, 0, uintptr(unsafe.Pointer(pd)), int64(mode), netrevBit(events == onlyError)+2*netrevBit(tag != current), int64(tag), 0)
@@ -675,7 +675,7 @@ func netrevEventDone(pd *pollDesc) {
 	}
 }
 
-// netrevEasy takes a semaphore without its root's lock, unless it belongs to a lock word.
+// netrevEasy takes a semaphore without its root's lock, unless the semaphore belongs to a lock word.
 func netrevEasy(addr *uint32, profile semaProfileFlags) bool {
 	return profile&netrevSema == 0 && cansemacquire(addr)
 }
@@ -724,7 +724,7 @@ func poll_runtime_netrevRelease(addr *uint32, read bool) {
 	semrelease1(addr, false, int(netrevSema+netrevSemaRead*netrevBit(read)))
 }
 
-// Logs a point at a lock word that doesn't change the word.
+// Logs a point that is at a lock word and doesn't change the word.
 //
 //go:linkname poll_runtime_netrevPoint internal/poll.runtime_netrevPoint
 func poll_runtime_netrevPoint(kind uint64, word *uint64, a, b, c int64) {
@@ -793,7 +793,7 @@ var (
 )
 
 // netrevTest writes a line to LOG.tests: how many points were logged, the goroutine, the time since the log began, what
-// happened, and to which test or package. The first call makes the file. Lines without room are dropped.
+// happened, and to which test or package. The first call makes the file. Lines for which the file has no room are dropped.
 //
 //go:linkname netrevTest
 func netrevTest(what, name string) {
@@ -841,9 +841,9 @@ func netrevMixed(x uint64) uint64 {
 	return x ^ x>>32
 }
 
-// netrevDelay lets other goroutines run first, at a quarter of all places, which the seed chooses. It sleeps for 0.5 to 8 milliseconds,
-// also by the seed, each of the first 64 times, and seldom later. A place is a kind of point in all goroutines that the same code
-// started. The caller holds no lock of the runtime.
+// netrevDelay lets other goroutines run first, at a quarter of all places. It sleeps for 0.5 to 8 milliseconds; the seed chooses the
+// places and the times. It sleeps each of the first 64 times, and later one time in 16. A place is a kind of point in all goroutines
+// that the same code started. The caller holds no lock of the runtime.
 //
 //go:linkname poll_runtime_netrevDelay internal/poll.runtime_netrevDelay
 func poll_runtime_netrevDelay(kind uint64) {

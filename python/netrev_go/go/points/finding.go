@@ -14,7 +14,7 @@ import (
 	"strings"
 )
 
-// A source is a file of Go: its text and its syntax.
+// A source is a Go file: its text and its syntax.
 type source struct {
 	text   string
 	set    *token.FileSet

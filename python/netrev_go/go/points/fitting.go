@@ -158,9 +158,9 @@ var withOrders = map[string]bool{
 	ofObjects: true, ofEnds: true, ofSleeps: true, ofTimers: true, ofStops: true, ofGroups: true, ofMaking: true, ofDials: true, ofHolders: true,
 }
 
-// withoutElse removes what isn't needed: a way's rule that doesn't fit, if another rule for the same way does; the
-// rules of what is recorded completely or not at all, if one of them doesn't fit; and, without the orders, the rules of
-// what is recorded only with them.
+// withoutElse removes three kinds of rules: a rule that doesn't fit, if another rule for the same way fits; the rules of
+// a group that is recorded completely or not at all, if one of them doesn't fit; and the rules of a group that is
+// recorded only with the orders, if the orders aren't recorded.
 func withoutElse(fittings []fitting) []fitting {
 	fits, unfit := map[string]bool{}, map[string]bool{}
 	for _, f := range fittings {

@@ -76,7 +76,7 @@ func guarded(poll, runtime *folder) int {
 	return len(places)
 }
 
-// strange returns, each once, the calls of a package that a guard names but that are in another function.
+// strange returns a package's calls that a guard allows only in other functions. Each call is returned once.
 func (p *folder) strange(guards []guard) []string {
 	var told []string
 	said := map[string]bool{}

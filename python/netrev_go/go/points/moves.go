@@ -14,8 +14,8 @@ func moved(call, arguments string) []edit {
 	return []edit{one(behind, call, "if netrevOn != 0 { netrevBytes("+arguments+") }")}
 }
 
-// A way moves bytes other than by FD.Read and FD.Write. If its rule doesn't fit a release, everything else is recorded without it. If
-// several rules have the same words, one of them has to fit.
+// A way is a function besides FD.Read and FD.Write that moves bytes. If its rule doesn't fit a release, everything else is recorded
+// without it. If several rules have the same words, one of them has to fit.
 type way struct {
 	rule
 	moves string
@@ -46,7 +46,7 @@ var ways = []way{
 
 const ofAddresses = "where datagrams go"
 
-// The rules for addresses of datagrams that are sent from a socket, which needn't be connected.
+// The rules for the addresses to which datagrams go. A socket that sends datagrams needn't be connected.
 var addressed = []rule{
 	{sockets, "WriteTo", goesTo("syscall.Sendto(fd.Sysfd, ...)")},
 	{sockets, "WriteToInet4", goesTo("unix.SendtoInet4(fd.Sysfd, ...)")},

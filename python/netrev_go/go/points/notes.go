@@ -2,8 +2,8 @@ package main
 
 const ofNotes = "what was open before the oldest point"
 
-// The rules for what the notes of open descriptors need besides the points of steps: whether a descriptor's two timers run, its tag, and
-// where a socket ends.
+// The notes of open descriptors need more than the points of steps: whether a descriptor's two timers run, its tag, and where a socket
+// ends. These are the rules for that.
 var notes = []rule{
 	{polling, "poll_runtime_pollServerInit", []variant{
 		{"1.18 to 1.22", "!rrun", []edit{one(beside, "netpollGenericInit()", timersRun("pd.rt.f != nil", "pd.wt.f != nil"))}},

@@ -63,7 +63,7 @@ func since121(before, since []edit) []variant {
 	return []variant{{"1.18 to 1.20", "!fdseq", before}, {"1.21 to 1.27", "fdseq", since}}
 }
 
-// orLogged returns code that is the found expression if no log exists, and another expression if a log exists.
+// orLogged returns an expression: the found expression if no log exists, and another one if a log exists.
 func orLogged(put string) string { return "(netrevOn == 0 && $0 || netrevOn != 0 && " + put + ")" }
 
 func one(how how, find string, put string) edit { return edit{how, find, 1, []string{put}} }

@@ -4,7 +4,7 @@ const ofSignals = "copies of the log by SIGUSR2"
 
 const signalling = "runtime/signal_unix.go"
 
-// The point at which a signal arrives, because the program's owner may have chosen a signal at which the log is copied.
+// The rules for arriving signals. The program's owner may have chosen a signal at which the log is copied.
 var signals = []rule{
 	ordered(signalling, "sighandler",
 		one(replace, "sigsend(sig)", "netrevSignalled(sig, $0)"),

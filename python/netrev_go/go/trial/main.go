@@ -38,7 +38,7 @@ func wrote(n int64, err error) {
 	atomic.AddInt64(&writes, n)
 }
 
-// backlog reads the system's file that net.Listen reads, which the poller accepts, and returns the number of bytes.
+// backlog reads the system file that net.Listen reads, and returns the number of bytes. The poller accepts that file.
 func backlog() int64 {
 	file, err := syscall.Open("/proc/sys/net/core/somaxconn", syscall.O_RDONLY, 0)
 	if err != nil {

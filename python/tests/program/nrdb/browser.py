@@ -14,7 +14,7 @@ CHROMIUM = next(
 PATIENCE = 60  # seconds
 LIGHT, DARK = 1, 0  # the colour schemes that a browser may ask for
 
-# Tools for a script in the page: wheel, keys, pointer, text at places, and errors.
+# Functions for a script in the page. They turn the wheel, press keys, move the pointer, and read texts and pixels. `wrong` collects errors.
 HANDS = """
 const wrong = [];
 addEventListener("error", (event) => wrong.push(String(event.message)));

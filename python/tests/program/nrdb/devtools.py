@@ -102,7 +102,7 @@ class Chromium:
         return message
 
     def page(self, address: str) -> Page:
-        """A new page for a person, which shares nothing with other pages."""
+        """A new page in its own browser context, which shares nothing with other pages."""
         person = self("Target.createBrowserContext")["browserContextId"]
         target = self("Target.createTarget", url="about:blank", browserContextId=person)["targetId"]
         session = self("Target.attachToTarget", targetId=target, flatten=True)["sessionId"]

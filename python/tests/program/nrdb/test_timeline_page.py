@@ -11,7 +11,7 @@ from .browser import CHROMIUM, DARK, LIGHT, used
 from .support import EXAMPLES, HUNTS, nrdb, shown
 
 MISSED = HUNTS / "missed-release.jsonl"
-OWED = 262  # the step since which goroutine 14 owes a release
+OWED = 262  # from this step on, goroutine 14 owes a release
 HOSTILE = "</script><img src=x onerror=\"document.title='obeyed'\"><b>\u202e`"
 
 
