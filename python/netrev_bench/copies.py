@@ -1,9 +1,9 @@
 """Measures the memory for copies of full buffers:  python3 python netrev_bench.copies
 
 Makes four recordings of a million steps whose first steps fill buffers. Between two copies of the world, the later
-steps change none of these buffers, or other buffers, or all of them. For each recording, prints the greatest memory and
-the processor time of `netrev check` and of a session that has loaded the recording, as a row of a Markdown table.
-NETREV names the program. Linux only.
+steps of two recordings change no buffers, those of the third change only other buffers, and those of the fourth change
+all these buffers. For each recording, prints the greatest memory and the processor time of `netrev check` and of a
+session that has loaded the recording, as a row of a Markdown table. NETREV names the program. Linux only.
 """
 
 import os

@@ -1,8 +1,8 @@
 """Measures how many schedules run in a second:  python3 python netrev_bench.exploring [--schedules N] [--processors 1,4] [RECORDING ..]
 
-Without recordings, it explores the longest hunt of examples/hunts, and random traffic of 2,000 steps without a bug. The output lines are
-rows of a Markdown table. Neither Go nor netrev is needed. With one processor, the seconds are processor time; with more, elapsed time. They
-count from the script of the recording to the last finding, as for `explore`.
+Without recordings, it explores the longest hunt of examples/hunts, and random traffic of 2,000 steps without a bug. The output lines are rows of a
+Markdown table. Neither Go nor netrev is needed. With one processor, the seconds are processor time; with more, elapsed time. The time includes making
+the script from the recording and ends when all schedules have run, as for `explore`.
 """
 
 import argparse

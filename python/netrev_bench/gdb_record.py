@@ -4,7 +4,7 @@ The program (gdb_record.c) makes 1,000 rounds, or ROUNDS: it takes a lock, write
 releases the lock. Prints, per second, how many rounds the program makes alone, how many instructions and rounds GDB
 records, how many instructions a `reverse-stepi 10000` goes back, and how many a `reverse-continue` over the whole
 record examines, with a watchpoint that never hits. Each figure is the best of three runs, in elapsed time. If gdb or a
-C compiler is missing, it only prints that.
+C compiler is missing, prints only a line that says so.
 """
 
 import re

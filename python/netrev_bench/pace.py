@@ -1,9 +1,10 @@
 """Measures how fast the machine itself is, without commands:  python3 python netrev_bench.pace [STEPS]
 
-For each shape of recording, of 1,000,000 steps or STEPS, prints how many thousand steps a second each representation of
-a world replays, applies so that they can be undone, undoes, and searches in vain for a watch: the lists of `nr_plain`,
-the packed world of `nr_machine`, and the same machine in plain Rust without proofs (`baseline`). Each figure is the
-best of three runs. The last columns have the packed world's figures as multiples of the lists' and the baseline's.
+For recordings of each shape, with 1,000,000 steps or STEPS, prints the speed of each representation of a world in
+thousands of steps a second. Four things are measured: replaying the steps, applying them so that they can be undone,
+undoing them, and searching for a watch that never hits. The representations are the lists of `nr_plain`, the packed
+world of `nr_machine`, and the same machine in plain Rust without proofs (`baseline`). Each figure is the best of three
+runs. The last columns have the packed world's figures as multiples of the lists' and the baseline's.
 
 NETREV_PACE names the program to use instead of out/nr_pace, which is built from `bench/pace/crate`. NETREV_BASELINE names the program of
 `bench/baseline`; by default it is built, and if that fails, its columns are empty. SHAPES names the shapes to measure. No time is limited.

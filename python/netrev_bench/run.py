@@ -8,9 +8,9 @@ On each recording, the programs take turns to
     reverse   search backwards in the same way
     restarts  go to various checkpoints, 1,000 times, with a query after each
 
-The recordings are: each shape of `bench/shapes.awk` with its own limits, at each of the sizes (10,000, 100,000 and 1,000,000 steps); each
-shape with the limits that netrev-go writes, with many sockets and descriptors and buffers of 65,536 bytes, at the first size; and two runs
-of servers, which are tests of Go's library that are recorded first.
+Each shape of `bench/shapes.awk` is measured with its own limits, at each of the sizes (10,000, 100,000 and 1,000,000 steps). At the first size, each
+shape is also measured with the limits that netrev-go writes: many sockets and descriptors, and buffers of 65,536 bytes. Two more recordings are of
+servers: two tests of Go's library, which are recorded first.
 
 `valgrind --tool=callgrind` counts the instructions per step of the recording or per restart, because other work on the
 machine doesn't change this count. Under callgrind the C library clears and copies without `rep`, because callgrind

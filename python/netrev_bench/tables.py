@@ -40,7 +40,7 @@ class Measurement:
 
     @property
     def netrevs(self) -> list[str]:
-        """The netrevs that were measured, the older netrev first."""
+        """The measured versions of netrev, the older version first."""
         return [program for program in (BEFORE, NOW) if self.has(program)]
 
     def ratio(self, shape: str, steps: int, program: str, name: str) -> float:
@@ -165,7 +165,7 @@ def has_figure(cases: Cases, name: str) -> bool:
 
 
 def first_of(sorts: dict[str, Cases]) -> Cases:
-    """The cases of the first kind, which all other kinds have too."""
+    """The cases of the first kind. All other kinds have these cases too."""
     return next(iter(sorts.values()))
 
 

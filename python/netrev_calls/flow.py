@@ -10,7 +10,7 @@ from netrev_words.vocabulary import KINDS
 
 
 class Sort(Enum):
-    """The sort of an operation, by the kind of its first step. A read, a write and a wait repeat until they are
+    """The type of an operation, named by the kind of its first step. A read, a write and a wait repeat until they are
     done."""
 
     MAKE = "sockopen"

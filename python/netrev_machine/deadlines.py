@@ -17,7 +17,7 @@ FEWEST = 64  # the number of timers above which the heap is swept
 
 @dataclass(eq=False, slots=True)
 class Timer:
-    """A timer that is armed or has gone off: its descriptor, the sides of its function, and the step that set the
+    """A timer that is armed or has gone off: its descriptor, the sides that it covers, and the step that set the
     deadline."""
 
     due: int
@@ -152,7 +152,7 @@ class Deadlines:
     def place(self, number: int, side: int, sequence: int) -> int | None:
         """The index of a firing in the list, or None."""
         key = number, side, sequence
-        return self._keys.index(key) if self._counts.get(key) else None  # (mostly it isn't one of hundreds)
+        return self._keys.index(key) if self._counts.get(key) else None  # (this usually saves a scan of hundreds)
 
     def fire(self, place: int, sides: str = "") -> tuple[Timer, bool]:
         """Runs the function of a timer for these sides; by default, for the sides that the timer covers. Returns the

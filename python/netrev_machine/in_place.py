@@ -18,8 +18,8 @@ WHOLE = -1  # the place for all other parts, each of which is replaced as a whol
 
 
 class Change(NamedTuple):
-    """A change with the old value. For a goroutine, socket or descriptor, that is the old object at a place (None if it
-    is new); for any other part, it is the whole part."""
+    """A change with the old value. If a goroutine, socket or descriptor changed, the old value is the old object at
+    that place, or None if the object is new. If any other part changed, the old value is the whole part."""
 
     of: str
     place: int

@@ -124,8 +124,8 @@ def checked(replayed: Replayed, n: int) -> Optional[tuple[int, int, str]]:
 
 
 def taken_back(replayed: Replayed, n: int) -> Iterator[str]:
-    """Step n, if it sets the deadline of a side whose deadline has passed, and the goroutine that was woken by that
-    hasn't checked yet."""
+    """Step n, if it sets a side's deadline although the previous deadline has passed and the goroutine that the
+    previous deadline woke hasn't checked yet."""
     if replayed.step(n)[0] == "setdeadline":
         _, _, d, mode, _ = replayed.step(n)
         for side in SIDES:
@@ -185,7 +185,7 @@ def is_setting(replayed: Replayed, n: int, d: int) -> bool:
 
 
 def lost_wake_ups(replayed: Replayed) -> Iterator[str]:
-    """Each goroutine that is parked at the end at a side that is owed a try."""
+    """Each goroutine that is parked when the recording ends although its side is owed a try."""
     for d, desc in enumerate(replayed.worlds[replayed.end].descs):
         for side in SIDES:
             parked, event = desc.words[at(side)], owed(replayed, d, side)
@@ -235,7 +235,7 @@ def takes(replayed: Replayed, n: int, d: int, side: str) -> bool:
 
 
 def asleep(replayed: Replayed) -> Iterator[str]:
-    """Each goroutine that is parked at the end at a side that must be answered."""
+    """Each goroutine that is parked when the recording ends although its side needn't wait."""
     world = replayed.worlds[replayed.end]
     for d, desc in enumerate(world.descs):
         for side in SIDES:

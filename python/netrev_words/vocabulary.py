@@ -164,7 +164,8 @@ _WRITTEN = {
 
 
 def written(kind: Kind, argument: str) -> Written:
-    """The form of this argument of this kind: a deadline's time may be negative, and a clock's time may not."""
+    """The form of this argument in steps of this kind: a deadline's time may be negative, but a clock's time may
+    not."""
     if kind.name == "setdeadline" and argument == "time":
         return Written.DEADLINE
     return _WRITTEN.get(argument, Written.NUMBER)

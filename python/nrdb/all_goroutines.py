@@ -246,7 +246,7 @@ class AllGoroutines:
 
     def goid_of(self, number: int, step: Optional[int] = None) -> int:
         """Go's number for the goroutine that has `number` in the recording at a step. Without a step, the result is for
-        the last goroutine that had it. The result is 0 if unknown."""
+        the last goroutine that had that number. The result is 0 if unknown."""
         if step is None or number not in self.owners:
             return self._goids.get(number, 0)
         return next((goid for taken, goid in reversed(self.owners[number]) if taken < max(step, 1)), 0)
@@ -268,7 +268,7 @@ class AllGoroutines:
         return number not in self.owners or self.goid_of(number, step) == goid
 
     def park_of(self, goid: int, position: int) -> Optional[Park]:
-        """The wait outside the poller that the goroutine with this goid is in at a position."""
+        """The goroutine's wait outside the poller at a position; None if it isn't in such a wait."""
         return next((one for one in self.parks.get(goid, ()) if one.is_at(position)), None)
 
 

@@ -1,5 +1,5 @@
-"""Channels from which goroutines take a value and give it back in the same function, such as a pool of connections or a
-semaphore. The module counts how often each goroutine took a value and gave it back, and finds the calls that gave a
+"""Channels that are used like a pool of connections or a semaphore: a goroutine takes a value and gives it back in the
+same function. The module counts how often each goroutine took a value and gave it back, and finds the calls that gave a
 value back twice or never."""
 
 from collections import Counter, defaultdict
@@ -18,7 +18,7 @@ DEFERRED = ".deferwrap"  # in the names of functions that run when another ends
 BEGIN = attrgetter("begin")
 TAKEN_WORDS = {TOOK: ("took", "put", "back"), PUT: ("put", "took", "out again")}
 Frames = tuple[Call, ...]
-Path = tuple[Call, ...]  # the calls around the one that takes and gives back
+Path = tuple[Call, ...]  # the callers of the function that takes values and gives them back
 
 
 class Place(NamedTuple):
@@ -168,8 +168,8 @@ def program_frames(stack: Stack) -> Frames:
 
 
 def place_in(function: str, frames: Frames) -> Optional[Place]:
-    """The innermost call of a function in a stack. If a function literal or a deferred call of the function is running,
-    the result has the line at which that is. A deferred call is at its `defer` statement."""
+    """The innermost call of a function in a stack. If one of the function's literals or deferred calls is running, the
+    result has the line in the literal or the line of the `defer` statement."""
     for at, call in enumerate(frames):
         if call.function == function:
             inner = frames[at - 1] if at and frames[at - 1].function.startswith(f"{function}.") else call
@@ -180,7 +180,7 @@ def place_in(function: str, frames: Frames) -> Optional[Place]:
 def balance_of(
     recording: Recording, name: Name, path: Path, uses: list[Use], form: Form, now: dict[Name, Stack]
 ) -> Balance:
-    """The balance of the calls that a goroutine made to the function from one place."""
+    """The values that a goroutine took and gave back in its calls of the function from one place."""
     taken, given, stacks = Counter[Call](), Counter[Call](), recording.lines.stacks
     for use in uses:
         if place := place_in(form.function, program_frames(stacks[use.stack])):
@@ -205,8 +205,8 @@ def has_ended(recording: Recording, name: Name) -> bool:
 
 
 def current_in(function: str, path: Path, stack: Optional[Stack]) -> Optional[tuple[Call, Frames]]:
-    """If a goroutine is now in a call of the function by these callers, its line there and its frames in the program;
-    else None."""
+    """The line at which a goroutine is in the function, and the goroutine's frames in the program; None if the
+    goroutine isn't in a call of the function by these callers."""
     frames = program_frames(stack) if stack else ()
     for at, call in enumerate(frames):
         if call.function == function and frames[at + 1 :] == path:

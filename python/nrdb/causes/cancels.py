@@ -158,8 +158,8 @@ def limit_says(index: Index, timers: list[Timer]) -> str:
 
 def is_of_a_rest(recording: Recording, timer: Timer) -> bool:
     """Whether a timer may cover the rest of a timeout after a redirect: its goroutine made an earlier timer at the same
-    place that is due at nearly the same time. The timers of two separate requests are as far apart when they are due as
-    when they were made."""
+    place, and that timer is due at nearly the same time. If the timers belong to two separate requests, their due times
+    differ as much as the times at which they were made."""
     return any(
         (one.goid, one.stack) == (timer.goid, timer.stack) and 2 * abs(one.due - timer.due) < timer.time - one.time
         for one in recording.lines.timers.get(0, ())

@@ -39,8 +39,8 @@ def is_elsewhere(index: Index, call: Call, waiter: Waiter, need: Need) -> bool:
 
 
 def is_still_so(index: Index, waiter: Waiter, position: int) -> bool:
-    """Whether nothing has happened since a step on the channels on which a goroutine waits, so that the same goroutines
-    are still needed."""
+    """Whether the waiter still needs the same goroutines: after `position`, no goroutine did the awaited operation on
+    the waiter's channels."""
     lines, objects = index.recording.lines, waiter.wait.objects if waiter.wait else ()
     return not any(
         use.what == GIVES.get(at.use) and use.last > position for at in objects for use in lines.uses.get(at.object, ())
@@ -49,7 +49,7 @@ def is_still_so(index: Index, waiter: Waiter, position: int) -> bool:
 
 def link_says(index: Index, waiter: Waiter, need: Need, is_back: bool, told: list[str]) -> list[str]:
     """The sentences about one goroutine of the chain. If that goroutine waits for the failed call's own goroutine, the
-    sentences leave out the reason of its need."""
+    sentences leave out the reason for its need."""
     more = [*need.says, *need.more] if not (is_back and waiter.call) else need.more
     place = place_in(waiter.stack)
     is_told = bool(place) and any(place in line for line in told)

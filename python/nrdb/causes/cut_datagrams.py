@@ -52,7 +52,7 @@ def made_at(index: Index, read: Call) -> str:
 
 @lru_cache(maxsize=2)
 def cut_datagrams(index: Index) -> tuple[CutDatagram, ...]:
-    """The cut datagrams of a recording, in the order of their Reads. The Reads of each socket are paired with the
+    """The truncated datagrams of a recording, in the order of their Reads. The Reads of each socket are paired with the
     datagrams sent to its address, as long as the lengths fit."""
     found = [pair for socket in sorted(index.by_socket) for pair in cut_at(index, socket)]
     return tuple(sorted(found, key=lambda pair: pair.read.last))
@@ -81,7 +81,8 @@ def sent_to(index: Index, socket: int) -> list[Call]:
 
 
 def causes_of_cuts(index: Index) -> list[Cause]:
-    """Possible causes from cut datagrams: for each line that read cut datagrams, a cause about the first of them."""
+    """Possible causes from truncated datagrams: for each line that read truncated datagrams, a cause about the first of
+    them."""
     found: dict[object, list[CutDatagram]] = defaultdict(list)
     for pair in cut_datagrams(index):
         found[index.recording.lines.of(pair.read.first).own()].append(pair)
@@ -89,16 +90,16 @@ def causes_of_cuts(index: Index) -> list[Cause]:
 
 
 def cause_of(index: Index, pair: CutDatagram, others: int) -> Cause:
-    """The cause for a datagram that was cut, with the number of further cut datagrams."""
+    """The cause for a truncated datagram, with the number of further truncated datagrams."""
     more = [f"{others} more like it."] if others else []
     looks = [f"goto {pair.read.last}", f"calls sock {pair.read.socket}"]
     return Cause(pair.read, [*pair.says(index), *more], [pair.wrote.first, pair.read.first], looks)
 
 
 def cut_says(index: Index, call: Call, position: int) -> list[str]:
-    """Sentences about a Read that waits for a datagram. If the last datagram that the Read's goroutine sent was cut,
-    the sentences say so, and say what the receiver did next. Otherwise they say so if the last datagram that the
-    goroutine received was cut."""
+    """Sentences about a Read that waits for a datagram. If the last datagram that the Read's goroutine sent was
+    truncated, the sentences say so, and say what the receiver did next. Otherwise they say so if the last datagram that
+    the goroutine received was truncated."""
     wrote = index.last_use(call.socket, call.first, ("Write",)) if is_datagram(index, call.socket) else None
     pair = next((one for one in cut_datagrams(index) if wrote and one.wrote is wrote), None)
     if pair is None or pair.wrote.goroutine != call.goroutine or pair.read.last > position:
@@ -123,7 +124,7 @@ def writes_of(index: Index, read: Call) -> set[Stack]:
 
 
 def last_cut(index: Index, call: Call) -> list[str]:
-    """A sentence about the last datagram that was read on a socket before a call, if that datagram was cut."""
+    """A sentence about the last datagram that was read on a socket before a call, if that datagram was truncated."""
     reads = [one for one in index.by_socket[call.socket] if one.name == "Read" and one.moved and one.first < call.first]
     pair = next((one for one in cut_datagrams(index) if reads and one.read is reads[-1]), None)
     return pair.says(index) if pair else []

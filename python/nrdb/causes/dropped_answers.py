@@ -56,7 +56,7 @@ def dropped_answer(index: Index, wait: Waiting, hands: Mapping[int, list[Hand]])
 def hands_of(recording: Recording, wait: Waiting, waiters: Mapping[Name, Waiter]) -> list[Hand]:
     """The goroutines that wait to read and that pass on what they read. Such a goroutine has put values into channels
     from which others took them at the waiter's line, or it is in a function in which another goroutine has done so. If
-    no goroutine has put such a value, the result has the goroutines in functions whose source does so."""
+    no goroutine has put such a value, these are the goroutines in functions with a line that can put one."""
     readers = {name: waiter for name, waiter in waiters.items() if waiter.call and waiter.call.name == "Read"}
     lines, own = recording.lines, wait.stack.own()
     taken = {
@@ -91,8 +91,8 @@ def hand_of(reader: Waiter, line: LineCall) -> Hand:
 
 
 def by_source(recording: Recording, wait: Waiting, readers: Mapping[Name, Waiter]) -> list[Hand]:
-    """The goroutines that read in a function with a line that puts a value into a channel of the name that the waiter
-    uses."""
+    """The goroutines that read in a function and have not yet reached the line at which it puts a value into a channel.
+    The waiter's line uses the same name for the channel."""
     own = wait.stack.own()
     name = RECEIVE.search(text_at(recording, own[0])) if own and own[0].of == OF_THE_PROGRAM else None
     source = source_of(recording, own[0].file) if own and name else None
@@ -108,8 +108,8 @@ def by_source(recording: Recording, wait: Waiting, readers: Mapping[Name, Waiter
 
 
 def request_of(index: Index, wait: Waiting, socket: int) -> Optional[Call]:
-    """The last Write of a goroutine to a socket before it waits. If it made no Write, the first Write of a goroutine to
-    which it passed its request."""
+    """The last Write of a goroutine to a socket before it waits. If the waiter made no Write, the result is the first
+    Write of a goroutine that got the request from the waiter."""
     calls = [] if wait.name.is_goid else index.by_goroutine.get(wait.name.number, [])
     writes = [one for one in calls if one.name == "Write" and one.socket == socket and one.moved and one.last]
     own = next((one for one in reversed(writes) if one.first <= wait.first), None)
@@ -154,8 +154,8 @@ def reads_on(index: Index, goroutine: int, socket: int) -> bool:
 
 
 def says_of(index: Index, wait: Waiting, hand: Hand, wrote: Call, read: Call) -> list[str]:
-    """The sentences about the request, the goroutine that read the answer, and the lines by which that goroutine goes
-    on without passing the answer on."""
+    """The sentences about the request, the goroutine that read the answer, and the lines at which that goroutine
+    continues without passing the answer on."""
     recording, name = index.recording, hand.reader.name
     was = "was" if Name(wrote.goroutine) == wait.name else "was perhaps"
     says = [
@@ -169,12 +169,12 @@ def says_of(index: Index, wait: Waiting, hand: Hand, wrote: Call, read: Call) ->
 
 
 def ways_words(file: str, ways: list[int]) -> str:
-    """Text for the lines by which a goroutine goes on: `a.go:3 goes on`."""
+    """Text for the lines at which a goroutine continues: `a.go:3 goes on`."""
     return f"{' and '.join(f'{file}:{number}' for number in ways)} {'go' if len(ways) > 1 else 'goes'} on"
 
 
 def ways_past(recording: Recording, stack: Stack, file: str, number: int) -> list[int]:
-    """The lines by which a goroutine goes on after its wait without passing a line that puts a value into a channel:
+    """The lines at which a goroutine continues after its wait without reaching a line that puts a value into a channel:
     `continue`, `default:`, or the condition around that line."""
     lines = source_of(recording, file)
     calls = (

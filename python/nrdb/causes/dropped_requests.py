@@ -96,7 +96,7 @@ def is_free(recording: Recording, use: Use, number: int, waiters: Mapping[Name, 
 
 
 def answer_line(recording: Recording, wait: Waiting, file: str, taker: Waiter) -> int:
-    """The line that puts a value into a channel with the name of the channel that the other goroutine waits on. The
+    """The line that puts a value into the channel on which the other goroutine waits, found by the channel's name. The
     line comes after the taker's wait, in a function that the taker is in or in one of its function literals. The result
     is 0 if no such line exists in the file."""
     numbers = [giving.number for giving in givings_at(recording, wait)]

@@ -24,7 +24,7 @@ REQUEST = re.compile(r"\b(\w+) \*http\.Request\b")
 
 
 class EndedBefore(NamedTuple):
-    """A request whose goroutine found the request's context ended before it sent the request."""
+    """A request that its goroutine didn't send, because the request's context had already ended."""
 
     use: Use
 
@@ -76,8 +76,8 @@ def of_a_handler(recording: Recording, goid: int) -> list[str]:
 
 
 def kept_by_a_handler(recording: Recording, stack: Stack) -> list[str]:
-    """The only line of a package at which a handler of net/http keeps the context of its request; empty if the line is
-    in the stack, or if the package has several such lines."""
+    """A sentence about the line that keeps the context of an HTTP handler's request. The list is empty if the stack is
+    that of a handler, or unless the package has exactly one such line."""
     own = stack.own()
     if own is None or any(call.function == SERVE for call in stack.calls):
         return []

@@ -22,8 +22,8 @@ MOST = 50  # the most goroutines to examine
 
 
 def ended_giver(index: Index, wait: Waiting) -> Optional[Need]:
-    """The need for a value, or for room, that goroutines should perhaps have given before they ended; None if no such
-    goroutine is found."""
+    """The need of a goroutine that waits for a value or for room, if other goroutines should perhaps have given it but
+    have ended; else None."""
     own, recording = wait.stack.own(), index.recording
     is_select = wait.kind == A_SELECT
     if not own or own[0].of != OF_THE_PROGRAM or not wait.objects or wait.objects[0].use not in WORDS:
@@ -50,7 +50,7 @@ def givings_of_select(recording: Recording, call: Call) -> list[Giving]:
 
 
 def need_of(index: Index, wait: Waiting, found: list[int], own: Call, number: int) -> Need:
-    """The need, if these goroutines ended before they reached a line."""
+    """The need of a wait. These goroutines ended before they reached the line that would have ended the wait."""
     lines, names = index.recording.lines, [name_of_goid(index.recording.lines, goid) for goid in found]
     known = lines.goroutines[found[0]]
     made = f", started at {known.made.place()}," if known.made else ","

@@ -60,8 +60,9 @@ def time_of(recording: Recording, step: int) -> int:
 
 
 def ended_where(index: Index, name: Name, known: Optional[Stack] = None) -> str:
-    """The last place of a goroutine that ended, as `, last known at a.go:15 in parse, from whose loop only a.go:18
-    leads`; empty if unknown, or if the place is the known line."""
+    """Text for the last known place of a goroutine that ended, and for the lines that leave its loop: `, last known at
+    a.go:15 in parse, from whose loop only a.go:18 leads`. The text is empty if the place is unknown, and omits the
+    place if it is the known line."""
     stack = last_stack(index, name)
     own = [call for call in stack.calls if call.of == OF_THE_PROGRAM and WRAPPED not in call.function] if stack else []
     if not own:
@@ -85,7 +86,7 @@ def loop_words(recording: Recording, stack: Stack) -> str:
 
 
 def ways_out(recording: Recording, call: Call) -> str:
-    """The lines that leave the loop around a line, as text; empty if they are many."""
+    """The lines that leave the loop around a line, as text; empty if there are many."""
     leaves, over = leaves_of(recording, call), ranged_over(recording, call)
     ways = " and ".join(f"{call.file}:{number}" for number in leaves)
     lead = f"lead{'s' if len(leaves) == 1 else ''}"
@@ -95,8 +96,9 @@ def ways_out(recording: Recording, call: Call) -> str:
 
 
 def left_by(index: Index, call: OneCall) -> str:
-    """The line by which a goroutine that ended left the loop in which it made a call, in the form of `ended_where`. If
-    several lines are possible, the result is the first line after the goroutine's last line in that function."""
+    """The line at which a goroutine left the loop around a call that it had made, in the form of `ended_where`. The
+    goroutine has ended. If several lines are possible, the result is the first line after the goroutine's last line in
+    that function."""
     own = index.recording.lines.of(call.first).own()
     leaves = every_leave(index.recording, own[0]) if own and own[0].of == OF_THE_PROGRAM else []
     if not own or not leaves:

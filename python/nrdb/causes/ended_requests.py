@@ -15,7 +15,7 @@ from .unaccepted import unaccepted
 
 def requests_that_ended(recording: Recording, is_late: bool) -> list[Cause]:
     """The requests of net/http's client that ended because a deadline of their context passed or a goroutine cancelled
-    the context. Requests of the same lines are merged."""
+    the context. Requests with the same lines are merged."""
     alike: dict[Hashable, list[CancelledRequest]] = defaultdict(list)
     for one in cancelled_requests(index_of(recording)):
         if one.is_late is is_late:

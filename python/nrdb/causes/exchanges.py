@@ -133,9 +133,9 @@ def unended(index: Index, wrote: Call, read: Call, now: Call) -> list[str]:
 
 def perhaps_why(index: Index, call: Call, now: Call) -> str:
     """Why a goroutine that looks for the end of a line perhaps reads on. The reason concerns the answer if a path skips
-    the answer or its Flush, or if the function writes through a buffer. If the source doesn't show this, the reason
-    concerns the answer if requests of as many Writes were answered before. In all other cases it concerns the
-    request."""
+    the answer or its Flush, or if the function writes through a buffer. If the source isn't available, the reason
+    concerns the answer if an earlier request with the same number of Writes was answered. In all other cases it
+    concerns the request."""
     line = line_reader_of(index, now)
     if not line:
         return ""

@@ -34,7 +34,7 @@ OF_A_SERVER = ("net/http.(*conn).readRequest", "net/http.(*conn).serve")
 OF_CONNECTIONS = ("internal/poll.", "net.", "crypto/tls.")
 OF_A_FILE = "os.(*File)."
 CONN_READ = "net.(*conn).Read"
-DEEP = 3  # the most causes of causes
+DEEP = 3  # the most links in a chain of causes
 
 
 def causes_of(recording: Recording, position: int) -> list[Cause]:
@@ -102,9 +102,9 @@ def of_timeout(index: Index, call: Call, begins: str) -> Cause:
 
 
 def is_of_a_server(stack: Stack) -> bool:
-    """Whether a server of net/http itself set a deadline: the innermost function outside the connection's methods is
-    the server's. A handler may set a deadline too, through its http.ResponseController; in that case the handler is
-    inside the server's function."""
+    """Whether net/http's own server code set a deadline: the innermost function outside the connection's methods is the
+    server's. A handler may set a deadline too, through its http.ResponseController; in that case the handler is inside
+    the server's function."""
     outside = (one.function for one in stack.calls if not one.function.startswith(OF_CONNECTIONS))
     return next(outside, "").startswith(OF_A_SERVER)
 

@@ -150,8 +150,8 @@ def hangs_of(graph: WaitGraph, has_failures: bool) -> list[Hang]:
     """The hangs of the first output. A goroutine that hangs in a read or a select may have nothing to do if no
     goroutine waits for it. Its hang is listed only if nothing else is. If the main goroutine is in such a hang, only
     that hang is listed, because the program ends when the main goroutine does. If the program ended by itself, a hang
-    is listed only if another goroutine waits for it, if it is a deadlock, or if its need `is_odd`. If no hang
-    qualifies, the hangs at a mutex that was left locked are listed."""
+    is listed only if another goroutine waits for its goroutine, if it is a deadlock, or if `is_odd` is set for its
+    need. If no hang qualifies, the hangs at a mutex that was left locked are listed."""
     hangs = [hang for hang in graph.shown if not hang.is_quiet]
     if graph.has_ended:
         hangs = [hang for hang in hangs if not hang.root.is_of_go or hang.is_deadlock]
@@ -246,8 +246,8 @@ def root_sentence(recording: Recording) -> str:
 
 
 def quiet_words(hangs: list[Hang]) -> list[str]:
-    """A sentence with the places where goroutines wait that may have nothing to do; empty if no goroutine waits in this
-    way."""
+    """A sentence about the goroutines that wait because they may have nothing to do, with their places; empty if there
+    are none."""
     count = sum(1 + len(hang.alike) for hang in hangs)
     places = [place.strip() for hang in hangs if (place := place_in(hang.root.stack))]
     at = f", {'; '.join(places[:MOST_HANGS])}{' ..' if places[MOST_HANGS:] else ''}" if places else ""
@@ -257,8 +257,8 @@ def quiet_words(hangs: list[Hang]) -> list[str]:
 
 
 def hang_lines(graph: WaitGraph, hang: Hang, shown: set[int]) -> list[str]:
-    """The lines for a hang: its sentences, a piece of source, and the goroutines that wait. The piece of source begins
-    at the line at which a goroutine stopped that could have gone on; a piece that was shown before is left out."""
+    """The lines for a hang: its sentences, a piece of source, and the goroutines that wait. The source begins at the
+    line where a goroutine stopped although it could have gone on; a piece that was shown before is left out."""
     stopped = 0 if hang.is_deadlock else hang.needs[0].stopped
     source = (
         text_after(graph.recording, stopped) if not any(alike(graph.recording, stopped, one) for one in shown) else []
@@ -279,8 +279,8 @@ def paragraph(says: list[str]) -> list[str]:
 
 
 def is_telling(recording: Recording, call: Call) -> bool:
-    """Whether a failed call is worth printing: it reads, writes or accepts, it isn't by Go's own code alone, and it
-    isn't the Accept of a listener that was closed."""
+    """Whether a failed call is worth printing: it reads, writes or accepts, it wasn't made by Go's own code only, and
+    it isn't the Accept of a listener that was closed."""
     if is_of_go(recording, call) or call.name not in READING + WRITING:
         return False
     return not (call.outcome is Outcome.CLOSED and index_of(recording).is_listening(call))

@@ -40,8 +40,8 @@ def ways_round_a_flush(recording: Recording, stack: Stack) -> str:
 
 
 def unflushed_line(lines: Lines, within: range, read: int, named: Named) -> int:
-    """The line of a function, after its read, that writes into a buffer which isn't flushed before the next read. Other
-    paths of the function call functions that flush. The result is 0 if no such line exists."""
+    """The first line after a function's read that writes into a buffer, if the buffer isn't flushed before the next
+    read although other paths of the function flush. The result is 0 if no such line exists."""
     later = range(read + 1, within.stop)
     habit = any(calls_one_of(code(lines, number), named.flushes) for number in later)
     for number in later if habit else ():
@@ -68,8 +68,8 @@ def flushes_after(lines: Lines, within: range, read: int, written: int, named: N
 
 
 def ways_without_an_answer(recording: Recording, stack: Stack, writes: Iterable[Stack]) -> str:
-    """The paths from a goroutine's read to its next read in the same function that pass none of the lines at which the
-    goroutine has written: `main.go:58 goes on without main.go:60, which answers`; empty if no such path exists."""
+    """The paths that lead from a goroutine's read to its next read in the same function, but skip the lines at which
+    the goroutine has written:  `main.go:58 goes on without main.go:60, which answers`; empty if no such path exists."""
     own = stack.own()
     lines = source_of(recording, own[0].file) if own and own[0].of == OF_THE_PROGRAM else None
     within = range_of(lines, own[0]) if lines and own else None
@@ -86,7 +86,7 @@ def ways_without_an_answer(recording: Recording, stack: Stack, writes: Iterable[
 
 
 def writes_to(writer: str, function: str) -> Test:
-    """A test whether a statement writes into a buffer, directly or through an encoder on top of the buffer."""
+    """A test of whether a statement writes into a buffer, directly or through an encoder on top of the buffer."""
     name = re.escape(writer)
     made = re.findall(rf"\b(\w+) :?= \w+\.NewEncoder\({name}\)", function)
     encoders = "|".join([rf"NewEncoder\({name}\)", *made])

@@ -1,5 +1,5 @@
-"""Text about the goroutines that have done what a goroutine waits for on a channel, and tests whether a goroutine is
-still in a function."""
+"""Text about the goroutines that have already done what another goroutine waits for on a channel. Two functions find
+out whether a goroutine is still in a function."""
 
 from ..all_goroutines import CLOSED, FOR_ROOM, FOR_VALUE, TOOK
 from ..recording import Recording
@@ -38,7 +38,7 @@ def have_ended(recording: Recording, wait: Waiting) -> list[str]:
 
 
 def only_itself(recording: Recording, wait: Waiting) -> str:
-    """Words which say that only the waiting goroutine itself has done, so far, what it waits for."""
+    """A sentence which says that so far only the waiting goroutine itself did the awaited operation; else empty."""
     at, lines = wait.objects[0], recording.lines
     uses = [use for use in lines.uses.get(at.object, ())[:MOST_GIVEN] if use.what == GIVES.get(at.use, "")]
     if not uses or any(name_of_goid(lines, use.goid) != wait.name for use in uses):
@@ -49,7 +49,7 @@ def only_itself(recording: Recording, wait: Waiting) -> str:
 
 
 def is_in(stack: Stack, call: Call) -> bool:
-    """Whether a goroutine is in the function of a call, after the call's line."""
+    """Whether a goroutine is in the function that contains a call, at a later line."""
     return any(one.function == call.function and one.line > call.line for one in stack.calls)
 
 

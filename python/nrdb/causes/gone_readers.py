@@ -40,8 +40,8 @@ def gone_readers(index: Index, position: int) -> Iterator[GoneReader]:
 
 
 def gone_reader(index: Index, socket: int, position: int) -> Optional[GoneReader]:
-    """The reader of a socket that has ended at a position. The result is None if the socket has no such reader or was
-    closed at this end."""
+    """The goroutine that read a socket, if the goroutine had ended at a position. The result is None if no such
+    goroutine exists or if the socket was closed at this end."""
     other = index.recording.lines.peers.get(socket)
     if other is None:
         return None

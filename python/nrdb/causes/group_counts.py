@@ -32,7 +32,7 @@ class Count(NamedTuple):
 
     @property
     def is_once(self) -> bool:
-        """Whether each goroutine called Done only once, as does a goroutine that is started for one task."""
+        """Whether each goroutine called Done only once, as goroutines that run a single task do."""
         return total(self.done) == len(self.done_by)
 
 

@@ -172,7 +172,7 @@ def call_words(recording: Recording, hang: Hang) -> str:
 
 
 def since(waiters: Sequence[Waiter]) -> str:
-    """The steps since which these goroutines wait: `since step 9`, `since steps 9 to 17`."""
+    """Text for the steps at which these goroutines began to wait: `since step 9`, `since steps 9 to 17`."""
     steps = sorted({waiter.since for waiter in waiters})
     return f"since steps {steps[0]} to {steps[-1]}" if len(steps) > 1 else f"since step {steps[0]}"
 

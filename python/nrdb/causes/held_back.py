@@ -130,5 +130,5 @@ def writes_of(lines: Lines, call: LineCall, within: range, is_innermost: bool) -
 
 
 def is_passed(lines: Lines, number: int, line: int) -> bool:
-    """Whether a line comes before another line and in no block that ends between them."""
+    """Whether the block of a line still goes on at a later line."""
     return all(indent_of(lines[at - 1]) >= indent_of(lines[number - 1]) for at in range(number + 1, line + 1))

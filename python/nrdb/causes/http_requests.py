@@ -121,8 +121,8 @@ def is_by_context(stack: Stack) -> bool:
 
 
 def cancelled(index: Index, every: list[Request], ended: Use, close: Use) -> Iterator[CancelledRequest]:
-    """The request that a cancelled context ended: the last request that its goroutine wrote before, if that goroutine
-    then closed the connection."""
+    """The request that a cancelled context ended: the last request that its goroutine wrote before the context was
+    cancelled. The result is empty unless that goroutine then closed the connection."""
     lines = index.recording.lines
     own = [request for request in every if request.goid == ended.goid and request.time < close.begin]
     if not own or own[-1].name.is_goid:
@@ -141,9 +141,10 @@ def cancelled(index: Index, every: list[Request], ended: Use, close: Use) -> Ite
 
 
 def timer_of(recording: Recording, request: Request, close: Use) -> Optional[Timer]:
-    """The timer of the deadline that ended a request's context; None if uncertain. If the client has a Timeout, this is
-    its timer: the last timer that the request's goroutine made for a client at the same line before it handed the
-    request over. Otherwise it is the timer of the program's contexts that was due by then, if there is only one."""
+    """The timer of the deadline that ended a request's context; None if uncertain. If the client has a Timeout, the
+    result is the timer of that Timeout: the request's goroutine made it at the request's line, as the last such timer
+    before the request was handed over. Otherwise, the result is the only timer of the program's contexts that was due
+    by then."""
     stacks = recording.lines.stacks
     timers = [
         timer for some in recording.lines.timers.values() for timer in some

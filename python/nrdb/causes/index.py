@@ -117,9 +117,9 @@ class Index:
         return sum(one.moved or 0 for one in calls if one.name == name and 0 < one.last <= until)
 
     def under_its_deadline(self, call: Call) -> list[Call]:
-        """The calls that ended on the same side of the socket between the step that set a call's deadline and the call,
-        in the order of first steps. The function doesn't scan all calls, because a side may have as many timeouts as
-        calls."""
+        """The calls on the same side of the socket that ended after a call's deadline was set and before the call
+        began, in the order of first steps. The function doesn't scan all calls, because a side may have as many
+        timeouts as calls."""
         side = call.socket, call.name
         if side not in self._ended:
             calls = (one for one in self.by_socket[call.socket] if one.name == call.name and one.last)

@@ -36,7 +36,7 @@ def joined(graph: WaitGraph, order: list[Topic]) -> list[Topic]:
 
 
 def because_of(graph: WaitGraph, hang: Hang, cause: Optional[Cause]) -> str:
-    """The sentence that joins a hang to a failed call; empty if the two are unrelated, or if the reason of the hang
+    """The sentence that joins a hang to a failed call; empty if the two are unrelated, or if the reason for the hang
     isn't known."""
     # (the first sentence of a hang at a write says which goroutine doesn't read)
     is_write = hang.root.call is not None and hang.root.call.name in WRITING

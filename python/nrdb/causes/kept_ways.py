@@ -102,8 +102,8 @@ def gives_on_most_ways(recording: Recording, balances: Iterable[Balance]) -> boo
 
 
 def gives_back(recording: Recording, given: Iterable[Call]) -> Optional[Test]:
-    """A test whether a statement gives something back. The test is derived from the statements that did so, and is None
-    if their text isn't known."""
+    """A test of whether a statement gives something back. The test is derived from the statements that did so, and is
+    None if their text isn't known."""
     patterns = {pattern for line in given if (pattern := pattern_of(text_at(recording, line)))}
     return has("|".join(sorted(patterns))) if patterns else None
 
@@ -121,7 +121,7 @@ def pattern_of(text: str) -> str:
 
 
 def value_of(text: str, form: str) -> Test:
-    """A test whether a statement passes on the value that another statement took."""
+    """A test of whether a statement passes on the value that another statement took."""
     found = TAKEN.match(text)
     hands_on = has(form.format(name=found[1])) if found else nothing
     return lambda statement: hands_on(USES.sub("(", statement))
@@ -157,7 +157,7 @@ def ways_past_close(recording: Recording, stacks: Iterable[Stack]) -> list[str]:
 
 
 def closed_in_a_loop(recording: Recording, call: Call, name: str) -> str:
-    """A sentence about something that a loop makes in each round and that is closed only when the function returns,
+    """A sentence about something that a loop makes in each iteration and that is closed only when the function returns,
     because its Close is deferred; else empty."""
     lines, head = loop_at(recording, call)
     defers = re.compile(rf"\bdefer {re.escape(name)}\.Close\(\)")

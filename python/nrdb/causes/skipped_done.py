@@ -34,7 +34,7 @@ class Rounds(NamedTuple):
 
 
 def skipped_done(recording: Recording, waits: Waits, count: Count, position: int) -> list[str]:
-    """Sentences about the rounds of a loop that ended without Done, if as many calls of Done are missing; none if
+    """Sentences about the iterations of a loop that ended without Done, if as many calls of Done are missing; none if
     unknown."""
     lines = recording.lines
     loops: dict[tuple[str, int], set[Rounds]] = defaultdict(set)

@@ -12,7 +12,7 @@ Test = Callable[[str], bool]
 DIES = re.compile(r"(?:panic|os\.Exit|log\.Fatal\w*|runtime\.Goexit|goto|\w\.Fatal\w*)\b")
 LEAVES = re.compile(r"(return|(?:continue|break)(?: \w+)?)\b")
 ENDLESS = re.compile(r"(?:\w+: *)?for \{$")
-IS_THERE = re.compile(r"if (?!err)\w+ != nil \{$")  # a test whether something was taken
+IS_THERE = re.compile(r"if (?!err)\w+ != nil \{$")  # tests whether something was taken
 GOT = re.compile(r"(?:if |case )?(?:[\w.]+, )*(\w+) :?= ")
 DOES = {"return": "returns", "continue": "goes on", "break": "breaks off", "end": "ends"}
 MANY = {"returns": "return", "goes on": "go on", "breaks off": "break off", "ends": "end"}
@@ -25,12 +25,12 @@ def nothing(_: str) -> bool:
 
 
 def is_text(text: str) -> Test:
-    """A test whether a statement has this text."""
+    """A test of whether a statement has this text."""
     return lambda other: other == text
 
 
 def has(pattern: str) -> Test:
-    """A test whether a statement matches a pattern."""
+    """A test of whether a statement matches a pattern."""
     found = re.compile(pattern)
     return lambda text: found.search(text) is not None
 
