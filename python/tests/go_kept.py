@@ -124,6 +124,7 @@ class Kept(Tool):
             settings = self.environment(NETREV_LOG=str(self.folder / f"log-{turn}"))
             run = subprocess.run(["./prog"], cwd=self.folder, env=settings, capture_output=True, text=True, check=True)
             (log,) = (path for path in self.folder.glob(f"log-{turn}.*") if ".program." not in path.name)
+            self.assertEqual(len(list(self.folder.glob(f"log-{turn}.program.*"))), 1)
             mutex, reading, writing = map(int, run.stdout.split())
             held = {(one.address, one.is_reader) for one in read_log(log).holders or ()}
             self.assertEqual(held, {(mutex, False), (reading, True), (writing, False)})

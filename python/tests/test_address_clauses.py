@@ -11,7 +11,8 @@ import pytest
 from nrdb.all_goroutines import CLOSED, PUT, TOOK, Use
 
 from nrdb.causes import (
-    dropped_answers, dropped_requests, ended_contexts, exchanges, failed_dials, left_in_buffers, needs_elsewhere, source_functions, unheard,
+    deadlines_ahead, dropped_answers, dropped_requests, ended_contexts, exchanges, failed_dials, left_in_buffers, needs_elsewhere,
+    source_functions, unheard, words,
 )  # fmt: skip
 from nrdb.one_call import CLOSE
 from nrdb.waits import Name
@@ -265,3 +266,59 @@ def test_a_writer_that_no_line_flushes(of: str, flushed: str, places: list[str],
     recording = cast(Any, Made(lines=Made(of=lambda step: stacks[step])))
     assert left_in_buffers.never_flushed(recording, cast(Any, Made(first=0))) == says
     assert left_in_buffers.never_flushed(recording, cast(Any, Made(first=1))) == ""
+
+
+@pytest.mark.parametrize(
+    "last, waits_on, is_free", [(None, None, False), (-1, None, False), (9, None, True), (-1, 5, True), (-1, 6, False), (None, 5, True)]
+)  # fmt: skip
+def test_a_goroutine_that_ended_or_waits_for_the_next_request(
+    last: int | None, waits_on: int | None, is_free: bool, monkeypatch: Patch
+) -> None:
+    monkeypatch.setattr(dropped_requests, "name_of_goid", lambda lines, goid: Name(goid))
+    lines = Made(goroutines={} if last is None else {7: Made(last=last)})
+    waiter = Made(wait=None if waits_on is None else Made(objects=[Made(object=waits_on)]))
+    use = Use(5, 7, TOOK, 1, 1, 2, 2, 7, 7)
+    found = dropped_requests.is_free(cast(Any, Made(lines=lines)), use, 5, cast(Any, {Name(7): waiter}))
+    assert found is is_free
+
+
+@pytest.mark.parametrize(
+    "opened, closed, connected, expected",
+    [((3,), (5,), (), 5), ((3, 4), (5, 8), (), 8), ((3,), (5,), (6,), None), ((3, 4), (5, 8), (6,), 8), ((), (), (), None)],
+)  # fmt: skip
+def test_the_last_dial_of_a_goroutine_that_failed(
+    opened: tuple[int, ...],
+    closed: tuple[int, ...],
+    connected: tuple[int, ...],
+    expected: int | None,
+    monkeypatch: Patch,
+) -> None:
+    monkeypatch.setattr(failed_dials, "is_dialed", lambda index, socket: socket in opened)
+    monkeypatch.setattr(
+        failed_dials, "connected_by", lambda index, goroutine: [Made(first=first) for first in connected]
+    )
+    calls = [Made(name=failed_dials.CLOSE, first=first, socket=socket) for socket, first in zip(opened, closed)]
+    lines = Made(of=lambda step: Made(calls=[Made(function=failed_dials.FAILED)]))
+    index = cast(Any, Made(recording=Made(lines=lines), by_goroutine={2: calls}))
+    found = failed_dials.failed_dial(index, 2)
+    assert (found.close.first if found else None) == expected
+
+
+@pytest.mark.parametrize(
+    "place, says",
+    [("a.go:3", "the Read at a.go:3"), ("in net.Dial", "the Read in net.Dial"), ("", "the Read")],
+)
+def test_the_call_whose_deadline_ends_a_wait(place: str, says: str, monkeypatch: Patch) -> None:
+    monkeypatch.setattr(deadlines_ahead, "name_of", lambda recording, call: call.name)
+    index = Made(recording=Made(lines=Made(of=lambda step: Made(place=lambda: place if step == 8 else "b.go:1"))))
+    found = deadlines_ahead.until_words(cast(Any, index), cast(Any, Made(first=8, name="Read")))
+    assert found == f"until the deadline of {says} passes"
+
+
+@pytest.mark.parametrize(
+    "functions, is_connecting",
+    [(("net.(*netFD).connect",), True), (("net.Dial", "net.(*netFD).connect", "main.ask"), True), (("net.Dial", "main.ask"), False), ((), False)],
+)  # fmt: skip
+def test_a_wait_in_a_connect(functions: tuple[str, ...], is_connecting: bool) -> None:
+    stack = Stack(tuple(Call(function, "a.go", 3, OF_GO) for function in functions), None)
+    assert words.is_connecting(stack) is is_connecting

@@ -9,7 +9,7 @@ import pytest
 from nrdb.all_goroutines import CLOSED, FOR_ROOM, FOR_VALUE, PUT, TOOK, At, Use
 
 from nrdb.causes import (
-    dropped_requests, failing, first, leftovers, made_channels, needs, needs_of_mutexes, rpc_calls, sibling_channels, slots, unpassed_ends,
+    balances, cancels, dropped_requests, failing, first, left_locked, leftovers, made_channels, needs, needs_of_channels, needs_of_mutexes, rpc_calls, sibling_channels, slots, unpassed_ends,
 )  # fmt: skip
 from nrdb.causes.senders import Giving
 from nrdb.one_call import CLOSE, Outcome
@@ -378,3 +378,74 @@ def test_a_goroutine_that_ended_after_a_failure(change: dict[str, Any], whose: s
     )
     says = f"Goroutine 4 ended after that, at step 12; goroutine 3 waits{whose}."
     assert found == ([says] if whose else [])
+
+
+@pytest.mark.parametrize(
+    "taking, giving, line, has_value",
+    [
+        ([3], [8], 5, True), ([3], [8], 3, False), ([3], [8], 8, False), ([3], [5, 8], 6, True), ([3], [8, 5], 6, True), ([6], [8], 5, False),
+        ([3, 6], [8], 5, True),
+    ],
+)  # fmt: skip
+@pytest.mark.parametrize("deferred", [False, True])
+def test_a_line_between_taking_a_value_and_giving_it_back(
+    taking: list[int], giving: list[int], line: int, has_value: bool, deferred: bool
+) -> None:
+    in_literal = "main.f.func1" if deferred else "main.f"
+    form = balances.Form(
+        "main.f", TOOK, {line_of(at, "main.f") for at in taking}, {line_of(at, in_literal) for at in giving}
+    )
+    is_taken = min(taking) < line
+    assert form.has_at(line_of(line, "main.f")) is (is_taken if deferred else has_value)
+
+
+@pytest.mark.parametrize("ended, names", [((4, 5), "Goroutine 4 took at a.go:4 (step 14); it has ended."), ((4,), "")])
+def test_a_send_on_a_channel_whose_receivers_have_ended(ended: tuple[int, ...], names: str, monkeypatch: Patch) -> None:
+    monkeypatch.setattr(needs_of_channels, "has_ended", lambda recording, name: name.number in ended)
+    monkeypatch.setattr(needs_of_channels, "place_in", lambda stack: f" at {stack}")
+    monkeypatch.setattr(needs_of_channels, "GIVES_WORDS", {TOOK: "took"})
+    monkeypatch.setattr(needs_of_channels, "have_ended", lambda recording, wait: [f"object {wait.objects[0].object}"])
+    monkeypatch.setattr(needs_of_channels, "index_of", lambda recording: None)
+    monkeypatch.setattr(needs_of_channels, "ended_giver", lambda index, wait: None)
+    given = [
+        Made(name=Name(4), what=TOOK, stack="a.go:4", last=14),
+        Made(name=Name(5), what=TOOK, stack="a.go:5", last=15),
+    ]
+    own = Made(_given=lambda at: given, _recording=None, _does=lambda name, stack: "has ended")
+    wait = waiting([(3, FOR_VALUE), (6, FOR_ROOM)])
+    need = needs_of_channels.NeedsOfChannels._of_ended_takers(cast(Any, own), wait)
+    assert (need.says, need.is_odd) == (([names, "object 6"], True) if names else ([], False))
+
+
+def test_the_last_step_of_the_calls_before_a_step() -> None:
+    calls = [Made(last=last) for last in (3, 7, 0, 9)]
+    index = cast(Any, Made(by_goroutine={2: calls}))
+    found = [cancels.last_step_before(index, 2, step) for step in (3, 4, 8, 9, 10)] + [
+        cancels.last_step_before(index, 1, 10)
+    ]
+    assert found == [0, 3, 7, 7, 9, 0]
+
+
+BLOCK = """\
+	if closed {
+		mu.Unlock()
+		if late {
+			note()
+		}
+
+		return
+	}
+	if late {
+		mu.Unlock()
+		for all {
+			return
+		}
+	}
+	mu.Unlock()
+	return
+"""
+
+
+@pytest.mark.parametrize("number, leaves", [(2, True), (10, False), (15, False)])
+def test_a_block_that_ends_with_a_return(number: int, leaves: bool) -> None:
+    assert left_locked.leaves_block(tuple(BLOCK.split("\n")), number) is leaves

@@ -9,7 +9,7 @@ from typing import Any, cast
 
 import pytest
 
-from nrdb import calls, cli, text_hints
+from nrdb import calls, cli, groups, text_hints
 from nrdb.calls import Book
 from nrdb.messages import texts
 from nrdb.noted import Setting, Use
@@ -191,3 +191,23 @@ def test_a_check_outside_a_call_is_a_call_of_its_own(names: list[str], code: int
     assert (innermost.cause, innermost.passed) == {0: (0, 0), 1: (7, 0), 2: (2, 4)}[code]
     assert all(call.outcome is Outcome.DONE for call in open_calls[:-1])
     assert [call.first for call in book.calls] == ([] if names else [8])
+
+
+def test_a_failed_check_ends_the_innermost_call(monkeypatch: Patch) -> None:
+    failed: list[tuple[str, Outcome]] = []
+    monkeypatch.setattr(calls, "fail", lambda notes, call, outcome: failed.append((call.name, outcome)))
+    open_calls = [Call(1, "Close", 3, 0, 5), Call(1, "Read", 3, 0, 6)]
+    book = Made(open={1: open_calls}, settle=lambda step, goroutine, one: None)
+    calls.checks_again(cast(Any, book), cast(Any, Made(goroutine=lambda g: IDLE, code=2)), 1)(9)
+    assert failed == [("Read", calls.CODES[2])]
+
+
+@pytest.mark.parametrize(
+    "numbers, text",
+    [
+        ([], ""), ([4], "4"), ([5, 4], "4 to 5"), ([1, 3, 4, 5, 9], "1, 3 to 5, 9"), (list(range(0, 16, 2)), "0, 2, 4, 6, 8, 10, 12, 14"),
+        (list(range(0, 18, 2)), "0, 2, 4, 6, 8, 10, 12, 14 .."),
+    ],
+)  # fmt: skip
+def test_goroutines_in_a_row_are_a_range_and_eight_ranges_are_shown(numbers: list[int], text: str) -> None:
+    assert groups._runs(numbers) == text

@@ -3,6 +3,7 @@
 import argparse
 import contextlib
 import io
+import struct
 from collections.abc import Callable, Iterator
 from pathlib import Path
 from types import SimpleNamespace as Made
@@ -10,7 +11,7 @@ from typing import Any, cast
 
 import pytest
 
-from netrev_go import cli, doctor, goroutine_lines, lines, messages, status, testing
+from netrev_go import cli, doctor, goroutine_lines, lines, messages, outputs, status, testing
 from netrev_go.goroutine_lines import Everybody
 from netrev_go.standing import Standing
 from netrev_go.tested import Recordings
@@ -228,3 +229,35 @@ def test_only_the_log_of_a_process_is_still_written(
     monkeypatch.setattr(cli, "convert", convert)
     assert cli.convert_one(argparse.Namespace(words_of_go=logs, pid=pid, o=None)) == 0
     assert "".join("1" if is_written else "0" for is_written in written) == running
+
+
+def elf(size: int) -> bytes:
+    """The file of a program whose header says that each section's entry has this size; .text begins at 128."""
+    header = b"\x7fELF".ljust(40, b"\0") + struct.pack("<Q10xHHH", 64, size, 1, 0)
+    section = struct.pack("<I12xQQ", 0, 0x400, 128).ljust(64, b"\0")
+    return header.ljust(64, b"\0") + section + b".text\0"
+
+
+@pytest.mark.parametrize("size, moved", [(64, 0x1000 - 0x400), (63, None), (24, None)])
+def test_how_far_a_program_s_code_is_moved(tmp_path: Path, size: int, moved: int | None) -> None:
+    program = tmp_path / "program"
+    program.write_bytes(elf(size))
+    assert lines.shift(program, 0x1000) == moved
+
+
+def test_a_folder_without_room_for_recordings_is_refused() -> None:
+    with pytest.raises(Trouble, match="/proc/nowhere"):
+        outputs.look_folder(Path("/proc/nowhere"))
+
+
+def test_output_for_machines_goes_to_a_file_or_to_standard_output(tmp_path: Path, capsys: Output) -> None:
+    came = cast(Any, Made(all_recorded=True))
+    testing.put("-", "one\ntwo\n", came)
+    testing.put(str(tmp_path / "out"), "three\n", came)
+    assert (capsys.readouterr().out, (tmp_path / "out").read_text(), came.all_recorded) == (
+        "one\ntwo\n",
+        "three\n",
+        True,
+    )
+    testing.put(str(tmp_path), "four\n", came)
+    assert not came.all_recorded

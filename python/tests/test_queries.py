@@ -106,6 +106,12 @@ class Ahead(unittest.TestCase):
         self.assertEqual([netrev.ask("print 1"), netrev.ask("print 2")], [Reply("clock = 1"), Reply("clock = 2")])
         self.assertEqual(netrev.sent, [["print 1", "print 2"]])
 
+    def test_the_queries_of_a_run_are_sent_together(self) -> None:
+        netrev = Scripted()
+        session, _ = session_with(netrev)
+        self.assertTrue(answer_run(session, ["print 1", "print 2"]))
+        self.assertEqual(netrev.sent, [["print 1", "print 2"]])
+
     def test_another_line_is_sent_and_what_was_asked_ahead_is_stale(self) -> None:
         netrev = Scripted()
         netrev.ask_ahead(["print 1", "print 2"])

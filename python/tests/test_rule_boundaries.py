@@ -132,7 +132,7 @@ def test_the_number_of_a_thread(maker: Optional[int], number: int) -> None:
 @pytest.mark.parametrize(
     "hit, lines, breaks, wrong, target, reason",
     [
-        (["2"], [], False, [], None, "mark"), ([], [7], False, [], None, "breakpoint"), ([], [], True, [], None, "breakpoint"),
+        (["2", "3"], [], False, [], None, "mark 2"), ([], [7], False, [], None, "breakpoint"), ([], [], True, [], None, "breakpoint"),
         ([], [], False, ["x"], 5, "exception"), ([], [], False, [], 5, "step"), ([], [], False, [], 6, "end or step"),
     ],
 )  # fmt: skip
@@ -147,7 +147,7 @@ def test_why_a_move_of_an_editor_stops(
 ) -> None:
     monkeypatch.setattr("nrdb.dap.moving.told", " ".join)
     own = Made(
-        _marks=Made(reason=lambda number: "mark"), _go_lines=Made(at=lambda position: lines), _filters=Made(at=lambda position: wrong),
+        _marks=Made(reason=lambda number: f"mark {number}"), _go_lines=Made(at=lambda position: lines), _filters=Made(at=lambda position: wrong),
         _session=Made(breaks=Made(hit=lambda position: breaks)), _end_or=lambda reason, move: Made(reason=f"end or {reason}"),
     )  # fmt: skip
     assert Moves._why(cast(Any, own), hit, cast(Any, Made(position=5)), target).reason == reason
