@@ -1,7 +1,7 @@
 // What is above the rows: the whole run with what is in view, the ruler with the steps, and the marks.
 const SIZES = [1, 2, 5].flatMap((one) => Array.from({ length: 12 }, (_, power) => one * 10 ** power)).sort((one, other) => one - other);
 
-// How many calls begin where, in all of the run; with stories, marks, what was found, the part with values, and what is in view.
+// The whole run: how many calls begin at each place, the stories, the marks, the matches, the part with values, and the view.
 function drawOverview(wide) {
   const left = labels(), x = (position) => left + shareOf(position) * room();
   const count = Math.max(1, Math.floor(room()));
@@ -42,7 +42,7 @@ function counted(count) {
   return { bars, most };
 }
 
-// The positions or times, and where there is room the steps that led to the positions; the marks.
+// The positions or times, the marks, and, if there is room, the steps that led to the positions.
 function drawRuler(wide) {
   const step = perStep();
   X.font = `11px ${MONO}`;
@@ -66,7 +66,7 @@ function drawPositions(wide, step) {
   }
 }
 
-// The times in view, at distances that people like.
+// The times in view, at round intervals.
 function drawTimes(wide) {
   const from = timeAt(V.from), long = Math.max(timeAt(V.from + V.span) - from, 1), pixels = room() / long;
   const every = SIZES.find((size) => size * pixels >= 84) ?? SIZES[SIZES.length - 1];
@@ -91,7 +91,7 @@ function drawSteps(step) {
   }
 }
 
-// The kinds of the steps, aslant where columns are narrow.
+// The kinds of the steps, slanted because the columns are narrow.
 function drawSlanted(wide) {
   X.font = `10.5px ${MONO}`;
   X.fillStyle = ink.ink;

@@ -1,11 +1,11 @@
-// Where a position is across the picture: by steps, each as wide as all others, or by time. The recorder's times of the steps are an axis
-// that is true; where only the clock's ticks are known, what lies between two of them is drawn at the first, a hair apart.
+// The horizontal axis: by steps, which all have the same width, or by time. If the recorder logged the steps' times, the axis shows these.
+// If only the clock's ticks are known, all positions between two ticks are drawn close together at the first tick.
 const IS_TRUE = Boolean(D.times.ns);
 let TIMES = timesNow();
 const ALL_TIME = Math.max(TIMES[TIMES.length - 1][1] - TIMES[0][1], 1);
-const HAIR = (ALL_TIME * (IS_TRUE ? 0.001 : 0.05)) / COUNT; // that a step has at least, so that no two are one
+const HAIR = (ALL_TIME * (IS_TRUE ? 0.001 : 0.05)) / COUNT; // the least width of a step, so that no two steps coincide
 
-// The times of some positions: those of the whole run, and in the part with netrev's values each.
+// Positions with their times: inside the part with netrev's values, all known times; outside it, samples of the whole run.
 function timesNow() {
   const own = IS_TRUE ? pairsOf(D.ownTimes) : (D.cells.clock || []).map(([position, value]) => [position, Number(value)]);
   const all = IS_TRUE ? pairsOf(D.times) : D.ticks;
@@ -18,14 +18,14 @@ function pairsOf({ first, last, every, ns = [] }) {
   return ns.map((later, at) => [Math.min(first + at * every, last), (now += later)]);
 }
 
-// The time of a position. Between two that the recorder has it goes on evenly; between two ticks it stands.
+// The time of a position. With the recorder's times, it is interpolated between two known times; with ticks, it is the last tick's time.
 function timeAt(position) {
   const at = Math.max(place(TIMES, position), 0), [step, now] = TIMES[at], next = TIMES[at + 1];
   if (!next || !IS_TRUE) return now;
   return now + ((next[1] - now) * (position - step)) / (next[0] - step);
 }
 
-// How far along the axis a position is, and the position that is so far along it.
+// `along` is the place of a position on the axis. `positionOf` is the position at a place on the axis.
 const along = (position) => (V.byTime ? timeAt(position) + position * HAIR : position);
 function positionOf(far) {
   if (!V.byTime) return far;
@@ -38,7 +38,7 @@ function positionOf(far) {
   return high >= END + 1 ? END + 1 : low;
 }
 
-// What a draw reckons with, measured once: how wide the picture and its labels are, and how far along the axis it begins and reaches.
+// Measured once for each drawing: the sizes of the picture and its labels, and the part of the axis in view, from `base` on, `reach` long.
 const G = { wide: 0, tall: 0, left: 0, room: 1, base: 0, reach: 1, times: 1 };
 function measure() {
   G.wide = C.clientWidth;
@@ -59,13 +59,13 @@ const positionAt = (x) => positionOf(G.base + (x - G.left) / G.times);
 // The share of the whole run that lies before a position.
 const shareOf = (position) => (along(position) - along(BEGIN)) / (along(END + 1) - along(BEGIN));
 
-// Shows what lies from one place of the axis to another.
+// Shows the part of the axis between two places.
 function showAlong(from, to) {
   const first = positionOf(Math.max(from, along(BEGIN)));
   show(first, positionOf(Math.min(to, along(END + 1))) - first);
 }
 
-// Moves the picture by so many pixels.
+// Moves the picture by this many pixels.
 function moveBy(pixels) {
   const all = along(END + 1) - along(BEGIN), long = Math.min(inView(), all);
   const from = Math.min(Math.max(along(V.from) + (pixels / room()) * inView(), along(BEGIN)), along(END + 1) - long);

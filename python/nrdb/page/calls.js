@@ -1,12 +1,12 @@
-// Go's calls, and the stories: what rules and causes say of the run. Their colours say what they are:
-// done, failed, hangs, not ended, waits for connections.
+// Go's calls, and the stories. A story is a suspect or a cause that nrdb found in the run. A call's colour shows its state:
+// done, failed, hangs, hasn't ended, waits for connections.
 const DONE = 0, FAILED = 1, HANGS = 2, OPEN = 3, LISTENS = 4;
 const ENDS = ["", "failed", "hangs", "hasn't ended", "waits for connections"];
 const CALLS = decoded();
 const STORIES = [...D.suspects, ...D.causes];
 const BY_ROW = byRow();
 
-// The numbers of a column of calls: one value that all have, or how many bytes each has and those of all in base64.
+// The numbers of a column of calls. The column is one number for all calls, or the size of a number in bytes and all numbers in base64.
 function numbersOf(told) {
   if (!Array.isArray(told)) return new Array(D.calls.count).fill(told);
   const [wide, packed] = told, letters = atob(packed), bytes = new Uint8Array(letters.length);
@@ -30,7 +30,7 @@ function decoded() {
   return calls;
 }
 
-// The calls of a goroutine on a socket, by both; with how far those up to each reach.
+// The calls of each goroutine on each socket. `reach` has, for each call, the last position at which it or an earlier call of its row ends.
 function byRow() {
   const rows = new Map();
   for (const call of CALLS) {
@@ -43,17 +43,17 @@ function byRow() {
   return rows;
 }
 
-// Behind which position a call is over.
+// The position at which a call ends; END + 1 if it doesn't end.
 function untilOf(call) {
   return call.last || END + 1;
 }
 
-// A goroutine with the function that it runs, where that is known.
+// A goroutine with the function that it runs, if that is known.
 function whoIs(g) {
   return D.names[g] ? `g${g} ${D.names[g]}` : `goroutine ${g}`;
 }
 
-// The place of the first call of a row that may reach to a position.
+// The index of a row's first call that may last until a position.
 function firstCall(row, position) {
   let low = 0, high = row.calls.length;
   while (low < high) {
@@ -80,7 +80,7 @@ function callAt(row, position) {
 
 const storyNow = () => STORIES[V.story];
 
-// A call in words: what came of it, and at which line it stands.
+// A call in words: its name, its result and its line.
 function callWords(call) {
   const came = [ENDS[call.state] && call.state !== FAILED ? ENDS[call.state] : "", call.came].filter(Boolean).join(", ");
   const place = call.line.startsWith("in ") ? call.line : call.line.split(" ")[0];
@@ -91,8 +91,8 @@ function colourOf(call) {
   return { [FAILED]: ink.bad, [HANGS]: ink.bad, [OPEN]: ink.due, [LISTENS]: ink.soft }[call.state] || ink.accent;
 }
 
-// The calls of a goroutine on a socket: red where they failed or hang, hatched to the end of the run where they don't end, and darker
-// below where the goroutine sleeps.
+// The calls of a goroutine on a socket. A call is red if it failed or hangs, and hatched to the end of the run if it doesn't end. Its lower
+// part is darker where the goroutine sleeps.
 function drawCalls(row, y, wide) {
   X.font = `11px ${SANS}`;
   let last = -1;
@@ -119,12 +119,12 @@ function drawCall(call, x, long, y) {
   if (words) X.fillText(words, x + 5, y + V.high / 2 + 0.5);
 }
 
-// Whether a call is one that the story is about: it hangs, or failed at a step of it.
+// Whether the story may be about a call: the call hangs, or it isn't done and contains a step of the story.
 function isOfStory(call) {
   return call.state === HANGS || (call.state !== DONE && (storyNow()?.steps ?? []).some((step) => call.first <= step && step <= untilOf(call)));
 }
 
-// The words of a call before its bar, which has no room for them.
+// The words of a call, drawn before its bar because the bar has no room for them.
 function drawBefore(call, x, long, y) {
   const words = fit(callWords(call), x - labels() - 8), wide = X.measureText(words).width;
   if (!call.last) hatch(x, long, y, colourOf(call), 0);
@@ -134,7 +134,7 @@ function drawBefore(call, x, long, y) {
   X.fillText(words, x - wide - 3, y + V.high / 2 + 0.5);
 }
 
-// A bar below, where the goroutine of a call is parked or queued in it.
+// A lower bar where the call's goroutine is parked or queued.
 function drawSleep(call, x, long, y, colour) {
   const runs = D.cells[`gor ${call.g}`] || [], until = untilOf(call);
   X.fillStyle = colour;
@@ -154,7 +154,7 @@ function hatch(x, long, y, colour, free) {
   X.globalAlpha = 1;
 }
 
-// The steps that the story is made of, with their numbers.
+// The story's steps, with their numbers.
 function drawStory(high) {
   const story = storyNow();
   if (!story) return;

@@ -1,12 +1,12 @@
-// What the page holds, D, and how it is looked up: runs of cells, steps, and where something changes. LIVE is null where the page is
-// a file; else it has the session that the page is of. D.first to D.last is the part of which netrev's values are here; calls and
-// stories are of the whole run.
+// D is the page's data. The functions here look up runs of cells, steps and changes in it. LIVE is null if the page is a file; in the page
+// of a shared session, it has the functions that ask the session. D.first to D.last is the part of the run for which the page has netrev's
+// values; the calls and stories are those of the whole run.
 const $ = (name) => document.getElementById(name);
 const BEGIN = 0, END = D.length;
 const COUNT = END - BEGIN + 1;
 const SIDES = { r: "read", w: "write" };
 
-// The place of the run that a position is in; -1 before the first.
+// The index of the run that contains a position; -1 before the first run.
 function place(runs, position) {
   let low = 0, high = runs.length;
   while (low < high) {
@@ -17,7 +17,7 @@ function place(runs, position) {
   return low - 1;
 }
 
-// Whether netrev's values of a position are here.
+// Whether the page has netrev's values at a position.
 const isHere = (position) => position >= D.first && position <= D.last;
 
 // The value of a cell at a position of the part.
@@ -31,10 +31,10 @@ function valueAt(cell, position) {
 const stepAt = (position) => D.steps[position - D.first] || "";
 const lineAt = (position) => (D.lines.at ? D.lines.texts[D.lines.at[position - D.first]] || "" : "");
 
-// What a value of a cell says in words; empty where it says it all.
+// The meaning of a cell's value in words; empty if the value needs no words.
 const wordsOf = (cell, value) => (D.words[cell.split(" ")[0]] || {})[value] || "";
 
-// Nanoseconds as people read them.
+// A number of nanoseconds in a readable unit.
 function time(nanoseconds) {
   const size = Math.abs(nanoseconds);
   for (const [unit, many] of [["s", 1e9], ["ms", 1e6], ["µs", 1e3]]) {
@@ -46,7 +46,7 @@ function time(nanoseconds) {
 const clockAt = (position) => D.ticks[Math.max(place(D.ticks, position), 0)][1];
 const many = (count, what) => `${count.toLocaleString("en")} ${what}${count === 1 ? "" : "s"}`;
 
-// An element with a text and a class. All text of others comes to the page by this.
+// An element with a text and a class. Text from a recording or a user becomes a text node, never HTML.
 function element(name, text, kind) {
   const made = document.createElement(name);
   if (text !== undefined) made.textContent = text;
@@ -54,7 +54,7 @@ function element(name, text, kind) {
   return made;
 }
 
-// A button that does something, with what a title says of it.
+// A button with its action and, if it has a title, a tooltip.
 function pushed(text, does, title) {
   const button = element("button", text);
   button.type = "button";

@@ -1,13 +1,13 @@
-// The picture: the rows, the arrows of wake-ups, and the stories. It is drawn onto X: the canvas, or what writes it as SVG.
+// The picture: the rows, the arrows of wake-ups, and the stories. It is drawn onto X, which is the canvas, or a Strokes that makes SVG.
 let X = C.getContext("2d");
 const MONO = "ui-monospace, 'DejaVu Sans Mono', monospace", SANS = "system-ui, 'DejaVu Sans', sans-serif";
 const DARK = matchMedia("(prefers-color-scheme: dark)");
 const INKS = "ground panel ink soft line quiet head accent accent-ground bad on-bad due mark hit".split(" ");
 const THIN = ["idle", "nil", "free", "closed"];
-const ARROWS = 400; // so many are drawn at most
+const ARROWS = 400; // if more wake-ups are in view, none is drawn
 let ink = {}, shadeOf = {}, density = null;
 
-// The colours of the style sheet, and of the shades, for a light or a dark ground.
+// Reads the style sheet's colours, and the shades for a light or a dark background.
 function readColours() {
   const style = getComputedStyle(document.documentElement);
   ink = {};
@@ -49,7 +49,7 @@ function drawAll(wide, high) {
   X.restore();
 }
 
-// The rows with all that lies over them.
+// Draws the columns, the rows over them, the arrows over the rows, and the scroll bar.
 function drawBody(wide, high) {
   X.save();
   X.beginPath();
@@ -69,7 +69,7 @@ function drawBody(wide, high) {
   }
 }
 
-// The part without netrev's values, the span and the position that are chosen, and the steps that were found.
+// The part without netrev's values, the chosen span and position, and the steps that were found.
 function drawColumns(wide, high) {
   const column = (from, to, least) => {
     const x = Math.max(xOf(from), labels());
@@ -85,13 +85,13 @@ function drawColumns(wide, high) {
   if (LIVE) drawStand(high);
 }
 
-// Where the middle is of the row of that name at a position: a descriptor has a row for each socket that uses it.
+// The vertical middle of the row with this name at a position. A descriptor has a row for each socket that uses it.
 function middleOf(middles, name, position) {
   const rows = middles[name] || [];
   return rows.find(({ row }) => row.begins === undefined || (row.begins <= position && position < row.ends))?.y;
 }
 
-// Draws the rows in view; where the middles of those of each name are.
+// Draws the rows in view. Returns the vertical middles of all rows, by name.
 function drawRows(wide, high) {
   const middles = {};
   V.rows.forEach((row, at) => {
@@ -121,7 +121,7 @@ function drawHead(row, y, wide) {
   if (!row.isFolded) X.fillText(row.said, from, middle);
 }
 
-// The calls of a row in the head of a connection that is folded.
+// Draws a row's calls. The row's connection is folded, so they are drawn in its head.
 function drawFolded(row, y, wide) {
   let last = -1;
   for (const call of callsIn(row, V.from, V.from + V.span)) {
@@ -144,7 +144,7 @@ function drawLabel(row, y) {
   X.fillText(fit(sign + row.title, labels() - from - 4), from, y + V.high / 2 + 0.5);
 }
 
-// The runs of a row, each a bar; those in which nothing happens are thin.
+// The runs of a row, each as a bar. A run in which nothing happens has a thin bar.
 function drawRow(row, y, wide) {
   const to = V.from + V.span, runs = row.runs, left = labels();
   const begins = row.begins ?? -1, ends = row.ends ?? Infinity;
@@ -180,7 +180,7 @@ function drawBar(row, shade, value, x, wide, y) {
   X.fillText(fit(shown(row, value), wide - 8), x + 4, middle + 0.5);
 }
 
-// The clock: a bar for each time, with the time where it fits.
+// The clock: a bar for each time, with the time as text if it fits.
 function drawClock(row, y, wide) {
   const runs = row.runs;
   let last = -9;
@@ -197,8 +197,8 @@ function drawClock(row, y, wide) {
   }
 }
 
-// The wake-ups in view, as far as they aren't too many: the step, and the middles of the rows of what woke somebody, or where that
-// was, and of who was woken.
+// The wake-ups in view; none if there are too many. Each has its step and two vertical middles: of the row of the goroutine that woke
+// another one, or else of the row where that happened; and of the row of the woken goroutine.
 function arrows(middles) {
   const seen = D.wakes.filter(([step]) => step >= V.from - 1 && step <= V.from + V.span + 1);
   if (seen.length > ARROWS) return [];
@@ -244,12 +244,12 @@ function luminance(colour) {
   return 0.2126 * light(red) + 0.7152 * light(green) + 0.0722 * light(blue);
 }
 
-// Of white and black what stands out more from a colour.
+// White or black, whichever contrasts more with a colour.
 function textOn(colour) {
   return luminance(colour) < 0.185 ? "#ffffff" : "#0d131b";
 }
 
-// What a bar says.
+// The text of a bar.
 function shown(row, value) {
   if (row.kind !== "sock") return value;
   return wordsOf("lock", value).replace(/, (\d+) references?/, " · $1 ref").replace(/^(\d+) references?/, "$1 ref");

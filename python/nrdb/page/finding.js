@@ -1,8 +1,9 @@
-// The search: steps by their text, calls and waits by their line or a function of their stack, and all of a goroutine or a connection.
+// The search finds steps by their text, and calls and waits by their line or a function on their stack. The name of a goroutine or a
+// connection finds what belongs to it.
 const MADE_BY_NONE = /^(?:sockopen|arrive|peerclose|drain|pollevent|tick|pop|fire|spawn)\b/;
-const FOUND = new Map(); // the rows in which calls and waits were found, by the positions at which these begin
+const FOUND = new Map(); // the row of each call or wait that was found, by the position at which it begins
 
-// Marks what has this text, or is of the goroutine or the connection that is named.
+// Marks the steps, calls and waits that have this text, or that belong to the goroutine or the connection that the text names.
 function find(text) {
   const wanted = text.trim(), steps = wanted ? stepsFound(wanted) : [];
   FOUND.clear();
@@ -17,7 +18,7 @@ function find(text) {
   draw();
 }
 
-// The steps of the part with this text, or of the goroutine that is named.
+// The part's steps that have this text, or that the named goroutine made.
 function stepsFound(wanted) {
   const of = /^(?:gor|goroutine) (\d+)$/.exec(wanted), found = [];
   const isHit = of ? (step) => !MADE_BY_NONE.test(step) && step.split(" ")[1] === of[1] : (step) => step.includes(wanted);
@@ -25,7 +26,7 @@ function stepsFound(wanted) {
   return found;
 }
 
-// Whether a text has the one that is wanted, which isn't a part of a greater number: `a.go:3` isn't in `a.go:37`.
+// A test whether one of some texts contains the wanted text. A number matches only whole numbers: `a.go:3` isn't in `a.go:37`.
 function finder(wanted) {
   const spelled = wanted.replace(/[.*+?^${}()|[\]\\]/g, "\\$&");
   const pattern = new RegExp(`${/^\d/.test(wanted) ? "(?<!\\d)" : ""}${spelled}${/\d$/.test(wanted) ? "(?!\\d)" : ""}`);
@@ -39,7 +40,7 @@ function callsFound(wanted) {
   return CALLS.filter((call) => (/^s|^c/.test(what) ? call.s : call.g) === Number(number));
 }
 
-// The waits of a goroutine, or with this text in what they are for, their line or their stack; each with the name of its row.
+// The waits of a goroutine, or the waits with this text in their reason, line or stack. Each has the name of its row.
 function waitsFound(wanted) {
   const [, what, number] = /^(goid|gor|goroutine) (\d+)$/.exec(wanted) || [], has = finder(wanted), found = [];
   for (const [g, waits] of WAITS) {
@@ -49,7 +50,7 @@ function waitsFound(wanted) {
   return found;
 }
 
-// Goes to the next match, or with -1 to the one before, and to the row of a call or a wait that was found there.
+// Goes to the next match, or to the previous one if `way` is -1. If a call or a wait was found there, chooses its row.
 function match(way) {
   if (!V.hits.length) return;
   const ahead = () => V.hits.find((p) => p > V.chosen) ?? V.hits[0];
@@ -60,7 +61,7 @@ function match(way) {
   if (FOUND.has(position)) seeRow(V.row);
 }
 
-// Brings a row into view, whose connection may be folded.
+// Brings a row into view. If the row's connection is folded, unfolds it.
 function seeRow(name) {
   const group = GROUPS.find(([, rows]) => rows.some((row) => row.name === name));
   if (group && FOLDED.delete(group[0])) show(V.from, V.span);

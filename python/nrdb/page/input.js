@@ -1,5 +1,5 @@
 // Wheel, pointers, keys and buttons; and how the page begins.
-const CLICK = 4; // pixels that a pointer moves at most in a click
+const CLICK = 4; // the most pixels that a pointer moves during a click
 const pointers = new Map();
 let drag = null;
 
@@ -69,7 +69,7 @@ function overviewTo(event) {
   showAlong(far - half, far + half);
 }
 
-// Chooses the row and the position; of a call its span is picked, of a head its connection folded.
+// Chooses the row and the position under the pointer. If a call is there, picks its span. If a head is there, folds or unfolds its connection.
 function click(event) {
   const row = rowAt(event.offsetY);
   if (row?.head && row.socket !== undefined) return fold(row.socket);

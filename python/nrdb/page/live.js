@@ -4,21 +4,21 @@ function timeline(D, LIVE) {
 return { stand, setMarks, setPart };
 }
 
-// The page of a shared session: what comes by events, and the line to type. Texts of others become text nodes, and nothing else.
+// The page of a shared session: events from nrdb, and the line to type. Text from nrdb and from other users becomes text nodes, never HTML.
 (() => {
 const $ = (name) => document.getElementById(name);
 const TOKEN = new URLSearchParams(location.search).get("token") || "";
 const MOST = 2000; // lines of the log
-const SLOW = 1000; // milliseconds after which a line without a reply is told of
-const AGAIN = 2000; // milliseconds until nrdb is asked again
+const SLOW = 1000; // milliseconds after which the page says that a line has no reply yet
+const AGAIN = 2000; // milliseconds until the page connects to nrdb again
 const LOST = "nrdb doesn't answer: what is typed isn't answered. Where it was ended, begin it anew, and open the address that it prints";
 const NEXT = /^(\|\s+next:\s+)(\S.*)$/;
 const MOVES = { "<": "reverse-stepi", ">": "stepi", "(": "reverse-next", ")": "next", "{": "reverse-continue", "}": "continue" };
-const KEPT = 200; // lines that were typed, which a reload leaves
-const PART = 8000, SOON = 200; // steps that are asked for round what is seen, and milliseconds until they are
+const KEPT = 200; // the most typed lines that survive a reload
+const PART = 8000, SOON = 200; // steps around the view whose values are asked for, and milliseconds until they are asked for
 const S = { you: "", number: 0, picture: null, isAsked: false, stands: null, marks: [], slow: 0, typed: [], at: 0, part: 0, leaves: false };
 
-// A button that asks for a line which nrdb says to type.
+// A button that sends a line that nrdb suggests.
 function asking(line) {
   const button = document.createElement("button");
   button.type = "button";
@@ -27,7 +27,7 @@ function asking(line) {
   return button;
 }
 
-// Adds a line to the log, which stays at its end where it was there.
+// Adds a line to the log. If the log was scrolled to its end, it stays there.
 function say(text, kind) {
   const log = $("log"), isAtEnd = log.scrollTop + log.clientHeight >= log.scrollHeight - 30;
   const made = document.createElement("div"), next = kind === "added" && NEXT.exec(text);
@@ -44,7 +44,7 @@ function tellGone(text) {
   $("gone").hidden = !text;
 }
 
-// Tells that a line has no reply yet, once it takes long.
+// Says that a line has no reply yet, if the reply takes longer than SLOW.
 function wait(text) {
   clearTimeout(S.slow);
   $("busy").textContent = "";
@@ -99,25 +99,25 @@ const EVENTS = {
   },
 };
 
-// Shows in the timeline where the session stands.
+// Shows the session's position in the timeline.
 function showStand() {
   if (S.picture && S.stands) S.picture.stand(S.stands.position, $("follow").checked);
 }
 
-// Says how far the picture is, as long as there is none.
+// Shows a text about the picture's progress until there is a picture.
 function making(text) {
   if (!S.picture) $("part").textContent = text ? `${text}. Lines are answered meanwhile.` : "";
   $("part").hidden = Boolean(S.picture) || !text;
 }
 
-// What is there under a path, asked for with the token.
+// Fetches JSON from a path, with the token.
 async function fetched(path, headers = {}) {
   const answer = await fetch(path, { headers: { "Netrev-Token": TOKEN, ...headers } });
   if (!answer.ok) throw new Error(await answer.text());
   return answer.json();
 }
 
-// Has the timeline, once.
+// Loads the timeline, unless it is loaded or already requested.
 async function load() {
   if (S.picture || S.isAsked) return;
   S.isAsked = true;
@@ -134,7 +134,7 @@ async function load() {
   S.isAsked = false;
 }
 
-// What is in view has no values of netrev's: they are asked for, once the view stays.
+// Asks for netrev's values around the view, if the view doesn't change for SOON milliseconds.
 function seen(from, to, last) {
   clearTimeout(S.part);
   const first = Math.max(Math.round((from + to - PART) / 2), 0);
@@ -148,7 +148,7 @@ function seen(from, to, last) {
   }, SOON);
 }
 
-// Asks nrdb by a path with a text: why that isn't answered, or the answer.
+// Posts a text to one of nrdb's paths. Returns nrdb's answer as `said`, or as `why` the reason why there is none.
 async function posted(path, text) {
   try {
     const headers = { "Netrev-Token": TOKEN, "Netrev-Browser": String(S.number), "Content-Type": "text/plain;charset=utf-8" };
@@ -160,7 +160,7 @@ async function posted(path, text) {
   }
 }
 
-// Sends a line. What comes of it comes by events.
+// Sends a line. Its output arrives as events.
 async function ask(line) {
   wait(`no reply yet to ${line}`);
   const { why } = await posted("/line", line);
@@ -169,7 +169,7 @@ async function ask(line) {
   say(`not answered: ${line}: ${why}`, "bad");
 }
 
-// Completes the last word before the cursor, as far as all that it can become go together; of several says which.
+// Completes the last word before the cursor, as far as all candidates agree. If there are several candidates, lists them.
 async function complete() {
   const field = $("line"), typed = field.value.slice(0, field.selectionStart), { said } = await posted("/complete", typed);
   const found = said ? JSON.parse(said) : [];
@@ -181,7 +181,7 @@ async function complete() {
   $("busy").textContent = found.length > 1 ? found.slice(0, 40).join("  ") : "";
 }
 
-// Listens to the events. Where they end it is tried again; why they can't be had an answer says, if there is one.
+// Listens to the events. If the connection ends, connects again. If nrdb refuses the connection, shows nrdb's reason.
 function listen() {
   const address = `/events?token=${encodeURIComponent(TOKEN)}`, events = new EventSource(address);
   events.onopen = () => tellGone("");
@@ -200,7 +200,7 @@ function listen() {
   };
 }
 
-// The lines that were typed in this tab, also before a reload.
+// The lines that were typed in this tab, even before a reload.
 function typedBefore() {
   try {
     return JSON.parse(sessionStorage.getItem("typed")) || [];

@@ -56,7 +56,7 @@ function fillRow() {
   if (wait) $("panel").append(waitLine(wait));
 }
 
-// A wait with the calls of the program in its stack, each in a line.
+// A wait with the program's calls on its stack, each on its own line.
 function waitLine(wait) {
   const line = element("p", `${wait.does}, since ${wait.first}`);
   line.append(...wait.stack.split(", ").filter(Boolean).map((call) => element("small", call)));
@@ -89,7 +89,7 @@ function stepLine(label, text, position, none) {
   return line;
 }
 
-// A table of cells with their values, with those before where `before` tells them.
+// A table of cells with their values. If `before` is given, it returns a cell's previous value, and the table shows that too.
 function fillTable(title, cells, values, before) {
   if (!cells.length) return;
   const table = element("table");
@@ -106,16 +106,16 @@ function fillTable(title, cells, values, before) {
   $("panel").append(element("h2", title + more), table);
 }
 
-// A time of the whole machine as people read it.
+// The time in the cell `clock` or `least`, in a readable unit.
 function timeWords(cell, value) {
   if (cell !== "clock" && cell !== "least") return "";
   return value === "absent" ? "no timer" : time(Number(value));
 }
 
-// Leads a live session to the chosen position; a page alone copies the line that does.
+// Moves a shared session to the chosen position. If the page is a file, copies the command for that.
 const goThere = () => lookAt(`goto ${V.chosen}`);
 
-// Asks a live session for a line; a page alone copies it.
+// Sends a line to a shared session. If the page is a file, copies the line.
 function lookAt(line) {
   if (LIVE) LIVE.ask(line);
   else copy(line);

@@ -1,14 +1,15 @@
-// The rows: by connection, which is a socket with the calls on it, the sides of descriptors in its uses and the goroutines that have
-// most to do with it; last the goroutines that make no step. Those in which nothing happens in view are left out, and so are those that a filter or a fold leaves out.
+// The rows, in groups. A connection's group has its socket, the calls on it, the sides of the descriptors that it uses, and the goroutines
+// that have most to do with it. The last group has the goroutines that make no step. Rows are left out if nothing happens
+// in them in the view, or if a filter or a fold hides them.
 const RANK = { call: 0, sock: 1, desc: 2, due: 3, gor: 4, wait: 5 };
 const STILL = { gor: ["gone", ""], sock: ["closed", ""], desc: ["nil", ""] };
 const FOLDED = new Set(), PINNED = new Set();
-const MANY = 40; // connections from which on they begin folded, but for those of a story
-const ONLY = { s: null, g: null }; // the connection and the goroutine that a filter leaves
+const MANY = 40; // if there are more groups, all begin folded except those of a story
+const ONLY = { s: null, g: null }; // the connection and the goroutine to which a filter limits the rows
 let GROUPS = grouped();
 if (GROUPS.length > MANY) for (const [socket] of GROUPS) if (!ofStories().has(socket)) FOLDED.add(socket);
 
-// The groups that stories are about: sockets, and the goroutines that make no step.
+// The groups of the stories: sockets, and the goroutines that make no step.
 function ofStories() {
   return new Set(STORIES.map(groupOf).filter((group) => group !== null));
 }
@@ -18,7 +19,8 @@ function groupOf(story) {
   return story.s ?? (story.goid === undefined ? null : OTHERS);
 }
 
-// A row's parts: name, kind, title, runs with a shade each, and of a descriptor's side where its uses begin and end.
+// The groups with their rows. A row has a name, a kind, a title, and runs with a shade each. For a side of a descriptor, it also has the
+// positions at which its uses begin and end.
 function grouped() {
   const groups = new Map();
   const add = (socket, row) => {
@@ -48,7 +50,7 @@ function addRow(add, row) {
   add(D.groups[number] ?? -1, { ...row, kind, runs, g, waits, title: `goroutine ${number}` });
 }
 
-// The uses of descriptors in the part, those of one descriptor by one socket together: from which position to which each is.
+// The uses of descriptors in the part, grouped by descriptor and socket. Each use is a pair: the positions at which it begins and ends.
 function usesBySocket() {
   const found = new Map();
   for (const [d, socket, begins, ends] of D.uses) {
@@ -60,7 +62,7 @@ function usesBySocket() {
   return found.values();
 }
 
-// The rows of a side of a descriptor in its uses by a socket: its word, and its deadline if there ever is one.
+// Adds the rows for one side of a descriptor that a socket uses: its wait word, and its deadline if it ever has one.
 function addSide(add, row, socket, d, side, uses) {
   if (!row) return;
   const due = ([, value]) => (value === "0" || value === "absent" ? "" : value < 0 ? "passed" : "due");
@@ -70,7 +72,7 @@ function addSide(add, row, socket, d, side, uses) {
   if (deadline.shades.some(Boolean)) add(socket, { ...span, ...deadline, name: `due ${d} ${side}`, cell, kind: "due", title: `${SIDES[side]} deadline` });
 }
 
-// The runs of a cell that are in these uses, with their shades; between two uses nothing.
+// The runs of a cell during these uses, with their shades. Between two uses, the value is absent.
 function inUses(runs, shades, uses) {
   const kept = { runs: [], shades: [] };
   const put = (position, value, shade) => {
@@ -86,7 +88,7 @@ function inUses(runs, shades, uses) {
   return kept;
 }
 
-// What tells a row from all others: a descriptor's number may be another socket's later, in a row of that.
+// A key that only this row has. Another socket may use the descriptor later; then that socket's row has the same name.
 const keyOf = (row) => (row.begins === undefined ? row.name : `${row.name} ${row.begins}`);
 const rowNow = () => V.rows.find((row) => row.name && keyOf(row) === V.row);
 
@@ -108,14 +110,15 @@ function lives(row, from, to) {
   return false;
 }
 
-// Whether a filter leaves a row of a connection: all of the chosen connection, and of the chosen goroutine its own.
+// Whether the filter shows a row of a connection. It shows the rows of the chosen connection, or of the chosen goroutine. Pinned rows are
+// always shown.
 function isLeft(socket, row) {
   if (PINNED.has(keyOf(row))) return true;
   return (ONLY.s === null || ONLY.s === socket) && (ONLY.g === null || row.g === ONLY.g);
 }
 
-// The rows that are shown between two positions, those that are pinned first, then each group under its head; with `all`, those too in
-// which nothing happens.
+// The rows to show between two positions: first the pinned rows, then each group under its head. With `all`, rows in which nothing
+// happens are shown too.
 function rowsBetween(from, to, all) {
   const clock = { title: "clock", kind: "clock", name: "clock", cell: "clock", runs: D.ticks, shades: [] };
   const shown = D.ticks.length > 1 ? [clock] : [];
@@ -130,7 +133,7 @@ function rowsBetween(from, to, all) {
   return shown;
 }
 
-// The head of a connection's rows. Folded, it has the calls of all of them.
+// The head of a connection's rows. If the connection is folded, its head has the calls of all its rows.
 function headOf(socket, rows) {
   const who = new Set(rows.map((row) => row.g ?? row.name).filter((g) => Number.isInteger(g) || socket === OTHERS)).size, peer = D.peers[socket];
   const asked = (D.requests[socket] || []).join("; ");
@@ -155,7 +158,7 @@ function pin(row) {
   show(V.from, V.span);
 }
 
-// Leaves only a connection, or only a goroutine; with nulls, all rows.
+// Limits the rows to a connection or a goroutine. If both are null, shows all rows.
 function only(socket, goroutine) {
   Object.assign(ONLY, { s: socket, g: goroutine });
   V.top = 0;
@@ -163,5 +166,5 @@ function only(socket, goroutine) {
   fillPanel();
 }
 
-// The connection that a row is of.
+// The connection to which a row belongs.
 const socketOf = (row) => GROUPS.find(([, rows]) => rows.includes(row))?.[0] ?? null;

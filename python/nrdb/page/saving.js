@@ -1,10 +1,10 @@
-// Saves what is in view as a picture: PNG by the canvas, SVG by what writes down each stroke in its place.
+// Saves the view as a picture: as PNG from the canvas, or as SVG from Strokes, which records each stroke.
 const round = (number) => Math.round(number * 100) / 100;
 const PAINTS = ["fillStyle", "strokeStyle", "globalAlpha", "lineWidth", "font", "textAlign"];
 const ESCAPES = { "&": "&amp;", "<": "&lt;", ">": "&gt;", '"': "&quot;" };
 const escaped = (text) => String(text).replace(/[&<>"]/g, (letter) => ESCAPES[letter]);
 
-// Takes the strokes that a canvas takes, and has them as elements of SVG.
+// Strokes has the canvas's drawing methods, and turns each stroke into an SVG element.
 class Strokes {
   constructor(measuring) {
     Object.assign(this, { measuring, parts: [], path: [], kept: [], clips: 0, clipped: "", place: [1, 0, 0, 1, 0, 0], dashes: "" });
@@ -76,7 +76,7 @@ class Strokes {
   }
 }
 
-// What is in view as a text of SVG, with the sentence of its story.
+// The view as SVG, described by the chosen story's text.
 function svgOf() {
   const canvas = X, wide = C.clientWidth, high = C.clientHeight, strokes = new Strokes(canvas);
   X = strokes;

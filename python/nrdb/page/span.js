@@ -1,4 +1,4 @@
-// A span of steps that is picked: how long it is, which calls lie in it, and how long goroutines slept there.
+// The picked span of steps: how long it is, which calls lie in it, and how long goroutines slept in it.
 function pick(one, other) {
   V.picked = { from: Math.min(within(one), within(other)), to: Math.max(within(one), within(other)) };
   fillPanel();
@@ -10,7 +10,7 @@ function unpick() {
   V.edge = undefined;
 }
 
-// A first press takes the chosen position for an end of the span, a second one for the other end.
+// The first press makes the chosen position one end of the span. The second press makes the position that is chosen then the other end.
 function pickEdge() {
   if (V.edge === undefined) {
     V.edge = V.chosen;
@@ -22,7 +22,7 @@ function pickEdge() {
   pick(begun, V.chosen);
 }
 
-// The sums of a span, each a name and what is to be said of it.
+// The summary of a span, as pairs of a name and a text.
 function sumsOf({ from, to }) {
   const calls = CALLS.filter((call) => call.first <= to && untilOf(call) > from && isShown(call));
   const sums = [["steps", `${from} to ${to}, ${many(to - from, "step")}`], ["time", time(timeAt(to) - timeAt(from))]];
@@ -36,7 +36,7 @@ function sumsOf({ from, to }) {
   return sums;
 }
 
-// Whether a filter leaves the calls of its connection and goroutine.
+// Whether the filter shows a call.
 const isShown = (call) => (ONLY.s === null || ONLY.s === call.s) && (ONLY.g === null || ONLY.g === call.g);
 
 function tally(names) {
@@ -45,7 +45,7 @@ function tally(names) {
   return counts;
 }
 
-// How long goroutines slept between two positions, as far as netrev's values of these are here.
+// How long goroutines slept between two positions; empty if the page lacks netrev's values at one of them.
 function sleptIn(from, to) {
   if (!isHere(from) || !isHere(to)) return "";
   let who = 0, steps = 0, long = 0;

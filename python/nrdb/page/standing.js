@@ -1,5 +1,5 @@
-// Where a live session stands, whoever moved it, its marks, and the part of the run of which it has given netrev's values.
-const SEEN = 6000; // steps in view, up to which their values are asked for
+// The position of a shared session, which any user may move; its marks; and the part of the run whose values it has sent.
+const SEEN = 6000; // if more steps are in view, their values aren't asked for
 function drawStand(high) {
   if (xOf(D.position) < labels()) return;
   X.fillStyle = ink.hit;
@@ -11,7 +11,7 @@ function drawStandAbove(x) {
   X.fillRect(x - 1, 2, 3, 34);
 }
 
-// The session has moved; with `follows` the chosen position goes along.
+// Shows the session's new position. With `follows`, also chooses it.
 function stand(position, follows) {
   D.position = position;
   if (follows) choose(position, true);
@@ -28,13 +28,13 @@ function setPart(part) {
   show(V.from, V.span);
 }
 
-// Asks a live session for netrev's values of what is in view, where there is room for them and they aren't here.
+// Asks a shared session for netrev's values in the view, if at most SEEN steps are in view and the page lacks values of them.
 function askForView() {
   const from = Math.max(Math.floor(V.from), BEGIN), to = Math.min(Math.ceil(V.from + V.span), END);
   if (LIVE && to - from <= SEEN && (from < D.first || to > D.last)) LIVE.seen(from, to, END);
 }
 
-// The positions of a mark, as far as they are shown: behind the changes of a cell, before a step, before the steps of a kind.
+// The positions of a mark in the part: after each change of a cell, before a step, or before each step of a kind.
 function hitsOf(what) {
   const [sort, ...rest] = what.split(" "), marked = rest.join(" ");
   if (sort === "watch") return (D.cells[marked] || []).slice(1).map(([position]) => position);

@@ -1,4 +1,4 @@
-// What hovering tells, and the help.
+// The tooltip, and the help.
 const KEYS = [
   ["← →", "a position back, ahead"],
   ["Home End", "start, end"],
@@ -28,7 +28,7 @@ const SOURCE = [
 const STATES = [[DONE, "a call; darker below: its goroutine sleeps"], [FAILED, "it failed"], [HANGS, "it hangs, to the end"], [OPEN, "it hasn't ended"],
   [LISTENS, "it waits for connections"]];
 
-// What is said of what the pointer is over; nothing where it is over nothing.
+// Shows the tooltip for what is under the pointer, if something is.
 function hover(event) {
   const tip = $("tip"), row = rowAt(event.offsetY), position = Math.floor(positionAt(event.offsetX));
   tip.style.display = "none";
@@ -41,7 +41,7 @@ function hover(event) {
   tip.style.top = `${Math.min(event.clientY + 16, innerHeight - tip.offsetHeight - 8)}px`;
 }
 
-// What is told of a run of a row's cell.
+// The tooltip for a run of a row's cell.
 function tellRun(row, position) {
   const at = place(row.runs, position), wait = waitAt(row, position);
   if (wait) return tellWait(row, wait);
@@ -88,7 +88,7 @@ function rowAt(y) {
   return y < V.head ? undefined : V.rows[Math.floor((y - V.head + V.top) / V.high)];
 }
 
-// A colour with what it means.
+// A colour with its meaning.
 function legend(colour, says) {
   const item = element("li"), box = element("i");
   box.style.background = colour;

@@ -1,19 +1,19 @@
-// What is in view: from which position, how many, which rows, which position, story, row and span are chosen, and what was found.
+// V is the view: its first position, its number of positions, its rows, the chosen position, story, row and span, and the matches.
 const LOW = 74, TALL = 116; // pixels above the rows, without and with steps
 const V = {
   from: BEGIN, span: COUNT, top: 0, rows: [], high: 18, head: LOW, chosen: within(D.position), row: "", hits: [], story: 0, byTime: false,
   picked: null,
 };
-const EDGE = 26, NARROW = 700; // pixels that are left free at the right; of a narrow screen
-const WIDE = 64, SLANTED = 16; // pixels for a step from which it is written, and is so aslant
-const WHOLE = 400; // steps that are shown all at first
+const EDGE = 26, NARROW = 700; // pixels that are left free at the right; the width of a narrow screen
+const WIDE = 64, SLANTED = 16; // if a step has at least this many pixels, its text is shown in full, or its kind is shown slanted
+const WHOLE = 400; // a run with at most this many steps is at first shown whole
 const C = $("picture");
 
 function within(position) {
   return Math.min(Math.max(position, BEGIN), END);
 }
 
-// Shows so many positions from this one on.
+// Shows `span` positions, beginning with `from`.
 function show(from, span) {
   V.span = Math.min(Math.max(span, Math.min(4, COUNT)), COUNT);
   V.from = Math.min(Math.max(from, BEGIN), END + 1 - V.span);
@@ -40,7 +40,7 @@ function scroll(top) {
   V.top = Math.min(Math.max(top, 0), Math.max(most, 0));
 }
 
-// Zooms by a factor round a position.
+// Zooms by a factor around a position.
 function zoom(factor, round) {
   const at = along(round ?? (V.chosen >= V.from && V.chosen <= V.from + V.span ? V.chosen + 0.5 : V.from + V.span / 2));
   const from = along(V.from), to = along(V.from + V.span);
@@ -56,7 +56,7 @@ function choose(position, see) {
   else draw();
 }
 
-// Shows a story: its steps, and its connection at the top.
+// Chooses a story, zooms to its steps, and scrolls its connection to the top.
 function showStory(at) {
   V.story = at;
   const story = STORIES[at], first = story.steps[0], last = story.steps[story.steps.length - 1];
@@ -69,7 +69,7 @@ function showStory(at) {
   choose(story.step, true);
 }
 
-// Marks which story is told.
+// Chooses a story, and marks its button.
 function takeStory(at) {
   V.story = at;
   [...$("suspects").children].forEach((button, place) => {
@@ -78,8 +78,8 @@ function takeStory(at) {
   });
 }
 
-// How the page begins: at the first story, unless the session or the address is elsewhere; a short run is shown all, and so is a part that
-// was asked for. Without a story a page of a part begins in that part, at a position whose values are here.
+// The first view. It shows the first story, unless the session or the address names another position. A short run is shown whole, and so
+// is a part that the user asked for. Without a story, a page of a part begins in that part, at a position whose values the page has.
 function begin() {
   const isElsewhere = chosenByAddress() || D.position > BEGIN || LIVE, hasAll = D.first <= BEGIN && D.last >= END;
   if (STORIES.length) takeStory(0);
@@ -93,15 +93,15 @@ function begin() {
   else fillPanel();
 }
 
-// Goes to the next step of the story, or to the one before.
+// Goes to the next step of the story, or to the previous one.
 function alongStory(way) {
   const steps = storyNow()?.steps ?? [];
   const next = way > 0 ? steps.find((step) => step > V.chosen) : steps.filter((step) => step < V.chosen).pop();
   if (next !== undefined) choose(next, true);
 }
 
-// Goes to the next change in the row that was clicked, or to the one before; of a descriptor's to those in its use, of calls to where
-// one begins or ends.
+// Goes to the next change in the chosen row, or to the previous one. In a descriptor's row, only changes during its uses count. In a row
+// of calls or waits, a change is where one begins or ends.
 function change(way) {
   const row = rowNow() || V.rows.find((one) => one.kind === "gor");
   if (!row) return;

@@ -1,8 +1,10 @@
-// The waits outside of the poller: of goroutines that have steps in their own rows, and of the others in rows of a group of their own.
+// The waits outside the poller. A goroutine that makes steps has its waits in its own row. The other goroutines have rows in a separate
+// group.
 const OTHERS = -2; // the group of goroutines that make no step
 const WAITS = waitsByGoroutine();
 
-// The waits, each with its parts by name, by the goroutine's number; one that makes no step has the number -1 less its place in `others`.
+// The waits by the goroutine's number, each with named fields. A goroutine that makes no step has the number -1 - i, where i is its index in
+// `others`.
 function waitsByGoroutine() {
   const { rows, texts } = D.waits, found = new Map();
   for (const [g, first, last, does, line, stack] of rows) {
@@ -41,7 +43,7 @@ function drawWaits(row, y, wide) {
   }
 }
 
-// What is said of the goroutines for which the page has no room.
+// The text about goroutines for which the page has no room.
 function leftOut() {
   const [goroutines, waits] = D.waits.left_out;
   const said = [goroutines ? many(goroutines, "goroutine") : "", waits ? many(waits, "wait") : ""].filter(Boolean).join(", ");
