@@ -449,3 +449,33 @@ BLOCK = """\
 @pytest.mark.parametrize("number, leaves", [(2, True), (10, False), (15, False)])
 def test_a_block_that_ends_with_a_return(number: int, leaves: bool) -> None:
     assert left_locked.leaves_block(tuple(BLOCK.split("\n")), number) is leaves
+
+
+@pytest.mark.parametrize(
+    "change, says",
+    [
+        ({}, "goroutine 4 had cancelled it at a.go:7 (step 30)."), ({"what": PUT}, "the timeout of 5s"), ({"closer": 5}, "the timeout of 5s"), ({"end": 20}, "goroutine 4 had cancelled it at a.go:7 (step 30)."),
+        ({"end": 21}, "the timeout of 5s"), ({"of": "main.f"}, "the timeout of 5s"), ({"of": "main.f", "limits": False}, "goroutine 4 had cancelled it (step 30)."), ({"function": "main.f"}, ""),
+        ({"made": False}, ""),
+    ],
+)  # fmt: skip
+def test_a_function_that_a_context_s_end_started(change: dict[str, Any], says: str, monkeypatch: Patch) -> None:
+    usual = {
+        "what": CLOSED, "closer": 4, "end": 12, "of": cancels.OF_A_CONTEXT, "limits": True, "function": cancels.AFTER_FUNC, "made": True,
+    }  # fmt: skip
+    case = Made(**(usual | change))
+    monkeypatch.setattr(cancels, "has", lambda stack, function: function == cancels.OF_A_CONTEXT and stack[1] == function)
+    monkeypatch.setattr(cancels, "limits_before", lambda recording, begin, least: ["5s"] if case.limits and begin == 20 else [])
+    monkeypatch.setattr(cancels, "limit_says", lambda index, limits: f"the timeout of {limits[0]}")
+    monkeypatch.setattr(cancels, "place_in", lambda stack: f" at {stack[0]}")
+    monkeypatch.setattr(cancels, "name_of_goid", lambda lines, goid: Name(goid))
+    monkeypatch.setattr(cancels, "deferred_says", lambda index, cancel: [f"deferred {cancel.use.end}"])
+    uses = [
+        Made(what=case.what, goid=case.closer, end=case.end, stack=1), Made(what=CLOSED, goid=4, end=9, stack=2),
+    ]  # fmt: skip
+    known = Made(made=Made(function=case.function) if case.made else None, maker=4, begin=20, first=30)
+    stacks = {1: ("a.go:7", case.of), 2: ("a.go:9", "main.g")}
+    lines = Made(goroutines={70: known}, goid_of=lambda goroutine, step: goroutine * 10, uses={5: uses}, stacks=stacks)
+    found = cancels.after_says(cast(Any, Made(recording=Made(lines=lines))), 33, 7)
+    more = [f"deferred {case.end}"] if "at a.go" in says else []
+    assert found == ([f"context.AfterFunc called that as its context ended: {says}", *more] if says else [])

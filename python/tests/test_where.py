@@ -200,3 +200,11 @@ class Files(unittest.TestCase):
 
 def text_of(lines: list[Any]) -> bytes:
     return "".join(f"{json.dumps(line)}\n" for line in lines).encode()
+
+
+def test_the_time_at_which_the_lines_were_written(tmp_path: Path) -> None:
+    name = tmp_path / "a.where"
+    name.write_text('{"where":2,"steps":3}\n')
+    os.utime(name, (1_000, 2_000))
+    lines = Lines.beside(str(tmp_path / "a.jsonl"), 3)
+    assert (lines.written, lines.fault) == (2_000, "")
