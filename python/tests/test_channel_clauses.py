@@ -9,7 +9,7 @@ import pytest
 from nrdb.all_goroutines import CLOSED, FOR_ROOM, FOR_VALUE, PUT, TOOK, At, Use
 
 from nrdb.causes import (
-    balances, cancels, dropped_requests, failing, first, left_locked, leftovers, made_channels, needs, needs_of_channels, needs_of_mutexes, rpc_calls, sibling_channels, slots, unpassed_ends,
+    balances, cancels, dropped_requests, failing, first, left_locked, leftovers, made_channels, mutex_holders, needs, needs_of_channels, needs_of_mutexes, rpc_calls, sibling_channels, slots, unpassed_ends,
 )  # fmt: skip
 from nrdb.causes.senders import Giving
 from nrdb.one_call import CLOSE, Outcome
@@ -464,8 +464,12 @@ def test_a_function_that_a_context_s_end_started(change: dict[str, Any], says: s
         "what": CLOSED, "closer": 4, "end": 12, "of": cancels.OF_A_CONTEXT, "limits": True, "function": cancels.AFTER_FUNC, "made": True,
     }  # fmt: skip
     case = Made(**(usual | change))
-    monkeypatch.setattr(cancels, "has", lambda stack, function: function == cancels.OF_A_CONTEXT and stack[1] == function)
-    monkeypatch.setattr(cancels, "limits_before", lambda recording, begin, least: ["5s"] if case.limits and begin == 20 else [])
+    monkeypatch.setattr(
+        cancels, "has", lambda stack, function: function == cancels.OF_A_CONTEXT and stack[1] == function
+    )
+    monkeypatch.setattr(
+        cancels, "limits_before", lambda recording, begin, least: ["5s"] if case.limits and begin == 20 else []
+    )
     monkeypatch.setattr(cancels, "limit_says", lambda index, limits: f"the timeout of {limits[0]}")
     monkeypatch.setattr(cancels, "place_in", lambda stack: f" at {stack[0]}")
     monkeypatch.setattr(cancels, "name_of_goid", lambda lines, goid: Name(goid))
@@ -479,3 +483,43 @@ def test_a_function_that_a_context_s_end_started(change: dict[str, Any], says: s
     found = cancels.after_says(cast(Any, Made(recording=Made(lines=lines))), 33, 7)
     more = [f"deferred {case.end}"] if "at a.go" in says else []
     assert found == ([f"context.AfterFunc called that as its context ended: {says}", *more] if says else [])
+
+
+@pytest.mark.parametrize(
+    "is_cut, are_known, counts", [(False, False, True), (True, False, False), (True, True, True), (False, True, True)]
+)
+def test_bytes_that_were_never_read_in_a_recording_of_a_part(
+    is_cut: bool, are_known: bool, counts: bool, monkeypatch: Patch
+) -> None:
+    read, wrote = Made(first=5, last=6, steps=lambda: "step 5"), Made(first=3, last=4, steps=lambda: "step 3")
+    monkeypatch.setattr(leftovers, "is_cut", lambda recording, index, sockets: is_cut)
+    monkeypatch.setattr(leftovers, "are_known", lambda index: are_known)
+    monkeypatch.setattr(leftovers, "moved_at", lambda index, socket, name, until: 9 if name == "Write" else 4)
+    monkeypatch.setattr(
+        leftovers, "first_beyond", lambda index, socket, count: wrote if (socket, count) == (1, 4) else None
+    )
+    monkeypatch.setattr(leftovers, "is_of_go", lambda recording, call: False)
+    monkeypatch.setattr(leftovers, "told", lambda recording, call: f"call {call.first}")
+    monkeypatch.setattr(leftovers, "came_of", lambda recording, call: "which got 4 bytes")
+    monkeypatch.setattr(leftovers, "place_of_step", lambda recording, step, goroutine: f" in step {step}")
+    lines = Made(peers={1: 2}, of=lambda step: Made(calls=()))
+    index = Made(
+        recording=Made(lines=lines, length=20), by_socket={1: [], 2: []}, closing=lambda socket, until, whole: Made(first=8, goroutine=3),
+        last_use=lambda socket, until, names: read,
+    )  # fmt: skip
+    causes = list(leftovers.never_read(cast(Any, index)))
+    assert [cause.says[0] for cause in causes] == ["5 bytes that call 3 wrote in step 3 were never read."] * counts
+
+
+@pytest.mark.parametrize("lines, says", [((4,), " at a.go:4"), ((), "")])
+def test_a_mutex_that_no_goroutine_holds(lines: tuple[int, ...], says: str, monkeypatch: Patch) -> None:
+    monkeypatch.setattr(mutex_holders, "copies_says", lambda recording, call: f" at {call.place()}")
+    own = Made(_recording=Made(lines=Made(times=[0, mutex_holders.A_MOMENT + 5])))
+    wait = Made(begin=5, stack=Stack(tuple(line_of(number) for number in lines), None))
+    need = mutex_holders.MutexHolders._of_nobody(cast(Any, own), cast(Any, wait))
+    assert (need.says, need.is_odd) == (
+        [f"No goroutine has locked it. Perhaps it is a copy of a mutex that was locked as it was copied{says}."],
+        True,
+    )
+    wait.begin = 6
+    assert mutex_holders.MutexHolders._of_nobody(cast(Any, own), cast(Any, wait)).says == []

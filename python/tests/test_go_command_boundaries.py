@@ -11,7 +11,7 @@ from typing import Any, cast
 
 import pytest
 
-from netrev_go import cli, doctor, goroutine_lines, lines, messages, outputs, status, testing
+from netrev_go import cli, doctor, goroutine_lines, lines, messages, outputs, status, tested, testing
 from netrev_go.goroutine_lines import Everybody
 from netrev_go.standing import Standing
 from netrev_go.tested import Recordings
@@ -261,3 +261,10 @@ def test_output_for_machines_goes_to_a_file_or_to_standard_output(tmp_path: Path
     )
     testing.put(str(tmp_path), "four\n", came)
     assert not came.all_recorded
+
+
+def test_a_search_that_fails_is_reported(tmp_path: Path, monkeypatch: Patch, capsys: Output) -> None:
+    monkeypatch.setattr(tested, "netrev_program", lambda: "")
+    recording = str(tmp_path / "nowhere.jsonl")
+    assert tested.findings(recording, 60) == []
+    assert f"{recording}: other schedules weren't explored: nrdb ended with status 3" in capsys.readouterr().err

@@ -146,7 +146,9 @@ class Reducing(unittest.TestCase):
     def test_the_page_says_what_is_left_of_recordings(self) -> None:
         text = " ".join((ROOT / "docs/reference/NRDB.md").read_text(encoding="utf-8").split())
         ranges = r"from ([\d,]+)–([\d,]+)(?: steps)? to (\d+)–(\d+)"
-        found = re.search(rf"the four recordings of `examples/hunts` {ranges}, and five of `examples/real` {ranges}\.", text)
+        found = re.search(
+            rf"the four recordings of `examples/hunts` {ranges}, and five of `examples/real` {ranges}\.", text
+        )
         assert found
         numbers = [int(number.replace(",", "")) for number in found.groups()]
         for folder, (least, most, least_left, most_left) in (("hunts/", numbers[:4]), ("real/", numbers[4:])):
