@@ -90,8 +90,8 @@ class ChangedLines:
         return found
 
     def changes_of(self, cell: str, until: Optional[int] = None) -> Iterator[tuple[int, str]]:
-        """The steps that changed a cell, in rising order, with the new values. If `until` is given, the result has only
-        steps up to that position."""
+        """The steps that changed a cell, in ascending order, with the new values. If `until` is given, the result has
+        only steps up to that position."""
         named = b" %s = " % cell.encode()
         end = len(self._lasts) if until is None else bisect_right(self._lasts, until) + 1
         for piece in self.pieces[:end]:

@@ -204,8 +204,8 @@ class Ambiguous(Exception):
 
 
 def whole(word: str, known: Collection[str], spellings: Mapping[str, str] = {}) -> str:
-    """The known word for a word: the word itself, nrdb's word for another debugger's, or the only known word that
-    begins with it. An unknown word is returned unchanged."""
+    """The known word that a word stands for: the word itself, nrdb's word for another debugger's word, or the only
+    known word that begins with the typed word. An unknown word is returned unchanged."""
     if word in known:
         return word
     if word in spellings:

@@ -11,7 +11,7 @@ from .where import Stack
 
 
 class GoroutineStack(NamedTuple):
-    """The stack of a goroutine at a position, since which step it has had this stack, and text about what it does. If
+    """The stack of a goroutine at a position, the step at which it got this stack, and text about what it does. If
     `is_past`, the goroutine has gone on since then without making a step, so this is the stack of its last step."""
 
     name: Name
@@ -19,7 +19,7 @@ class GoroutineStack(NamedTuple):
     since: int
     does: str
     is_past: bool = False
-    goid: int = 0  # Go's own number, if several goroutines had the recording's number
+    goid: int = 0  # Go's own number, if several goroutines had the same number in the recording
 
     def words(self) -> str:
         """The stack as a line: `goroutine 3: waits for a mutex since step 9, at main.go:34 sync.(*Mutex).Lock`."""

@@ -13,7 +13,7 @@ from .commands import ALL_TOPICS, COMMANDS, SPELLINGS, TOPIC_SPELLINGS, TOPICS
 
 
 def hint(words: list[str], fault: str) -> str:
-    """The hint about a line of these words that netrev rejected with this fault."""
+    """The hint for a line that netrev rejected: the line has these words, and netrev answered with this fault."""
     number = fault.split()[1]
     if number == "201":
         return unknown(words)

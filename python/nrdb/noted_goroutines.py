@@ -3,7 +3,7 @@
 from typing import Optional
 
 IDLE, ACQUIRING, QUEUED, PARKED = "idle", "acquiring", "queued", "parked"
-MANY = 3  # the number of pauses at a place that must have ended before the longest of them counts
+MANY = 3  # the longest pause in a status counts only after this many pauses in that status have ended
 
 
 class Pauses:
@@ -76,8 +76,8 @@ ABSENT = Status("absent", NoPauses())
 
 
 class Goroutine:
-    """A goroutine: its cell after a step, its status and the step since which it has that status, its last step, its
-    last `pollreset`, its last read or write, and the number of references that it holds. While the goroutine makes
+    """A goroutine: its cell after a step, its status and the step that gave it that status, its last step, its last
+    `pollreset`, its last read or write, and the number of references that it holds. While the goroutine makes
     consecutive steps, its last step isn't stored."""
 
     __slots__ = ("number", "cell", "status", "since", "last", "reset", "tried", "held")

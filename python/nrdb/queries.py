@@ -68,7 +68,7 @@ def answer_run(session: Answering, run: Sequence[str]) -> bool:
 
 
 def lines_together(stream: TextIO) -> Iterator[list[str]]:
-    """The lines of a stream without trailing blanks, in a list for all lines that arrived together."""
+    """The lines of a stream, without trailing blanks. Lines that arrived together are yielded as one list."""
     raw = getattr(stream, "buffer", None)
     if not isinstance(raw, io.BufferedReader) or stream.errors is None:
         yield from ([line.rstrip()] for line in stream)

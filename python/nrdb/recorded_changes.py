@@ -127,15 +127,15 @@ class RecordedChanges:
         return [self.value(cell, position) for cell in cells]
 
     def steps_of(self, cell: str, until: Optional[int] = None) -> "array[int]":
-        """The steps that changed a cell, in rising order. If `until` is given, the result has only steps up to that
+        """The steps that changed a cell, in ascending order. If `until` is given, the result has only steps up to that
         position."""
         return array("I", (step for step, _ in self.changes_of(cell, until)))
 
     def nearest(
         self, cells: Sequence[str], are_wanted: Callable[[list[str]], bool], position: int, backwards: bool
     ) -> Optional[int]:
-        """The nearest position in a direction at which a step has just changed one of the cells and the cells have
-        wanted values; None if no such position exists."""
+        """The nearest position in a direction at which `are_wanted` accepts the cells' values, and the step just before
+        it changed one of the cells; None if no such position exists."""
         steps = sorted({step for cell in cells for step in self.steps_of(cell, position if backwards else None)})
         ways = reversed(steps[: bisect_left(steps, position)]) if backwards else steps[bisect_right(steps, position) :]
         return next((step for step in ways if are_wanted(self.values(step, cells))), None)
@@ -169,7 +169,7 @@ class RecordedChanges:
         return (Change(int(step), cell, value) for step, cell, value in self.texts())
 
     def told(self) -> Iterator[Told]:
-        """All changes, some thousands of steps at a time, for a caller that needs few of the changes. The lines aren't
+        """All changes, a few thousand steps at a time, for a caller that needs few of the changes. The lines aren't
         parsed one by one."""
         self._wait(None)
         first = 1

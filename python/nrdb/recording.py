@@ -99,8 +99,7 @@ class Recording:
         self.suspects: Optional[SuspectList] = None  # the output of `netrev suspects`, for a recording in a file
 
     def _are_arrays(self, end: int) -> bool:
-        """Whether each line before that place, except the first line, begins as an array does, so that no line is
-        blank."""
+        """Whether each line before that place, except the first line, begins with `[`. If so, none of them is blank."""
         return self.data.count(b"\n[", 0, end) == self._starts.line_at(end) - 1
 
     @classmethod
@@ -199,7 +198,7 @@ class Recording:
     def _rows_together(
         self, made: Callable[[list[Any]], Row], begin: int, end: Optional[int]
     ) -> Iterator[Iterable[Row]]:
-        """A value for each step's array, for the steps that are parsed together."""
+        """The values of `rows`, in groups of steps that are parsed together."""
         end = self.length if end is None else min(end, self.length)
         for first in range(begin, end + 1, AT_ONCE):
             last = min(first + AT_ONCE, end + 1) - 1
@@ -250,7 +249,7 @@ class Recording:
         return self._numbers_at(places, self._numbers[1], begin)
 
     def _numbers_at(self, places: Iterable[int], line: int, begin: int) -> Iterator[int]:
-        """The numbers of the steps at these places of the text, in rising order. The first search begins at `begin`,
+        """The numbers of the steps at these places of the text, in ascending order. The first search begins at `begin`,
         where line `line` begins."""
         for place in places:
             line += self.data.count(b"\n", begin, place)

@@ -33,7 +33,7 @@ OF_TIME = {"tick": ("clock",), "pop": ("clock", "least", "timers", "firings"), "
 
 
 def explained(program: str, path: str, fault: str) -> list[str]:
-    """The lines that explain a fault, which is netrev's complete reply to this file."""
+    """The lines that explain a fault. `fault` is netrev's complete reply to this file."""
     recording = Recording.read(path)
     if found := LINE.match(fault):
         number = int(found[1])

@@ -23,8 +23,8 @@ LAST = re.compile(r"ok (\d+) steps")
 
 
 class LostWakeUp(NamedTuple):
-    """A goroutine that is parked at a side, although the readiness of the side's last event was taken, and no try on
-    the side has been answered EAGAIN since."""
+    """A goroutine that is parked at a side although it is owed a try: the readiness of the side's last event was taken,
+    and no try on the side has been answered EAGAIN since then."""
 
     line: str
     goroutine: int
@@ -63,9 +63,9 @@ class OfDeadline(NamedTuple):
 
 
 class Listed:
-    """The entries of a list of suspects. Lost wake-ups and passed deadlines are in order. Sleeping goroutines whose
-    side must be answered are keyed by goroutine, descriptor and side. Held references are keyed by socket and
-    goroutine, and timeouts by step. Withdrawn deadlines are keyed by step, descriptor and side."""
+    """The entries of a list of suspects. Lost wake-ups and passed deadlines are in the order of the lines. Sleeping
+    goroutines whose side must be answered are keyed by goroutine, descriptor and side. Held references are keyed by
+    socket and goroutine, and timeouts by step. Withdrawn deadlines are keyed by step, descriptor and side."""
 
     def __init__(self, lines: Iterable[str] = ()) -> None:
         self.lost_wake_ups: list[LostWakeUp] = []

@@ -122,7 +122,8 @@ class Waits:
         return "which is taken" if queue.is_taken else f"which nobody has{self._owed(socket, queue)}"
 
     def _wait_words(self, descriptor: int, side: str) -> list[str]:
-        """Describes a wait: the socket, its unread bytes or free room, and the deadline."""
+        """Describes a wait: the socket and its unread bytes, an event that the goroutine hasn't taken, and the
+        deadline."""
         world, said = self._world, []
         if descriptor in self._sockets:
             socket = self._sockets[descriptor]
@@ -189,7 +190,7 @@ def row_of_wait(wait: Waiting) -> Row:
 
 
 def _with_line(row: Row, stack: Stack, step: int) -> Row:
-    """The row with the program's line, since which step the goroutine has been there, and the line that started it."""
+    """The row with the program's line, the step at which the goroutine got there, and the line that started it."""
     if not stack.calls:
         return row
     started = f"; started at {stack.made.place()}" if stack.made else ""

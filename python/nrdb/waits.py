@@ -46,7 +46,7 @@ class Name(NamedTuple):
 
     @property
     def values(self) -> dict[str, Optional[int]]:
-        """The name in the form of JSON."""
+        """The name as JSON."""
         return {"goroutine": None, "goid": self.number} if self.is_goid else {"goroutine": self.number}
 
 

@@ -50,7 +50,9 @@ class Whose:
     def __init__(self, recording: Recording, notes: Notes) -> None:
         self._recording = recording
         self.goroutines, self._sockets, self._descriptors = array("i"), array("i"), array("i")
-        self._of_timers: list[int] = []  # the steps of timers whose owners no caller has needed yet
+        self._of_timers: list[
+            int
+        ] = []  # the steps of timers whose owners haven't been determined, because no caller has needed them
         self._opened = iter(notes.uses)
         self._made = 0  # the number of sockets
         self._named: dict[int, Place] = {}  # the object that a goroutine last named

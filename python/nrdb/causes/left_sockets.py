@@ -1,5 +1,5 @@
-"""Connections that a function dialed or accepted and left open on one of its paths, so that the other end waits. These
-connections are found from the later places of the function's goroutine, and from the program's source."""
+"""Connections that a function dialed or accepted and left open on one of its paths, so that the other end waits. They
+are found by where the function's goroutine was later, and by the program's source."""
 
 import re
 from typing import Optional
@@ -41,7 +41,7 @@ def left_socket(index: Index, socket: int, position: int) -> list[str]:
 
 
 def kept_by(index: Index, opened: Call, line: LineCall) -> list[str]:
-    """A sentence about a function that opens a socket in each round of a loop and closes the sockets only when it
+    """A sentence about a function that opens a socket in each iteration of a loop and closes the sockets only when it
     returns. The function is still running."""
     taken = TAKEN.match(text_at(index.recording, line).strip())
     deferred = closed_in_a_loop(index.recording, line, taken[1]) if taken else ""
@@ -73,7 +73,8 @@ def left_by(index: Index, opened: Call, line: LineCall) -> list[str]:
 
 
 def without_users(recording: Recording, file: str, name: str, statement: str) -> str:
-    """A statement without the arguments of calls that pass a value to functions of the package which only use it."""
+    """A statement. If it passes a value to a function of the package that only uses the value, the arguments of that
+    call are removed."""
 
     def shortened(call: "re.Match[str]") -> str:
         arguments = [one.strip() for one in call[2].split(",")]

@@ -1,5 +1,5 @@
 """Loop variables that goroutines share, found in the program's source. In a module whose language version is older than
-Go 1.22, a loop has one variable for all its rounds."""
+Go 1.22, a loop has one variable for all its iterations."""
 
 import os
 import re
@@ -13,7 +13,7 @@ from .source_functions import LITERAL, Lines, begin_of_literal, indent_of, range
 
 LOOP = re.compile(r"\bfor (?:(\w+), )?(\w+) := ")
 LANGUAGE = re.compile(r"^go 1\.(\d+)", re.MULTILINE)
-FIRST = 22  # the minor version since which each round has its own variable
+FIRST = 22  # the first minor version in which each iteration has its own variable
 MOST_FOLDERS = 12
 
 

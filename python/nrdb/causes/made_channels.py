@@ -54,7 +54,7 @@ def has_returned(index: Index, maker: Name, line: Call, position: int) -> bool:
 
 
 def returns_says(index: Index, line: Call) -> str:
-    """The lines by which a function returns, if they are few."""
+    """Text for the lines at which a function returns; empty if there are none or too many."""
     found = [number for number, _ in found_in(index.recording, line, RETURNS) if number > line.line]
     places = " or ".join(f"{line.file}:{number}" for number in found)
     return f", by {places}" if 0 < len(found) <= MOST else ""

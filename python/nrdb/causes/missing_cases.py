@@ -1,5 +1,6 @@
-"""Selects that no goroutine ends. A Shutdown waits until a goroutine has served its request, and that goroutine waits
-in the select. Or the select lacks a case for a closed channel; another select of the same type has that case."""
+"""Selects in which a goroutine waits forever. A Shutdown waits until a goroutine has served its request, and that
+goroutine waits in the select. Or the select lacks a case for a closed channel; another select of the same type has that
+case."""
 
 from operator import attrgetter
 from typing import NamedTuple, Optional

@@ -157,8 +157,9 @@ class Needs:
         return first.name if first else None
 
     def _started_by(self, last: Call) -> Optional[Name]:
-        """The goroutine that should perhaps write at the other end of a read, if nothing was written there yet. That
-        goroutine waits elsewhere. The other end's reader started it after the last request, and now reads again."""
+        """The goroutine that should perhaps write what a Read waits for, if nothing has been written at the other end.
+        That goroutine waits elsewhere. The other end's reader started it after the last request, and now reads
+        again."""
         lines, reads = self._recording.lines, self._index.by_socket[last.socket]
         got = [
             one for one in reads if one.goroutine == last.goroutine and one.name == "Read" and one.moved and one.last
@@ -172,9 +173,9 @@ class Needs:
         return first.name if first else None
 
     def _relay_back(self, last: Call) -> Optional[Name]:
-        """The goroutine that should perhaps write at the other end of a read, if nothing was written there and the
-        other end's reader passes on what it reads. That goroutine is the other half of a relay: it waits to read from
-        the socket to which that reader writes."""
+        """The goroutine that should perhaps write what a Read waits for, if nothing has been written at the other end
+        and the other end's reader passes on what it reads. That goroutine is the other half of a relay: it waits to
+        read from the socket to which that reader writes."""
         if last.name != "Read" or Name(last.goroutine) in self._waiters:
             return None
         wrote = {

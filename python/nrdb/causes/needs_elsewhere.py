@@ -33,7 +33,7 @@ from .words import told, waits_words
 
 
 class NeedsElsewhere:
-    """The needs of the goroutines that wait outside the poller at a position."""
+    """Finds the needs of all goroutines that, at a given position, wait outside the poller."""
 
     def __init__(self, index: Index, waits: Waits, waiters: dict[Name, Waiter], position: int) -> None:
         self._index, self._recording, self._position = index, index.recording, position
@@ -165,8 +165,8 @@ class NeedsElsewhere:
         return Need([says], Name(users[-1].goroutine), "{by} uses the descriptor")
 
     def _of_condition(self, wait: Waiting) -> list[str]:
-        """Sentences about the need of a wait on a condition. The sentences name the function that should have woken the
-        goroutine, or all waiters."""
+        """Sentences about a goroutine's wait on a sync.Cond. They name the function that should have woken this
+        goroutine, or that should have woken all waiters."""
         key = wait.stack.own(), wait.objects
         if key not in self._conditions:
             alike = [one for one in self._waiters.values() if one.wait and one.wait.objects == wait.objects]

@@ -80,8 +80,8 @@ class NeedsOfChannels:
         return self._once((wait.stack.own(), wait.objects, "besides"), find)
 
     def of_balance(self, wait: Waiting) -> Optional[Need]:
-        """The need at a channel whose values goroutines take and give back: calls that kept a value or gave it back
-        twice, and a waiting goroutine that has a value. None if the channel isn't used this way."""
+        """The need of a wait on a channel that is used like a pool. The sentences name calls that kept a value or gave
+        it back twice. `by` is a waiting goroutine that has a value. None if the channel isn't used this way."""
         at, wanted = wait.objects[0], GIVES.get(wait.objects[0].use, "")
         balances = self._balances(at.object) if self.is_buffered(at) else []
         if not balances:
@@ -103,7 +103,7 @@ class NeedsOfChannels:
         )
 
     def _of_slots(self, wait: Waiting) -> Optional[Need]:
-        """The need at a semaphore, if no goroutine has given a slot back yet: a goroutine that has a slot."""
+        """The need of a wait for a semaphore's slot, if no slot has been given back yet: a goroutine that has one."""
         key = "slots", wait.stack.own(), wait.objects
         need = self._once(
             key, lambda: of_slots(self._recording, wait._replace(name=NOBODY), self._stacks, self._waiters)
@@ -113,8 +113,8 @@ class NeedsOfChannels:
         return need
 
     def _of_nested(self, wait: Waiting) -> Optional[Need]:
-        """The need at a channel that was filled once: a goroutine that took a value in a call that it is still in, and
-        waits there for another value."""
+        """The need of a wait on a channel that was filled only once. Another goroutine took a value and, still in the
+        same call, waits for a second value."""
         at = wait.objects[0]
         found = self._once(("nested", at), lambda: list(islice(self._nested(at), MOST_GIVEN)))
         return next((need for need in found if need.by != wait.name), None)
@@ -206,7 +206,7 @@ class NeedsOfChannels:
         return ended_giver(index_of(self._recording), wait) or Need([])
 
     def _of_the_past(self, wait: Waiting, given: list[Given], closing: Optional[Need]) -> Need:
-        """The need if no waiting goroutine did the awaited operation on a channel: the last goroutine that did it."""
+        """The need of a wait if no waiting goroutine did the awaited operation: the last goroutine that did it."""
         for one in given:
             loop = loop_words(self._recording, one.stack) if has_ended(self._recording, one.name) else ""
             did = f"{str(one.name).capitalize()} {GIVES_WORDS[one.what]}{place_in(one.stack)} (step {one.last}{loop})"
@@ -228,7 +228,7 @@ class NeedsOfChannels:
         return later
 
     def _given(self, at: At) -> list[Given]:
-        """The first goroutines that did the awaited operation on a channel, starting with those that wait."""
+        """Some goroutines that did the awaited operation on a channel. Waiting goroutines come first."""
 
         def find() -> list[Given]:
             every = list(self._ledger.given(at))
@@ -241,8 +241,8 @@ class NeedsOfChannels:
         return self._by_source("closing", unclosed, wait)
 
     def _by_source(self, key: str, rule: Rule, wait: Waiting) -> Optional[Need]:
-        """The result of a rule that reads the source. The result is computed once for all waits of a line, and again
-        for a wait whose own goroutine the result names."""
+        """The result of a rule that reads the source. The result is computed once for all waits at a line. If it names
+        the waiting goroutine itself, it is computed again for that wait."""
         nobody = wait._replace(name=NOBODY)
         place = wait.stack.own(), wait.objects, key
         need = self._once(place, lambda: rule(self._recording, nobody, self._stacks.items()))
@@ -259,7 +259,7 @@ class NeedsOfChannels:
         return [ended_words(self._recording, kind, DID[what]) for kind in self._kinds_of(wait)]
 
     def _ended_siblings(self, wait: Waiting) -> tuple[Name, ...]:
-        """The goroutines that ended without the awaited operation, although others of their `go` statement did it."""
+        """The goroutines that ended without the awaited operation, unlike others of the same `go` statement."""
         return tuple(name_of_goid(self._recording.lines, goid) for kind in self._kinds_of(wait) for goid in kind.ended)
 
     def _kinds_of(self, wait: Waiting) -> list[Kind]:

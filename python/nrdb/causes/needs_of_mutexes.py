@@ -35,8 +35,7 @@ class Holder(NamedTuple):
 
 
 def of_once(stack: Stack) -> str:
-    """A sentence about a goroutine that waits in a sync.Once's Do because it already runs that Do itself; else
-    empty."""
+    """A sentence about a goroutine that waits in a sync.Once's Do because it is already running that Do; else empty."""
     lines = [
         outer for inner, outer in zip(stack.calls, stack.calls[1:])
         if inner.function in DO and outer.function not in DO and outer.of == OF_THE_PROGRAM

@@ -1,4 +1,4 @@
-"""Buffered readers that, by the program's source, a function makes anew in each call. Bytes that the previous reader
+"""Functions that make a new buffered reader in each call, found in the program's source. Bytes that the previous reader
 had read ahead are lost with that reader, and the other end waits for answers to them."""
 
 import re
@@ -72,7 +72,7 @@ def left_reader(index: Index, call: Call, other: int, position: int) -> list[str
 
 def past_a_reader(index: Index, call: Call, other: int, read: Call, position: int) -> list[str]:
     """Sentences about a Read without a buffer, if a buffered reader made the last Read there and the other end waits to
-    read. The function that made the reader is one that the goroutine is still in, or that started the goroutine."""
+    read. The goroutine is still in the function that made the reader, or that function started the goroutine."""
     lines = index.recording.lines
     if is_buffered(lines.of(call.first)) or not is_buffered(lines.of(read.first)):
         return []
@@ -101,7 +101,7 @@ def since_an_answer(reads: list[Call], calls: list[Call]) -> list[Call]:
 
 
 def lost_with(index: Index, file: str, line: int, read: Call, last: Call, why: str) -> str:
-    """A sentence which says that bytes are perhaps lost with a reader."""
+    """A sentence which says that bytes in a reader's buffer are perhaps lost."""
     since = "since" if read is last else f"since step {last.last}"
     return (
         f"Perhaps bytes that were read before are lost: {file}:{line} made a reader with a buffer, which got "
@@ -146,7 +146,7 @@ def own_reader(index: Index, frame: LineCall) -> int:
 
 
 def maker_line(index: Index, own: LineCall) -> int:
-    """The line of a function, up to the line that reads, that makes a reader; 0 if no line does."""
+    """The first line of a function that makes a reader, no later than the line that reads; 0 if no line does."""
     source = source_of(index.recording, own.file) if own.of == OF_THE_PROGRAM else None
     within = range_of(source, own) if source else None
     numbers = range(within.start, own.line + 1) if within else range(0)

@@ -1,5 +1,5 @@
-"""Reads with a count that, by the program's source, the program perhaps ignores. A goroutine waits to read, and lines
-of its function read once into a slice of exactly the wanted length, although a Read returns whatever has arrived."""
+"""Reads whose count the program perhaps ignores, found in the program's source. A goroutine waits to read, and lines of
+its function read once into a slice of exactly the wanted length, although a Read returns whatever has arrived."""
 
 import re
 from typing import Optional
@@ -50,7 +50,7 @@ def partial_reads(index: Index, call: Call) -> list[str]:
 
 def part_taken(index: Index, call: Call) -> list[str]:
     """Sentences about a waiting Read, if the previous Read on the socket got fewer bytes than it asked for. The list is
-    empty unless the previous Read's line reads a length only once."""
+    empty unless the line of the previous Read calls Read only once, with a slice whose length isn't a constant."""
     for read in reversed(
         [one for one in index.by_socket[call.socket] if one.name == "Read" and one.first < call.first]
     ):

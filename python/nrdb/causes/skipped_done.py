@@ -85,8 +85,8 @@ def unput_says(recording: Recording, count: Count, puts: list[Use]) -> list[str]
 
 
 def rounds_of(recording: Recording, stack: Stack) -> Optional[Rounds]:
-    """The loop around a line that calls Done, or around the call of the line's function, if the loop takes its values
-    from a channel."""
+    """The innermost loop around a call of Done, in the function that calls Done or in one of its callers; None unless
+    the loop takes its values from a channel."""
     calls = [call for call in stack.calls if call.of == OF_THE_PROGRAM]
     if not calls or not DONE_OF.match(text_at(recording, calls[0]).strip()):
         return None
@@ -101,7 +101,7 @@ def rounds_of(recording: Recording, stack: Stack) -> Optional[Rounds]:
 
 
 def takes_at(lines: Lines, head: int, line: int) -> int:
-    """The line of a loop, before one of its lines, that takes a value from a channel; 0 unless exactly one line
+    """The line at which a loop takes a value from a channel, before another line of the loop; 0 unless exactly one line
     does."""
     if OVER.match(code(lines, head)):
         return head

@@ -1,6 +1,6 @@
-"""Paths of a function that skip what it should do. The paths lead from a line that takes or begins something past the
-line that gives it back or finishes it. Such a path goes through a `return`, a `continue`, a `break` or the condition of
-a block."""
+"""Paths of a function that skip what it should do. One line takes or begins something, and another line gives it back
+or finishes it. The paths lead from the first line past the second line. Such a path goes through a `return`, a
+`continue`, a `break` or the condition of a block."""
 
 import re
 from typing import Callable, NamedTuple, Optional
@@ -44,9 +44,9 @@ class Way(NamedTuple):
 
 
 class State(NamedTuple):
-    """The possible states at a place. Something may be taken and not yet given back (`is_open`), and it may be given
-    back (`is_done`). `block` is the block that decides which (0: no block does). If `is_deferred`, it is given back in
-    any case when the function ends."""
+    """The possible states at a place. The function has perhaps taken something and not given it back (`is_open`), or it
+    has perhaps given it back (`is_done`). `block` is the block that decides between these two states (0: no block
+    does). If `is_deferred`, the function always gives it back when it ends."""
 
     is_open: bool = False
     is_done: bool = False
@@ -155,7 +155,7 @@ class Walk(NamedTuple):
         return (condition in (name, f"{name} != nil")) is not is_error
 
     def loop(self, one: Statement, now: State, got: str) -> Result:
-        """The same as `body`, for a loop. In each round, a loop should give back what it took in that round."""
+        """The same as `body`, for a loop. In each iteration, a loop should give back what it took in that iteration."""
         begins = self.does_begin(one.text) and not now.is_deferred
         after, left = self.body(one.branches[-1].body, OPEN if begins else now, got)
         left += [Exit("end", one.number, after)] if after is not None else []
@@ -183,7 +183,7 @@ def name_of(text: str) -> str:
 
 
 def is_missing(head: str, now: State) -> bool:
-    """Whether a block is skipped only if nothing was taken, because there was nothing to take."""
+    """Whether the test in a block's head skips the block only if nothing was taken."""
     return now.is_open and IS_THERE.match(head) is not None
 
 

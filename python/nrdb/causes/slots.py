@@ -55,7 +55,8 @@ def has_more(recording: Recording, at: At, goid: int, enters: str) -> bool:
 
 
 def slots_in(recording: Recording, name: Name, use: Use, stack: Stack, leavings: list[Giving]) -> Iterator[Slot]:
-    """The slot that a goroutine took at an earlier line of a call that it is still in, and that it gives back later."""
+    """The slots that a goroutine took and has yet to give back. The goroutine is still in the call that took the slot,
+    and a later line of the function gives the slot back."""
     taken = recording.lines.stacks[use.stack]
     own = taken.own()
     for call in stack.calls:

@@ -90,9 +90,9 @@ def timers_of_select(recording: Recording, wait: Waiting) -> list[str]:
 
 
 def ways_past_reset(recording: Recording, wait: Waiting) -> str:
-    """A sentence, from the program's source, about a timer that has gone off: the path on which it was perhaps not set
-    again, as ` Perhaps on this way: after main.go:65, main.go:67 goes on without main.go:75, which sets it anew.`;
-    empty if no such path exists."""
+    """A sentence about a timer that has gone off and was perhaps not set again. It names the path in the program's
+    source that skips the reset: ` Perhaps on this way: after main.go:65, main.go:67 goes on without main.go:75, which
+    sets it anew.` The sentence is empty if no such path exists."""
     own = wait.stack.own()
     lines = source_of(recording, own[0].file) if own and own[0].of == OF_THE_PROGRAM else None
     within = range_of(lines, own[0]) if lines and own else None

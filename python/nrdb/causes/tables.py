@@ -71,7 +71,7 @@ def hangs_table(recording: Recording, position: int) -> Table:
 
 
 def rows_of(graph: WaitGraph, hang: Hang) -> list[Row]:
-    """The rows of a hang: its sentences, the goroutines that wait for it, and the line to type next."""
+    """The rows of a hang: its sentences, the goroutines that wait for its goroutine, and the line to type next."""
     root, (first, *rest), tree, looks = hang.root, hang_says(graph, hang), tree_lines(graph, hang), hang_looks(hang)
     values = {
         **root.name.values,

@@ -1,5 +1,6 @@
-"""What a failed call lacked, besides the cause of its end. The module covers calls whose descriptor was closed, Reads
-under a deadline that other calls had met, and Reads that met no end of the stream."""
+"""What a failed call had waited for in vain, in addition to the cause of its error. The module covers calls whose
+descriptor was closed, Reads and Writes that timed out after other calls had ended in time under the same deadline, and
+Reads that didn't get the end of the stream."""
 
 import re
 from typing import Optional
@@ -25,8 +26,8 @@ def given_up_says(index: Index, call: Call, by: Optional[Call]) -> list[str]:
 
 
 def found_says(index: Index, call: Call) -> list[str]:
-    """Further sentences about a Read or a Write whose deadline other calls had met. The sentences say why the bytes, or
-    the room, that the call waited for didn't come."""
+    """Further sentences about a Read or a Write that timed out after other calls had ended in time under the same
+    deadline. The sentences say why the bytes, or the room, that the call waited for didn't come."""
     if index.is_listening(call) or not call.first < call.last:
         return []
     need = Needs(index, {}, call.last).of_call(call)
@@ -34,8 +35,8 @@ def found_says(index: Index, call: Call) -> list[str]:
 
 
 def endless_says(index: Index, call: Call) -> list[str]:
-    """Sentences about a Read that met no end of the stream although its other end was closed before the Read ended:
-    another descriptor still has the connection."""
+    """Sentences about a Read that didn't get the end of the stream, although its other end was closed before the Read
+    ended. Perhaps another descriptor keeps the connection open."""
     other = index.other_end(call.socket)
     by = index.closing(other, call.last, whole=True) if other is not None and call.name in READING else None
     if by is None or by.last >= call.last:

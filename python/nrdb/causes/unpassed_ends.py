@@ -24,7 +24,7 @@ class UnpassedEnd(NamedTuple):
     waits: Call
 
     def says(self, recording: Recording) -> list[str]:
-        """The sentences about the end that wasn't passed on."""
+        """The sentences about the end of a stream that a relay didn't pass on."""
         socket, reader = self.wrote.socket, told(recording, self.waits)
         ended = " The goroutine has ended." if has_ended(recording, Name(self.met.goroutine)) else ""
         return [

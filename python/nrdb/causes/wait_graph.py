@@ -83,8 +83,8 @@ class Hang(NamedTuple):
 
     @property
     def has_reason(self) -> bool:
-        """Whether it is known why the hang's roots wait: they hold mutexes, or it is known why what they need doesn't
-        come. An unclosed channel isn't a reason, because a goroutine that takes values may have nothing to do."""
+        """Whether the reason for the hang is known: the roots hold mutexes, or it is known why they don't get what they
+        need. An unclosed channel isn't a reason, because a goroutine that takes values may have nothing to do."""
         need, wait = self.needs[0], self.root.wait
         if self.is_deadlock:
             return self.is_of_mutexes or any(one.more and not one.is_plain for one in self.needs)
@@ -98,8 +98,8 @@ class Hang(NamedTuple):
 
     @property
     def is_quiet(self) -> bool:
-        """Whether no goroutine waits for this hang, and its goroutine may have nothing to do because it is in a read or
-        a select, or waits for a value from a channel."""
+        """Whether the hang's goroutine may simply have nothing to do: it is in a read or a select, or waits for a value
+        from a channel, and no goroutine waits for it."""
         call, wait = self.root.call, self.root.wait
         reads = call is not None and call.name in READING and not call.is_asking
         idles = wait is not None and wait.kind in QUIET
@@ -182,8 +182,8 @@ class WaitGraph:
         return (kind_of(self.recording, waiter), need.how) if waiter.stack.calls else waiter.name
 
     def _ring(self, ring: list[Name]) -> Hang:
-        """The hang in which goroutines wait for one another. Further goroutines belong to it if each may hold a mutex
-        instead of a goroutine of the ring and waits for a goroutine of the ring."""
+        """The hang in which goroutines wait for one another. If all of them wait for mutexes, the hang has further
+        goroutines: each may hold a mutex that a member waits for, and waits for a member."""
         every = list(ring) if all(is_at_mutex(self.waiters[name]) for name in ring) else []
         for name in every:
             others = [other for other in self.needs[name].others if other not in every and other in self.edges]

@@ -73,7 +73,7 @@ def is_timed(recording: Recording, wait: Waiting) -> bool:
     """Whether a wait ends by itself: it is on the channel of a ticker, or of a timer that goes off after the end of the
     recording."""
     lines = recording.lines
-    if wait.kind == ALL_REQUESTS:  # (Shutdown, which tests repeatedly)
+    if wait.kind == ALL_REQUESTS:  # (Shutdown polls, so its timer doesn't end the wait)
         return False
     return any(
         timer.due > last_time_of(recording) or any(call.function in TICKERS for call in lines.stacks[timer.stack].calls)

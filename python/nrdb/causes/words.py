@@ -36,7 +36,7 @@ BELOW = ("internal/poll.", "net.", "os.", "syscall.", "crypto/tls.", "bufio.", "
 
 
 def capital(words: str) -> str:
-    """A text with its first letter as a capital."""
+    """A text with its first letter capitalized."""
     return words[0].upper() + words[1:]
 
 
@@ -100,7 +100,7 @@ def is_of_the_program(stack: Stack) -> bool:
 
 
 def is_of_go(recording: Recording, call: Call) -> bool:
-    """Whether Go's own code alone is known to have made a call, as net/http does between two requests."""
+    """Whether a call is known to come only from Go's own code, as net/http's read between two requests does."""
     stack = recording.lines.of(call.first)
     return bool(stack.calls) and all(one.of == OF_GO for one in stack.calls)
 
@@ -128,8 +128,8 @@ def place_of_step(recording: Recording, step: int, goroutine: Optional[int] = No
 
 
 def since_begin(recording: Recording, opened: int = 0) -> str:
-    """Words to add to a sentence about what happened to an object so far: ` since the recording begins`, if the object
-    existed before that."""
+    """The end of a sentence about what has happened to an object so far. It is ` since the recording begins` if the
+    object existed before that, else empty."""
     return " since the recording begins" if opened <= begins_at(recording) > 0 else ""
 
 

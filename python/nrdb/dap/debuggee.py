@@ -80,7 +80,7 @@ class Debuggee:
         """Whether a path leads to the recording."""
         try:
             return Path(path).resolve() == self.path
-        except (OSError, RuntimeError, ValueError):  # (the text isn't a path, or the path's links form a circle)
+        except (OSError, RuntimeError, ValueError):  # (the text isn't a path, or the path's links form a loop)
             return False
 
     def numbers(self, of: Of) -> list[str]:

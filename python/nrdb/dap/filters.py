@@ -84,7 +84,7 @@ class Filters:
         return {one: sorted(wrong) for one, wrong in found.items()}
 
     def _positions(self) -> list[int]:
-        """The positions at which the filters that are set stop, in rising order."""
+        """The positions at which the active filters stop, in ascending order."""
         return sorted({wrong.step - 1 for one in self._set for wrong in self._all[one]})
 
     def nearest(self, position: int, forwards: bool) -> Optional[int]:

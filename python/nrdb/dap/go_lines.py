@@ -17,13 +17,13 @@ from .messages import Body, Unanswerable
 from .roots import Roots
 from .wishes import Unset, Wish, is_in, refused
 
-FIRST = 1_000_000  # the first number of these breakpoints, above all marks
-FUNCTIONS = "functions"  # in place of a file
+FIRST = 1_000_000  # the number of the first of these breakpoints, larger than the numbers of all marks
+FUNCTIONS = "functions"  # stands for a file name, for breakpoints at functions
 
 
 class Hits:
-    """A breakpoint: its number, the rising positions at which a goroutine reaches it, and its condition, hit count and
-    message."""
+    """A breakpoint: its number, the positions at which a goroutine reaches it, in ascending order, and its condition,
+    hit count and message."""
 
     def __init__(self, number: int, session: Session, reached: Sequence[int], wish: Wish):
         self.number = number
@@ -31,7 +31,7 @@ class Hits:
 
     @cached_property
     def positions(self) -> list[int]:
-        """The positions at which the breakpoint stops, in rising order."""
+        """The positions at which the breakpoint stops, in ascending order."""
         return self._wish.stops(self._session, self._reached)
 
 
@@ -98,6 +98,6 @@ class GoLines:
 
 
 def near(rising: Sequence[int], position: int, forwards: bool) -> Optional[int]:
-    """The nearest of these rising positions in a direction."""
+    """The nearest of these positions in a direction. The positions are in ascending order."""
     at = bisect_right(rising, position) if forwards else bisect_left(rising, position) - 1
     return rising[at] if 0 <= at < len(rising) else None

@@ -159,5 +159,5 @@ def is_cancelled_by(request: Request, heard: Request) -> bool:
 
 
 def progress_of(request: Request) -> str:
-    """The name of the progress of a request."""
+    """The identifier of a request's progress reports."""
     return f"netrev-{request.number}"

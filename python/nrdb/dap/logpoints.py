@@ -13,7 +13,7 @@ MOST = 1_000  # the most messages that a move prints
 
 
 class LogPoint(NamedTuple):
-    """A breakpoint with a message: the message, and the positions at which it is printed, in rising order."""
+    """A breakpoint with a message: the message, and the positions at which it is printed, in ascending order."""
 
     message: str
     positions: list[int]

@@ -122,7 +122,8 @@ class Looks:
 
     def threads(self) -> list[Body]:
         """The threads: first the goroutines that aren't gone, then waiting goroutines without steps, and last the
-        network with the clock. Each goroutine has what it does and, if known, its function and line of the program."""
+        network with the clock. The name of a goroutine's thread says what the goroutine does and, if known, its
+        function and line in the program."""
         world, recording = self._world, self._debuggee.recording
         statuses = world.of_each(range(world.made(Of.GOROUTINE)), "gor")
         there = [goroutine for goroutine, (status,) in statuses.items() if status != "gone"]

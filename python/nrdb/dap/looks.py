@@ -41,7 +41,8 @@ def page(request: Request, rows: list[Body], first: str, count: str) -> list[Bod
 
 
 def value(target: Target, text: str, context: object) -> Body:
-    """The value of a cell. Under the mouse pointer, the result may also be the meaning of a kind of step."""
+    """The value of the cell that a text names. On a hover, the text may also name a kind of step; the result is then
+    the kind's meaning."""
     shown = (target.looks.meaning if context == "hover" else target.looks.value)(text)
     if shown is None:
         raise Unanswerable(texts.NOT_A_VALUE.format(text=text))

@@ -16,7 +16,7 @@ from .logpoints import LogPoints
 from .marks import Marks
 from .messages import Unanswerable
 
-PIECE = 100_000  # the most steps that netrev passes in one command; a pause is checked after each command
+PIECE = 100_000  # the most steps that netrev passes in one command; a move checks for a pause after each command
 AT_THE_END = "the recording's end"
 MOST_STEPS = 20_000  # the most steps of a recording for which a stop at the end says what all goroutines wait for
 
@@ -38,7 +38,7 @@ def text_of(stop: Stop, recording: Recording) -> str:
 
 
 class Moves:
-    """Moves of a session. The moves pass marks with conditions that aren't true. A pause stops a move at the position
+    """Moves of a session. A move doesn't stop at a mark whose condition is false. A pause stops a move at the position
     that netrev has reached. `tells` is called with the progress of a long move."""
 
     def __init__(

@@ -13,7 +13,7 @@ class Numbering(NamedTuple):
     first: int = 1
 
     def to(self, line: int) -> int:
-        """The editor's number of a line."""
+        """A line's number, as the editor counts lines."""
         return line - 1 + self.first
 
     def asked(self, request: Request, name: str) -> int:

@@ -31,8 +31,7 @@ def condition_of(text: str) -> Condition:
 
 
 class HitCount(NamedTuple):
-    """A hit count. Of the times that a breakpoint is reached, counted from the recording's start, the hit count selects
-    the times at which it stops."""
+    """A hit count: it selects the hits at which a breakpoint stops. Hits are counted from the recording's start."""
 
     relation: str
     number: int
@@ -66,15 +65,15 @@ class Wish:
     message: str = ""
 
     def stops(self, session: Session, positions: Sequence[int]) -> list[int]:
-        """Of the rising positions at which the breakpoint is reached, the positions at which it stops or prints its
-        message."""
+        """The positions at which the breakpoint stops or prints its message. They are selected from `positions`, at
+        which the breakpoint is reached, in ascending order."""
         condition, times = self.condition, self.times
         met = [one for one in positions if condition is None or session.holds(condition, one)]
         return [one for count, one in enumerate(met, 1) if times is None or times.holds(count)]
 
 
 def positions_of(session: Session, what: str) -> list[int]:
-    """The positions at which a mark of netrev is reached, in rising order."""
+    """The positions at which a mark of netrev is reached, in ascending order."""
     if what.startswith("@"):
         return [int(what[1:]) - 1]
     if what in KINDS:
@@ -83,7 +82,7 @@ def positions_of(session: Session, what: str) -> list[int]:
 
 
 def is_in(rising: Sequence[int], position: int) -> bool:
-    """Whether a position is among these rising positions."""
+    """Whether a position is among these positions, which are in ascending order."""
     at = bisect_left(rising, position)
     return at < len(rising) and rising[at] == position
 

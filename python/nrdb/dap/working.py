@@ -42,7 +42,7 @@ class Work:
         return False
 
     def _ends(self) -> bool:
-        """Ends the reports on the work. Returns whether the request has been answered already."""
+        """Stops the progress reports. Returns whether the request has been answered already."""
         with self._lock:
             self._done.set()
             if self._is_shown:

@@ -16,14 +16,14 @@ JUST_BEFORE = 0.4
 
 
 class Tries(NamedTuple):
-    """The steps of the tries at one side of a socket, and of the tries that found nothing, in rising order."""
+    """The steps of the tries at one side of a socket, and of the tries that found nothing, in ascending order."""
 
     all: list[int]
     in_vain: list[int]
 
 
 def with_events(script: Script) -> Script:
-    """The script, in which bytes are moved to the event before them if no later event reports them."""
+    """The script, with some bytes moved: if no later event reports bytes, they arrive just before an earlier event."""
     tries = _tries(script)
     network = {}
     for s, row in script.network.items():
@@ -34,7 +34,7 @@ def with_events(script: Script) -> Script:
 
 
 def _tries(script: Script) -> dict[tuple[int, str], Tries]:
-    """The tries at the sides of each socket."""
+    """All tries, keyed by socket and side."""
     found: dict[tuple[int, str], Tries] = {}
     for operations in script.goroutines:
         for operation in operations:

@@ -47,7 +47,7 @@ class Explored(NamedTuple):
 
 def explored(session: Session, most: int = MOST, is_of_failures: bool = False) -> Explored:
     """Runs schedules near the recorded one, and writes the schedules that end with a suspect. If there are none, writes
-    the schedules in which a call fails that succeeded in the recording."""
+    the schedules in which a call fails although it succeeded in the recording."""
     recording = session.text()
     if recording.length > MOST_STEPS:
         raise Misused(messages.TOO_LONG.format(most=MOST_STEPS))

@@ -1,5 +1,5 @@
-"""The control flow of a goroutine's calls. A goroutine's next step follows from its operation and its status. Where the
-goroutine continues follows from the machine's answer."""
+"""The control flow of a goroutine's calls. A goroutine's operation and status determine its next step. The machine's
+answer to the step determines where the goroutine continues."""
 
 from bisect import bisect_right
 from typing import NamedTuple, Optional

@@ -112,8 +112,8 @@ def _of_socket(script: Script, sort: Sort) -> dict[int, list[tuple[int, Operatio
 
 
 def _is_of_an_earlier_call(number: int, sets: list[Operation], ends: set[int]) -> bool:
-    """Whether the last deadline that was set before a step is in the future, and an earlier call had succeeded under
-    that deadline."""
+    """Whether a call had already succeeded under the last deadline that was set before a step. The result is False if
+    that setting removed the deadline or set it in the past."""
     last = bisect_left([one.steps[0] for one in sets], number) - 1
     if last < 0 or sets[last].values[0] <= 0:
         return False

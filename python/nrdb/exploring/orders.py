@@ -1,6 +1,6 @@
-"""The orders that every schedule keeps. Some steps must precede a goroutine's steps, as the recorder saw the program
-order them, and some steps must precede the network's reactions to them. The orders are kept between operations: one
-operation begins after another operation has ended."""
+"""The orders that every schedule keeps. Some steps must precede steps of another goroutine, because the recorder saw
+that the program orders them. Other steps must precede the network's reactions to them. The orders are kept between
+operations: one operation begins after another operation has ended."""
 
 from typing import NamedTuple, Optional, Sequence
 
@@ -45,7 +45,7 @@ def orders_of(goroutines: list[list[Operation]], pairs: Optional[Pairs]) -> Opti
 class Waiting:
     """The goroutines and sockets that wait for a goroutine. When that goroutine continues, the waiting goroutines check
     again at once, and the network checks again for its sockets when its action is due. If all of them would only wait
-    again, none checks, and only their order is updated."""
+    again, the checks are skipped, and only their order is updated."""
 
     def __init__(self) -> None:
         self.first: list[int] = []  # goroutines
@@ -79,8 +79,8 @@ class Waiting:
                 self.network = []
 
     def look_again(self, due: Key) -> int:
-        """Records that all waiters have checked again without success. Returns how many of the network's checks will be
-        made, from now on, when they are due."""
+        """Records that all waiters have checked again without success. Returns how many of the network's checks this
+        call has put off until they are due."""
         for actor, which in self.later:
             (self.first if actor == GOROUTINE else self.network).append(which)
         self.later = []

@@ -66,7 +66,8 @@ class Others:
         self.places[actor, which] += 1
 
     def see(self, step: Step, board: Board) -> None:
-        """Records, after a step, whether bytes or a close came that no event has reported yet."""
+        """Records, after a step, at which sides bytes, space or a close came that no event has reported yet, and which
+        sockets are closed."""
         kind = step[0]
         if kind in ("arrive", "peerclose"):
             self.fresh[step[1], "r"] = True

@@ -181,7 +181,7 @@ class Player(Standing):
             self._apply(step, 0)
 
     def _passes(self, g: int) -> None:
-        """A goroutine has continued: lets the goroutines continue that waited for it."""
+        """Called when a goroutine has continued. The goroutines and sockets that waited for it may now continue."""
         waiting = self.passing.waiting.get(g)
         if waiting is None:
             return
@@ -282,8 +282,8 @@ class Player(Standing):
             self._push(following.due, actor, which)
 
     def _is_held_back(self, actor: int, which: int, event: Event) -> bool:
-        """Whether a due action must wait. The network waits for the steps to which it may react. A new goroutine waits
-        for the goroutines that pause if its parent is unknown."""
+        """Whether a due action must wait. The network waits for the steps to which it may react. If the parent of a new
+        goroutine is unknown, the new goroutine waits for the goroutines that pause."""
         if actor == NETWORK:
             if (cause := self.passing.has_still_to_cause(event.number)) is not None:
                 self.passing.wait(cause, actor, which, (self.now, self._at))

@@ -26,8 +26,8 @@ OF_THING = {
 }
 THING_OF = {kind: thing for thing, kinds in OF_THING.items() for kind in kinds}
 SIDE_OF = {"arrive": "r", "peerclose": "r", "sysread": "r", "drain": "w", "syswrite": "w", "closewrite": "w"}
-# two steps about a wait are paired only if one of them is of such a kind, because no other goroutine can enter the wait
-# in between
+# two steps about a wait are paired only if one of them has such a kind: only the goroutine in the wait makes steps of
+# the other kinds, and no other goroutine can enter the wait in between
 TO_OTHERS = frozenset(("setdeadline", "evict", "pollevent", "fire"))
 
 Thing = tuple[int, str, str]  # a socket, a part of it, and a side

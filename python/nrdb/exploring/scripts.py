@@ -76,6 +76,6 @@ class Script:
     answers: list[tuple[Any, ...]]
     # for each goroutine, the orders that the recorder saw the program impose; None if the recording has no orders
     orders: Optional[list[list[Order]]] = None
-    # the calls that may fail: for a goroutine and each operation of a call that succeeded, the operation at which the
-    # call begins
+    # the calls that succeeded and may fail: the key is a goroutine and an operation of a call, and the value is the
+    # call's first operation
     watched: dict[tuple[int, int], int] = field(default_factory=dict)

@@ -16,7 +16,7 @@ from .finding import Exploring, Key
 from .schedules import Schedule, schedules
 from .scripts import Script
 
-# the number of steps from which more processes are worth it, if each schedule is as long as the recording
+# several processes are used from this total number of steps, if each schedule is as long as the recording
 WORTH_IT = 100_000
 SECONDS = 0.2  # seconds between two messages
 LENGTH = 8  # the number of bytes that encode a message's length
@@ -105,7 +105,7 @@ def _keep(exploring: Exploring, best: dict[Key, Best]) -> None:
 
 
 class Working:
-    """A process that runs a share until it is dropped."""
+    """A process that runs a share of the schedules. The end of the `with` block kills it."""
 
     def __init__(self) -> None:
         words = [sys.executable, "-c", CODE]

@@ -70,8 +70,8 @@ class Breaks:
 
 
 def names_a_place(recording: Optional[Recording], words: list[str]) -> bool:
-    """Whether a netrev command names a place of the program, a break at a place, or all marks, so that nrdb answers
-    it."""
+    """Whether nrdb itself answers this netrev command, because the command names a place in the program, a break at
+    such a place, or all marks."""
     name, *rest = words
     if name in ("break", "tbreak"):
         return is_place(recording, rest)

@@ -61,8 +61,7 @@ class Places:
 
     def _positions(self, keys: Callable[[Stack], set[Key]]) -> dict[Key, list[int]]:
         """For each key, the positions before the steps at which a goroutine reaches a stack with that key. If the
-        goroutine's previous step had the same key, the goroutine reaches the key again only if a call begins at the
-        step."""
+        goroutine's previous step had the same key, a step counts only if a call begins at it."""
         of_stack = {number: keys(stack) for number, stack in self._lines.stacks.items()}
         found: dict[Key, list[int]] = {}
         before: dict[int, set[Key]] = {}

@@ -50,7 +50,7 @@ class Use(NamedTuple):
 
 
 class Events:
-    """The events of a recording, which must have answers."""
+    """The events of a recording. The recording must have answers."""
 
     def __init__(self, recording: Recording) -> None:
         self.all: list[Event] = []

@@ -38,7 +38,7 @@ class Story(NamedTuple):
 
 
 def story_of(session: Session) -> Optional[Story]:
-    """The story of a recording, about the first failure or else the first hang; None if neither is known."""
+    """What a report says about a recording: its first failure, or else its first hang. None if neither is known."""
     recording = session.text()
     graph = graph_at(recording, recording.length)
     failed = failures_of(recording)

@@ -1,5 +1,5 @@
-"""Removes units while the target still shows: first all units except those near the target, then whole goroutines,
-sockets and runs of units. At first half of the candidates are removed at a time, then fewer."""
+"""Removes units as long as a replay without them still shows the target: first all units except those near the target,
+then whole goroutines, sockets and runs of units. At first half of the candidates are removed at a time, then fewer."""
 
 from typing import Iterable, Iterator, Optional
 
@@ -81,9 +81,9 @@ class Shrinking:
         return found
 
     def _beginnings(self) -> Iterator[set[int]]:
-        """The sets of units with which to begin, small sets first: units near the target, of its socket and goroutine
-        or of all goroutines that use the socket; then all units of the socket and the goroutine; then all units of
-        those goroutines; and last all units."""
+        """The sets of units with which to begin, small sets first. The narrow scope has the units of the target's
+        socket and goroutine. The wide scope has the units of the socket and of all goroutines that use it. First come
+        the units of each scope near the target, then each whole scope, and last all units."""
         near = self._about({self.target.socket}, {self.target.goroutine})
         users = {event.named("g") for event in self.events.all if self.events.socket_of(event) == self.target.socket}
         wide = self._about({self.target.socket}, users)

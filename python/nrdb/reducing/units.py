@@ -24,7 +24,7 @@ class Sort(Enum):
 
 
 class Unit(NamedTuple):
-    """Events that belong together: their indices in the list of all events, in rising order."""
+    """Events that belong together: their indices in the list of all events, in ascending order."""
 
     sort: Sort
     events: list[int]

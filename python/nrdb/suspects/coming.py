@@ -9,8 +9,8 @@ from .run import Run
 
 
 class Waiting(NamedTuple):
-    """A goroutine that is parked for reading: the step since which it is parked, what came (as text), and the step at
-    which it came."""
+    """A goroutine that is parked for reading: the step at which it parked, what has arrived (as text), and the step at
+    which that arrived."""
 
     goroutine: int
     use: Use
@@ -33,7 +33,7 @@ class Waiting(NamedTuple):
         return not self.has_event and run.notes.stale.get(self.use.descriptor, (0, 0))[0] > self.came
 
     def suspect(self, run: Run, step: int, weight: int, says: list[str]) -> Suspect:
-        """The suspect about a goroutine that waits for something that has come."""
+        """The suspect for a goroutine that waits although what it waits for has arrived."""
         shown = Evidence(run.end, f"gor {self.goroutine}", run.notes.now[f"gor {self.goroutine}"])
         d, s = self.use.descriptor, self.use.socket
         suspect = Suspect(step, weight, says, goroutine=self.goroutine, descriptor=d, socket=s, evidence=[shown])
@@ -42,7 +42,7 @@ class Waiting(NamedTuple):
 
 
 def waiting_for_what_came(run: Run) -> Iterator[Waiting]:
-    """All goroutines that wait for something that has come."""
+    """All goroutines that wait although what they wait for has arrived."""
     notes = run.notes
     for g, (d, side) in run.statuses("parked"):
         use = notes.use_of[int(d)]

@@ -20,13 +20,13 @@ class Ranked(NamedTuple):
 
 
 def suspects_of(recording: Recording) -> Ranked:
-    """The suspects by the rules about cells, which are all rules except the rules about calls."""
+    """The suspects that the rules about cells find. These are all rules except the rules about calls."""
     prepare(recording)
     return by_cells(Run(Notes(recording)))
 
 
 def all_suspects_of(recording: Recording) -> Ranked:
-    """The suspects by all rules. Suspects by the rules about calls come last."""
+    """The suspects that all rules find. Suspects from the rules about calls come last."""
     prepare(recording)
     run = Run(book_of(recording).notes)
     ranked = by_cells(run)

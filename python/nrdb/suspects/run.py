@@ -71,7 +71,7 @@ class Run:
         return [(g, words) for g, (at, *words) in found if at == place]
 
     def since(self, g: int) -> int:
-        """The step since which a goroutine has had its status at the end."""
+        """The step at which a goroutine got the status that it has at the end."""
         return self.notes.goroutines[g].since
 
     def inside(self, use: Use, side: str, position: int) -> Optional[int]:

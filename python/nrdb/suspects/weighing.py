@@ -33,7 +33,8 @@ def of_a_holder(run: Run, suspect: Suspect) -> Suspect:
 def is_in_a_system_call(run: Run, suspect: Suspect) -> bool:
     """Whether the recording ended while the holder of a lock or a reference was in one of Go's own calls, which gives
     it up after its system call. The program's lines must show that the holder took it in that call and hasn't left the
-    call since. If no lines are known, the holder's last step must be the `pollreset` after which Go's own calls try."""
+    call since. If no lines are known, the holder's last step must be the `pollreset` that Go's own calls make before
+    they try."""
     g, recording = suspect.goroutine, run.recording
     if g is None:
         return False

@@ -80,7 +80,7 @@ def read_part(name: str) -> str:
 def plain_json(value: Any) -> str:
     """The value in JSON. Each text in the value is escaped."""
     told = of_json(value)
-    # (JSON has a backslash in a text that isn't plain)
+    # (if a character of a text must be escaped, its JSON has a backslash)
     return of_json(plainly(value)) if "\\" in told else told
 
 

@@ -55,7 +55,8 @@ class Shown(NamedTuple):
 
 def collected(shown: Shown, window: Optional[Window] = None) -> Data:
     """The contents of the page: the calls and stories of the whole run, and each cell's values for a part of the run.
-    If no part is given, the part is the whole run or, in a long recording, the steps around the first story."""
+    If no part is given, `part_round` chooses the part: the whole run or, in a long recording, the steps near the first
+    story or the session's position."""
     whole = whole_of(shown)
     recording = shown.recording
     stories = whole["suspects"] + whole["causes"]

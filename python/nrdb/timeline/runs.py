@@ -30,8 +30,8 @@ class Window:
     last: int
 
     def compared(self) -> list[int]:
-        """The positions at which all cells are compared: the last position, and further positions at equal
-        distances."""
+        """The positions at which all cells are compared: the last position, and further positions at regular
+        intervals."""
         every = max((self.last - self.first) // COMPARED, 1)
         return [*range(self.first, self.last, every), self.last]
 
@@ -93,7 +93,8 @@ class Queues:
         return ((queue, self.shown(queue)) for queue in touched)
 
     def _moved(self, cell: str, status: str) -> Iterator[str]:
-        """Moves a goroutine as its new status says. Yields the queues that it leaves or joins."""
+        """Moves a goroutine between queues as its new status says. Yields each queue that the goroutine leaves or
+        joins."""
         before, self._statuses[cell] = self._statuses.get(cell, ""), status
         if before.startswith("queued "):
             self._standing[_queue(before)].remove(cell[4:])

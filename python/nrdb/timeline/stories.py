@@ -1,5 +1,5 @@
-"""The stories of the page: the suspects with their steps. If there are no suspects, the stories are the calls that hang
-or failed, with their causes. Rules and causes are nrdb's own; the values shown with them are netrev's."""
+"""The stories of the page: the suspects with their steps. If there are no suspects, there is a story for each call that
+hangs or has failed, with its cause. Rules and causes are nrdb's own; the values shown with them are netrev's."""
 
 from itertools import islice
 from typing import Iterator
@@ -57,7 +57,7 @@ def causes_data(recording: Recording) -> Iterator[Data]:
 
 
 def hang_data(graph: WaitGraph, hang: Hang, of: set[int]) -> Data:
-    """The story of a hang, with these steps."""
+    """The story about a hang, with these steps."""
     root = hang.root
     about = {
         "g": None if root.name.is_goid else root.name.number,
@@ -69,7 +69,7 @@ def hang_data(graph: WaitGraph, hang: Hang, of: set[int]) -> Data:
 
 
 def cause_data(recording: Recording, cause: Cause, of: set[int]) -> Data:
-    """The story of a failed call, with these steps."""
+    """The story about a failed call, with these steps."""
     call = cause.call
     about = {"g": call.goroutine, "s": call.socket, "d": call.descriptor}
     return story_data(recording, FAILED, call.last or call.first, cause.says, cause.looks, of) | about

@@ -40,8 +40,8 @@ class Connections:
                 self._touched.setdefault(g, {})[s] = many
 
     def groups(self, runs: Runs) -> dict[int, int]:
-        """The socket of each goroutine: the socket with the most steps. Both the goroutine's own steps on the socket
-        and the steps during which it waits there count."""
+        """The socket of each goroutine: the socket with the most steps. This counts the goroutine's own steps on the
+        socket and the steps during which it waits there."""
         for cell, run in runs.items():
             if cell.startswith("gor "):
                 ends = [begins for begins, _ in run[1:]] + [self._window.last + 1]

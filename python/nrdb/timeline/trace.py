@@ -112,7 +112,7 @@ class Tracing:
         self.slices = self.flows = 0
         self._has_answers = recording.has_answers
         self._statuses: Statuses = {}
-        # for each goroutine whose status is traced, the step since which the goroutine has had it
+        # for each goroutine whose status is traced, the step at which the goroutine got this status
         self._since: dict[int, int] = {}
 
     def events(self, name: str, check: Callable[[], None]) -> Iterator[str]:

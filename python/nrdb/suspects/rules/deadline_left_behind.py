@@ -1,6 +1,6 @@
-"""Deadline left behind: a deadline that was set for both sides, or before the recording begins, passes after only the
-other side's deadline was moved. Or the goroutine that set the deadline has since set the other side's deadline
-instead."""
+"""Deadline left behind. A deadline was set for both sides, or before the recording begins. Then only the other side's
+deadline was moved, and this side's deadline passes. Or the goroutine that set the deadline has since set the other
+side's deadline instead."""
 
 from typing import Iterator, Optional
 
@@ -11,7 +11,7 @@ from ..found import Evidence, Suspect, Weight
 from ..run import Run
 from ..weighing import of_a_deadline
 
-HABIT = 2  # the number of settings of one side alone that make it a goroutine's habit to set that side
+HABIT = 2  # a goroutine that sets one side alone this many times has a habit of setting that side
 
 
 def rule(run: Run) -> Iterator[Suspect]:

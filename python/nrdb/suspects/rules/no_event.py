@@ -6,7 +6,7 @@ from ..coming import waiting_for_what_came
 from ..found import Evidence, Suspect, Weight
 from ..run import Run
 
-JUST_NOW = 3  # the number of last steps in which an event may still come
+JUST_NOW = 3  # an event may still follow what came in this many steps before the end
 
 
 def rule(run: Run) -> Iterator[Suspect]:

@@ -1,5 +1,5 @@
-"""End not passed on: a goroutine that copied one connection to another met the end of the stream and never closed the
-other connection for writing, and the Read at its other end hangs."""
+"""End not passed on: a goroutine copied one connection to another and got the end of the stream, but never closed the
+second connection for writing. The Read at the other end of the second connection hangs."""
 
 from typing import Iterator
 
