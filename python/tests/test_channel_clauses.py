@@ -2,14 +2,15 @@
 hold, and for each side of a boundary."""
 
 from types import SimpleNamespace as Made
-from typing import Any, cast
+from typing import Any, NamedTuple, cast
 
 import pytest
 
 from nrdb.all_goroutines import CLOSED, FOR_ROOM, FOR_VALUE, PUT, TOOK, At, Use
 
 from nrdb.causes import (
-    balances, cancels, dropped_requests, failing, first, left_locked, leftovers, made_channels, mutex_holders, needs, needs_of_channels, needs_of_mutexes, rpc_calls, sibling_channels, slots, unpassed_ends,
+    balances, cancels, dropped_requests, failing, first, flushes, gone_readers, left_locked, leftovers, made_channels, mutex_holders, needs,
+    needs_of_channels, needs_of_mutexes, rpc_calls, sibling_channels, slots, unpassed_ends, waiters,
 )  # fmt: skip
 from nrdb.causes.senders import Giving
 from nrdb.one_call import CLOSE, Outcome
@@ -523,3 +524,77 @@ def test_a_mutex_that_no_goroutine_holds(lines: tuple[int, ...], says: str, monk
     )
     wait.begin = 6
     assert mutex_holders.MutexHolders._of_nobody(cast(Any, own), cast(Any, wait)).says == []
+
+
+@pytest.mark.parametrize(
+    "position, writes, answer",
+    [(20, [(8, 9)], 8), (20, [(7, 9)], None), (20, [(6, 9), (8, 9), (12, 13)], 8), (8, [(8, 9)], 8), (7, [(8, 9)], None), (20, [(8, 0)], None)],
+)  # fmt: skip
+def test_the_first_write_after_a_reader_ended(
+    position: int, writes: list[tuple[int, int]], answer: int | None, monkeypatch: Patch
+) -> None:
+    monkeypatch.setattr(gone_readers, "ended_behind", lambda index, call, until: 7)
+    monkeypatch.setattr(gone_readers, "is_of_go", lambda recording, call: False)
+    read = Made(name="Read", first=3, goroutine=2)
+    written = [Made(name="Write", first=first, last=last, moved=4) for first, last in writes]
+    index = Made(recording=Made(lines=Made(peers={1: 2})), by_socket={1: [read], 2: written})
+    found = gone_readers.gone_reader(cast(Any, index), 1, position)
+    assert found is not None and (found.wrote.first if found.wrote else None) == answer
+
+
+FLUSHED = """\
+func serve() {
+	for {
+		read()
+		switch {
+		case one:
+			if all {
+				begin()
+			}
+			write()
+			if late {
+				w.Flush()
+			}
+		case two:
+			w.Flush()
+		}
+	}
+}
+"""
+
+
+@pytest.mark.parametrize(
+    "written, flushed_at, is_flushed", [(9, 11, True), (9, 14, False), (9, 0, False), (7, 11, True), (7, 14, False)]
+)
+def test_a_flush_on_the_way_to_the_next_read(
+    written: int, flushed_at: int, is_flushed: bool, monkeypatch: Patch
+) -> None:
+    lines = tuple(
+        line.replace("w.Flush", "none") if number != flushed_at else line
+        for number, line in enumerate(FLUSHED.split("\n"), 1)
+    )
+    named = Made(flushes=("w.Flush",))
+    monkeypatch.setattr(flushes, "calls_one_of", lambda text, names: any(name in text for name in names))
+    assert flushes.flushes_after(lines, range(1, 18), 3, written, cast(Any, named)) is is_flushed
+
+
+@pytest.mark.parametrize(
+    "uses, parks, times, last",
+    [([], [], [], 0), ([5, 9, 3], [], [], 9), ([], [(4, 8), (6, 2)], [], 8), ([], [(2, 1), (9, 3), (4, 0)], [], 9), ([], [], [3, 7], 7), ([5], [(6, 8)], [3, 4], 8)],
+)  # fmt: skip
+def test_the_last_time_of_a_recording(
+    uses: list[int], parks: list[tuple[int, int]], times: list[int], last: int
+) -> None:
+    lines = Made(uses={number: [Made(end=end)] for number, end in enumerate(uses)}, times=times)
+    lines.parks = {1: [Made(begin=begin, end=end) for begin, end in parks]}
+    waiters.last_time_of.cache_clear()
+    assert waiters.last_time_of(cast(Any, Hashable(lines))) == last
+
+
+class Hashable(NamedTuple):
+    """A recording that can be a key: the lines aren't a part of its hash."""
+
+    lines: Any
+
+    def __hash__(self) -> int:
+        return id(self.lines)

@@ -224,3 +224,15 @@ def test_the_lines_that_have_a_step(
     )
     found = breakpoints.locations(cast(Any, target), Numbering(first == 1), asked)
     assert [one["line"] + shift for one in found["breakpoints"]] == wanted
+
+
+@pytest.mark.parametrize("last, count", [(999, 999), (1_000, 1_000), (1_001, 1_000), (2_000, 1_000)])
+@pytest.mark.parametrize("is_recording", [False, True])
+def test_a_thousand_lines_that_have_a_step(last: int, count: int, is_recording: bool) -> None:
+    debuggee = Made(
+        is_at=lambda path: is_recording, step=lambda number: Made(number=number, line=number), step_at=lambda line: Made(number=line, line=line)
+    )  # fmt: skip
+    target = Made(debuggee=debuggee, go_lines=Made(lines=lambda path: set(range(1, 3_000))))
+    asked = Request(1, "breakpointLocations", {"source": {"path": "main.go"}, "line": 1, "endLine": last})
+    found = breakpoints.locations(cast(Any, target), Numbering(True), asked)
+    assert [one["line"] for one in found["breakpoints"]] == list(range(1, count + 1))

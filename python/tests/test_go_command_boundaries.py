@@ -11,7 +11,7 @@ from typing import Any, cast
 
 import pytest
 
-from netrev_go import cli, doctor, goroutine_lines, lines, messages, outputs, status, tested, testing
+from netrev_go import cli, doctor, goroutine_lines, lines, messages, options, outputs, status, tested, testing
 from netrev_go.goroutine_lines import Everybody
 from netrev_go.standing import Standing
 from netrev_go.tested import Recordings
@@ -268,3 +268,20 @@ def test_a_search_that_fails_is_reported(tmp_path: Path, monkeypatch: Patch, cap
     recording = str(tmp_path / "nowhere.jsonl")
     assert tested.findings(recording, 60) == []
     assert f"{recording}: other schedules weren't explored: nrdb ended with status 3" in capsys.readouterr().err
+
+
+@pytest.mark.parametrize(
+    "name, least, most",
+    [
+        ("points", 16_384, 16_777_216), ("megabytes", 1, 1_048_576), ("procs", 1, 1_024), ("n", 0, 1_000_000_000), ("runs", 1, 1_000_000), ("seconds", 0, 1_000_000_000),
+        ("explore", 0, 1_000_000_000), ("delays", 1, 100_000_000),
+    ],
+)  # fmt: skip
+def test_the_limits_of_an_option(name: str, least: int, most: int) -> None:
+    usual = dict.fromkeys((limit[0] for limit in options.LIMITS))
+    command = {"command": "test", "github": False, "words_of_go": []}
+    for value in (least, most):
+        options.check(cast(Any, Made(**(usual | command | {name: value}))))
+    for value in (least - 1, most + 1):
+        with pytest.raises(Trouble, match=f"from {least} to {most}"):
+            options.check(cast(Any, Made(**(usual | command | {name: value}))))

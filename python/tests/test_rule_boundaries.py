@@ -14,7 +14,7 @@ from nrdb.cli import session_of
 from nrdb.commands import parts_of, whole_words
 from nrdb.dap.looking import NETWORK, thread_of
 from nrdb.dap.moving import Moves
-from nrdb.exploring import arrivals
+from nrdb.exploring import arrivals, failing
 from nrdb.exploring.control import Place, is_about
 from nrdb.exploring.failing import _of_socket
 from nrdb.exploring.others import Others
@@ -25,6 +25,7 @@ from nrdb.exploring.taking_apart import TakenApart
 from nrdb.line_hints import hint
 from nrdb.noted import By, Hold
 from nrdb.prompt.answers import answer_display
+from nrdb.reducing import reduced
 from nrdb.reducing.reduced import Wanted, wanted_by
 from nrdb.reducing.units import Needs
 from nrdb.session import Misused, Session
@@ -240,6 +241,20 @@ def test_what_ended_a_wait(
     assert found == ([5, 6], is_brief, cause, ends_unread)
 
 
+@pytest.mark.parametrize(
+    "asked, is_open, sorts",
+    [({}, True, ["RESET", "WAIT", "UNLOCK"]), ({3: 7}, True, ["RESET", "READ", "UNLOCK"]), ({}, False, ["UNLOCK"])],
+)
+def test_what_a_lock_that_failed_would_have_led_to(asked: dict[int, int], is_open: bool, sorts: list[str]) -> None:
+    uses = [Made(socket=9), Made(socket=3)] if is_open else []
+    apart = TakenApart(cast(Any, Made(uses=uses, socket_of=lambda event: 3)), asked, {})
+    apart._rwlock(cast(Any, Made(kind="rwlock", number=6, arguments=(1, 3, "r"), answer=("no",))))
+    supposed = [operation for operation in apart.operations if not operation.steps]
+    assert [operation.sort.name for operation in supposed] == sorts
+    assert [operation.use for operation in supposed] == [1] * (len(sorts) - 1) + [-1]
+    assert {(operation.socket, operation.side) for operation in supposed} == {(3, "r")}
+
+
 # smaller recordings
 
 
@@ -405,3 +420,41 @@ def test_when_what_came_is_due(told: list[int], every: list[int], in_vain: list[
     found = arrivals._due(cast(Any, item), cast(Any, events), cast(Any, Made(all=every, in_vain=in_vain)))
     assert found == (20 if due == 20 else due - arrivals.JUST_BEFORE)
     assert arrivals._due(cast(Any, item), cast(Any, events), None) == 20
+
+
+@pytest.mark.parametrize(
+    "steps, answers, is_well",
+    [
+        (([1], [2], [3]), "yes yes yes", True), (([], [2], [3]), "yes yes yes", False), (([1], [2], []), "yes yes yes", False), (([1], [], [3]), "yes yes yes", True),
+        (([1],), "yes", False), (([1], [2], [3]), "yes eof yes", False), (([1], [2], [3]), "no yes yes", False),
+    ],
+)  # fmt: skip
+def test_a_call_that_went_well(steps: tuple[list[int], ...], answers: str, is_well: bool) -> None:
+    kinds = ("rwlock", "sysread", "rwunlock")
+    call = [Operation(Sort.LOCK, 3, steps=some, kinds=[kind] * len(some)) for kind, some in zip(kinds, steps)]
+    script = cast(Any, Made(answers=[(word,) for word in answers.split()]))
+    assert failing.went_well(script, call) is is_well
+
+
+@pytest.mark.parametrize(
+    "shown, number, found",
+    [
+        ("yes no yes", 1, "a"),
+        ("yes no yes", 2, "c"),
+        ("yes no yes", 3, ""),
+        ("no no no", 1, ""),
+        ("yes yes yes", 0, ""),
+    ],
+)
+def test_the_suspect_that_a_reduction_keeps(
+    shown: str, number: int, found: str, monkeypatch: pytest.MonkeyPatch
+) -> None:
+    suspects = [Made(rule=rule, is_shown=word == "yes") for rule, word in zip("abc", shown.split())]
+    monkeypatch.setattr(reduced, "suspects_of", lambda recording: Made(suspects=suspects))
+    monkeypatch.setattr(reduced, "SuspectTarget", lambda events, suspect, at: (suspect.rule, at))
+    wanted = cast(Any, Made(hangs=-1, behind=[], cell="", suspect=number))
+    if found:
+        assert reduced._target(cast(Any, None), cast(Any, None), wanted) == (found, number)
+    else:
+        with pytest.raises(Misused):
+            reduced._target(cast(Any, None), cast(Any, None), wanted)
