@@ -30,7 +30,7 @@ class Book:
         self._recording, self._errors = recording, recording.lines.errors
         self.error = ""  # the system's name for the step's error, until it is stored in a call
         self.open: dict[int, list[Call]] = defaultdict(list)  # the calls that each goroutine is in, the innermost last
-        # for each sleeping goroutine, the step since which it has slept, and the clock at that step
+        # for each sleeping goroutine, the step at which it fell asleep, and the clock at that step
         self.asleep: dict[int, tuple[int, int]] = {}
         self.descriptor_of: dict[int, int] = {}  # for each open socket, its descriptor
         self.notes = Notes(recording, self._looks())

@@ -274,7 +274,7 @@ def takes_a_file(part: str) -> bool:
 
 
 def is_answered_here(words: list[str]) -> bool:
-    """Whether nrdb itself answers a line of these words."""
+    """Whether nrdb itself answers a line that consists of these words."""
     first, *rest = words
     if first == "info":
         return not rest or (rest[0] in TOPICS and TOPICS[rest[0]].origin is Origin.NRDB)

@@ -1,4 +1,4 @@
-"""The place of a goroutine at a position: its stack, since which step it has had this stack, and what it does."""
+"""The place of a goroutine at a position: its stack, the step at which it got this stack, and what it does."""
 
 from typing import NamedTuple, Optional
 

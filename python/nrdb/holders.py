@@ -16,8 +16,8 @@ LOCKING = ("incref", "increfclose", "decref", "rwlock", "rwunlock")
 
 @dataclass(frozen=True)
 class Reference:
-    """A reference that is held: the goroutine, the step since which the goroutine holds it, and, for a lock, its side
-    in a list of one element."""
+    """A reference that is held: the goroutine, the step at which the goroutine took it, and, for a lock, its side in a
+    list of one element."""
 
     step: Step
     goroutine: int

@@ -105,7 +105,7 @@ class Netrev:
         self._ahead: deque[tuple[str, Reply | Exception]] = deque()  # queries that were sent early, with their results
         self._kept: dict[
             str, Reply
-        ] = {}  # replies to the queries since the last line that wasn't one, if no other user can change them
+        ] = {}  # replies to queries; other lines clear them, and none is kept if other users can change the session
 
     def ask(self, line: str) -> Reply:
         """The reply to this line: a stored reply to the same query if no other line was sent since, else netrev's."""

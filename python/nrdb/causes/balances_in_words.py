@@ -12,7 +12,7 @@ MOST_BALANCES = 3  # the most sentences
 
 
 def kept_says(recording: Recording, balances: list[Balance]) -> list[str]:
-    """Sentences about the goroutines whose calls kept what they took. The sentences also name the lines by which these
+    """Sentences about the goroutines whose calls kept what they took. The sentences also name the lines at which these
     goroutines differ from others that the same `go` statement started."""
     kept = [one for one in balances if one.missing > 0]
     if not kept:

@@ -134,8 +134,8 @@ def wakings_of(recording: Recording, wait: Waiting) -> list[Waking]:
 
 
 def fields_of(lines: Lines, call: Call, within: range) -> set[str]:
-    """The fields in the condition of the innermost loop or `if` around a call. `within` has the lines of the
-    function."""
+    """The fields in the condition of the innermost loop or `if` around a call. For a loop without a condition, they are
+    the fields that its body tests. `within` has the lines of the function."""
     margin = indent_of(lines[call.line - 1])
     for number in range(call.line, within.start, -1):
         text = lines[number - 1].partition("//")[0]

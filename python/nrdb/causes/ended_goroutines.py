@@ -1,4 +1,4 @@
-"""Goroutines that ended while others wait for them: the last known place of each goroutine, and the lines by which it
+"""Goroutines that ended while others wait for them: the last known place of each goroutine, and the lines at which it
 may have left its loop."""
 
 import re
@@ -120,7 +120,7 @@ def ranged_over(recording: Recording, call: Call) -> str:
 
 
 def leaves_of(recording: Recording, call: Call) -> list[int]:
-    """The lines that leave the innermost loop around a line of a function, if they are few."""
+    """The lines that leave the innermost loop around a line of a function; none if there are many."""
     found = every_leave(recording, call)
     return found if len(found) <= MOST_LEAVES else []
 

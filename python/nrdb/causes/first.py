@@ -150,7 +150,7 @@ def hangs_of(graph: WaitGraph, has_failures: bool) -> list[Hang]:
     """The hangs of the first output. A goroutine that hangs in a read or a select may have nothing to do if no
     goroutine waits for it. Its hang is listed only if nothing else is. If the main goroutine is in such a hang, only
     that hang is listed, because the program ends when the main goroutine does. If the program ended by itself, a hang
-    is listed only if another goroutine waits for its goroutine, if it is a deadlock, or if `is_odd` is set for its
+    is listed only if it is a deadlock, if another goroutine waits for its goroutine, or if `is_odd` is set for its
     need. If no hang qualifies, the hangs at a mutex that was left locked are listed."""
     hangs = [hang for hang in graph.shown if not hang.is_quiet]
     if graph.has_ended:
@@ -246,8 +246,7 @@ def root_sentence(recording: Recording) -> str:
 
 
 def quiet_words(hangs: list[Hang]) -> list[str]:
-    """A sentence about the goroutines that wait because they may have nothing to do, with their places; empty if there
-    are none."""
+    """A sentence about waiting goroutines that may have nothing to do, with their places; empty if there are none."""
     count = sum(1 + len(hang.alike) for hang in hangs)
     places = [place.strip() for hang in hangs if (place := place_in(hang.root.stack))]
     at = f", {'; '.join(places[:MOST_HANGS])}{' ..' if places[MOST_HANGS:] else ''}" if places else ""

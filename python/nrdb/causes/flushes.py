@@ -69,7 +69,7 @@ def flushes_after(lines: Lines, within: range, read: int, written: int, named: N
 
 def ways_without_an_answer(recording: Recording, stack: Stack, writes: Iterable[Stack]) -> str:
     """The paths that lead from a goroutine's read to its next read in the same function, but skip the lines at which
-    the goroutine has written:  `main.go:58 goes on without main.go:60, which answers`; empty if no such path exists."""
+    the goroutine has written: `main.go:58 goes on without main.go:60, which answers`; empty if no such path exists."""
     own = stack.own()
     lines = source_of(recording, own[0].file) if own and own[0].of == OF_THE_PROGRAM else None
     within = range_of(lines, own[0]) if lines and own else None

@@ -1,5 +1,5 @@
-"""Waits on a channel that ended in vain, for example because a pool had no free slot. The channel was full, or empty,
-and stays so until the end of the recording."""
+"""Selects that gave up waiting for a channel, for example because a pool had no free slot. The channel was full, or
+empty, and stays so until the end of the recording."""
 
 from operator import attrgetter
 from typing import Iterator
@@ -20,7 +20,8 @@ A_WHILE = 20_000_000  # nanoseconds, the shortest wait that counts
 
 
 def given_up_waits(index: Index) -> Iterator[Cause]:
-    """The first wait on each buffered channel that ended in vain: the goroutine's select went on with another case."""
+    """For each buffered channel, the first wait that ended in vain: the goroutine's select went on with another
+    case."""
     recording, seen = index.recording, set[int]()
     every = [wait for some in waits_of(recording).of.values() for wait in some]
     for wait in sorted(every, key=attrgetter("first", "begin")):

@@ -76,7 +76,7 @@ def without_reader(index: Index) -> Iterator[Cause]:
 
 def ended_reader(index: Index, call: Call, other: int, position: int) -> list[str]:
     """Sentences about a Read that waits for an answer: the only goroutine that had read at the other end has ended. The
-    sentences name the lines by which it left its loop."""
+    sentences name the lines at which it left its loop."""
     gone = gone_reader(index, other, position)
     wrote = index.last_use(call.socket, position, ("Write",))
     if gone is None or gone.read.outcome is not Outcome.DONE or wrote is None or wrote.goroutine != call.goroutine:

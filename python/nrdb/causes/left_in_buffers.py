@@ -1,5 +1,5 @@
-"""Requests that are still in a buffer. A goroutine waits for an answer, has written nothing since the last answer, and,
-by the program's source, is in a function that writes into a bufio.Writer without flushing it."""
+"""Requests that are still in a buffer. A goroutine waits for an answer, has written nothing since the last answer, and
+is in a function that writes into a bufio.Writer without flushing it. The program's source shows this."""
 
 import re
 from functools import lru_cache

@@ -1,4 +1,4 @@
-"""Functions that, by the program's source, leave a mutex locked on one of their paths. A goroutine waits for that
+"""Functions that leave a mutex locked on one of their paths, found in the program's source. A goroutine waits for that
 mutex, and no goroutine is known to hold it."""
 
 import re

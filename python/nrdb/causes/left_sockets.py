@@ -1,5 +1,5 @@
-"""Connections that a function dialed or accepted and left open on one of its paths, so that the other end waits. They
-are found by where the function's goroutine was later, and by the program's source."""
+"""Connections that a function dialed or accepted and left open on one of its paths, so that the other end waits. The
+evidence is where the function's goroutine was later, and the program's source."""
 
 import re
 from typing import Optional
@@ -85,8 +85,8 @@ def without_users(recording: Recording, file: str, name: str, statement: str) ->
 
 
 def only_uses(recording: Recording, file: str, function: str, place: int) -> bool:
-    """Whether the package's function of this name only uses the parameter at `place`: by its source, it doesn't close,
-    keep or pass on the parameter."""
+    """Whether the package's function of this name only uses the parameter at `place`: its source doesn't close, keep or
+    pass on the parameter."""
     found = [
         (path, lines, number, head)
         for path, lines in files_of(recording, file)

@@ -1,5 +1,5 @@
 """Unbuffered channels whose maker has returned. A goroutine waits for a receiver, and the recording shows which
-function made the channel. The module finds the lines by which that function returns in the program's source."""
+function made the channel. In the program's source, the module finds the lines at which that function returns."""
 
 import re
 

@@ -1,5 +1,5 @@
-"""Goroutines that may later do what another goroutine waits for on a channel, by the program's source. Such a goroutine
-is in a function, before a line that puts a value into the channel or takes a value from it."""
+"""Goroutines that may later do what another goroutine waits for on a channel, found in the program's source. Such a
+goroutine is in a function, before a line that puts a value into the channel or takes a value from it."""
 
 import re
 from typing import Iterable, NamedTuple, Optional

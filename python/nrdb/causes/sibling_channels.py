@@ -1,5 +1,5 @@
-"""Channels that one line makes anew each time it runs. For a goroutine that waits on such a channel, the module finds
-the goroutine that ended the waits on earlier channels of the line."""
+"""Channels that were made at the same line, a new one each time the line ran. For a goroutine that waits on such a
+channel, the module finds the goroutine that ended the waits on earlier channels of the line."""
 
 from typing import Container, Optional
 

@@ -211,7 +211,7 @@ def skipped_ways(lines: Lines, within: range, begins: Optional[Test], ends: Test
 
 
 def that_stay(ways: list[Way]) -> list[Way]:
-    """The paths by which a goroutine goes on in a function instead of leaving the function."""
+    """The paths on which a goroutine continues in a function instead of leaving the function."""
     return [one for one in ways if one.does not in (DOES["return"], DOES["end"])]
 
 

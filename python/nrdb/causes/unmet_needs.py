@@ -1,5 +1,5 @@
 """What a failed call had waited for in vain, in addition to the cause of its error. The module covers calls whose
-descriptor was closed, Reads and Writes that timed out after other calls had ended in time under the same deadline, and
+descriptor was closed, Reads and Writes whose deadline was set while they waited or applied to earlier calls too, and
 Reads that didn't get the end of the stream."""
 
 import re
@@ -26,8 +26,9 @@ def given_up_says(index: Index, call: Call, by: Optional[Call]) -> list[str]:
 
 
 def found_says(index: Index, call: Call) -> list[str]:
-    """Further sentences about a Read or a Write that timed out after other calls had ended in time under the same
-    deadline. The sentences say why the bytes, or the room, that the call waited for didn't come."""
+    """Further sentences about a Read or a Write that timed out. Its deadline was set while it waited, or earlier calls
+    had ended under the same deadline. The sentences say why the bytes, or the room, that the call waited for didn't
+    come."""
     if index.is_listening(call) or not call.first < call.last:
         return []
     need = Needs(index, {}, call.last).of_call(call)

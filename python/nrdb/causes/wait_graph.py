@@ -174,8 +174,8 @@ class WaitGraph:
         return sorted(found, key=order)
 
     def _cause_of_root(self, waiter: Waiter) -> Hashable:
-        """The key by which roots form one hang: the ended goroutine for which they wait, else the line and what they
-        wait for."""
+        """The key of a root; roots with the same key form one hang. It is the ended goroutine for which the root waits,
+        else the line and what the root waits for."""
         need = self.needs[waiter.name]
         if need.gone:
             return need.gone

@@ -47,7 +47,7 @@ class GoLines:
         """For each line of a file, the positions at which a goroutine reaches it."""
         try:
             wanted = Path(path).resolve()
-        except (OSError, RuntimeError, ValueError):  # (the text isn't a path, or the path's links form a circle)
+        except (OSError, RuntimeError, ValueError):  # (the text isn't a path, or the path's links form a loop)
             return {}
         return places_of(self._debuggee.recording).lines_of(lambda file: self._roots.is_at(file, wanted))
 

@@ -11,7 +11,7 @@ from .wishes import Unset, Wish, is_in, positions_of, refused
 
 
 class Sort(Enum):
-    """The kinds of breakpoints, each with the protocol's name for the reason of its stop."""
+    """The kinds of breakpoints, each with the protocol's name for the reason why it stops."""
 
     LINE = "breakpoint"
     FUNCTION = "function breakpoint"

@@ -30,7 +30,7 @@ class Roots(NamedTuple):
 
 
 def whole(path: Path) -> Optional[Path]:
-    """A path with its links resolved; None if the path doesn't exist or its links form a circle."""
+    """A path with its links resolved; None if the path doesn't exist or its links form a loop."""
     try:
         return path.resolve()
     except (OSError, RuntimeError, ValueError):

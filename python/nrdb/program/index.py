@@ -18,8 +18,8 @@ MOST_NEAR = 5  # the most lines that are named if the requested line has no step
 
 
 class Place(NamedTuple):
-    """A line or a function as it was typed, and the rising positions before the steps at which a goroutine reaches
-    it."""
+    """A line or a function as it was typed, and the positions before the steps at which a goroutine reaches it, in
+    ascending order."""
 
     spelled: str
     positions: list[int]
