@@ -1,4 +1,4 @@
-"""The command `mutants.py around`: draws mutants, tries them and prints a table of the survivors."""
+"""The command `mutants.py around`: chooses mutants, tries them and prints a table of the survivors."""
 
 from __future__ import annotations
 

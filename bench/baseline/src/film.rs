@@ -78,7 +78,7 @@ impl<'a> Walker<'a> {
         self.pos = to;
     }
 
-    /// Goes to a position: by records or steps where it is near, else from the copy before it.
+    /// Goes to a position: by undo records or steps if it is near, otherwise from the copy before it.
     pub fn go_to(&mut self, to: usize) {
         if to <= self.pos && self.pos - to <= self.log.kept() {
             self.backward(to);

@@ -25,7 +25,7 @@ fn number(word: &[u8]) -> Result<u32, Fault> {
     if word.is_empty() { Err(202) } else { Ok(value as u32) }
 }
 
-/// A count of steps: 1 where none is given.
+/// A count of steps; the default is 1.
 fn count(words: &[&[u8]]) -> Result<usize, Fault> {
     match words {
         [] => Ok(1),
@@ -158,7 +158,7 @@ impl<'a> Session<'a> {
         self.say_at(out, if under { b" start" } else { b"" });
     }
 
-    /// Stops where a search hit, else at `last`.
+    /// Stops at the search's hit or, without a hit, at `last`.
     fn stop(&mut self, hit: Option<Hit>, last: usize, tail: &[u8], out: &mut Vec<u8>) {
         let Some(hit) = hit else {
             self.pos = last;

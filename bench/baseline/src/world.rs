@@ -1239,7 +1239,7 @@ impl World {
 
     // ---- undo ----
 
-    /// Undoes the last record of the log; false where none is kept.
+    /// Undoes the last record of the log. Returns false if the log has none.
     #[inline]
     pub fn undo(&mut self, log: &mut UndoLog) -> bool {
         let Some(r) = log.take() else { return false };
@@ -1339,7 +1339,7 @@ impl World {
                         self.next_arm -= 1;
                     }
                     if r.f & 16 << sd != 0 {
-                        // the entry's time is the old deadline; the write deadline was pushed first, so it is below the record's other words
+                        // the entry's time is the old deadline; the write deadline was pushed first, below the other words
                         let pq = log.words.pop();
                         let arm = log.words.pop();
                         let when = if sd == 0 { r.w as i64 } else { log.words.v[log.words.v.len() - (r.words as usize - 2)] as i64 };
