@@ -5,7 +5,7 @@ Runs random cases of each kind for the same time. The kinds are:
 
     logs       damaged logs of the recorder
     programs   logs of random programs, which must become complete recordings
-    views      nrdb's views of recordings, with any file of lines beside them
+    views      nrdb's views of recordings with any NAME.where
     editors    any request to the adapter
     browsers   any line for the page
 

@@ -20,7 +20,7 @@ OF_CONNECTIONS = frozenset(
 )  # fmt: skip
 
 
-OF_DATAGRAMS, GOES_TO, OF_UNIX = 1, 2, 3  # kinds of a point NAMED, as in go/log/poll.go
+OF_DATAGRAMS, GOES_TO, OF_UNIX = 1, 2, 3  # the kinds of a NAMED point, as in go/log/poll.go
 OF_IPV4, LOOPBACK, UNSPECIFIED = 1, 3, 4  # kinds of addresses there
 
 

@@ -131,7 +131,7 @@ def converted(
 
 
 def everybody_of(recording: Recording, found: Goroutines, calls: dict[int, Calls]) -> Everybody | None:
-    """All goroutines in the form of NAME.where; None if the log has no data about their waits and uses."""
+    """All goroutines, as NAME.where has them; None if the log has no data about their waits and uses."""
     if not (found.parks or found.uses):
         return None
     last = [recording.stacks[step - 1] if step else 0 for step in recording.last_steps]

@@ -173,7 +173,7 @@ class Objects:
 
 @dataclass
 class Everybody:
-    """All goroutines in the form of the file."""
+    """All goroutines, as the file has them."""
 
     found: Goroutines
     kept: Kept

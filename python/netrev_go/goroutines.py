@@ -22,8 +22,8 @@ PARKS, GOES_ON, CASES, HANDED, ENDS, TIMER, GROUP, STOPPED, MAKES, DIAL_FAILED =
     ),
 )  # fmt: skip
 CONCERNED = ORDERING | WAITING
-BY_GO = 1  # for a point READY: started by a `go` statement
-GIVES, TAKES = 1, 2  # for a point MET: the direction of the value; 0 in older logs
+BY_GO = 1  # in a READY point: started by a `go` statement
+GIVES, TAKES = 1, 2  # in a MET point: the direction of the value; 0 in older logs
 PUT, TOOK, CLOSES, ENDED = "put", "took", "closed", "ended"
 ADDED, DONE = "added", "done"  # at a WaitGroup
 OF_A_WAIT_GROUP = 8  # the offset of a WaitGroup's semaphore from its address, in all recordable releases of Go

@@ -92,7 +92,7 @@ def report_unrecorded(folder: pathlib.Path) -> bool:
 
 
 def leave(folder: pathlib.Path, keep: bool, is_whole: bool, running: list[pathlib.Path]) -> None:
-    """Removes a run's logs, unless the user wants them, a recording is missing, or some of these programs still run."""
+    """Removes a run's logs, unless the user wants them, a recording is missing, or some of these programs are still running."""
     logs = logs_in(folder)
     if keep or logs and not is_whole:
         release(folder)

@@ -74,7 +74,7 @@ def close_write(converter: Converter, socket: Socket, step: Lead) -> None:
 
 
 def answer_of(step: Lead) -> object:
-    """The answer in the form of a recording."""
+    """The answer, as a recording has it."""
     return step.answer[0] if len(step.answer) == 1 else list(step.answer)
 
 

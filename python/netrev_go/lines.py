@@ -68,7 +68,7 @@ def looked_up(
 
 
 def replaced_file(file: str) -> str:
-    """The real name of a file of Go that the overlay replaces with a file whose name has _ for /."""
+    """The real name of a Go file, which the overlay replaces with a file that has _ for / in its name."""
     name = file.rpartition("/")[2]
     for package in ("internal_poll_", "runtime_", "testing_"):
         if name.startswith(package):

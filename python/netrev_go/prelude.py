@@ -265,7 +265,7 @@ def _steps(leads: list[Lead], numbers: dict[int, int], begin: int) -> Iterator[t
 
 
 def relative(deadline: int, begin: int, clock: int) -> int:
-    """A deadline of Go's clock in the form of a step; raises Unreachable if the deadline is no longer in the future."""
+    """The argument of a step for a deadline in Go's time. Raises Unreachable if the deadline is no longer in the future."""
     if deadline <= 0 or deadline == GREATEST_TIME:
         return deadline
     time = deadline - begin - clock

@@ -106,7 +106,7 @@ def left_runs() -> list[LeftRun]:
 
 
 def left_run(folder: pathlib.Path) -> LeftRun | None:
-    """The run that is left in a folder, if any."""
+    """The leftover run in a folder, if any."""
     try:
         if not (is_own(folder, stat.S_ISDIR) and is_own(folder / OWNER, stat.S_ISREG)):
             return None

@@ -131,7 +131,7 @@ def writes(process: int, log: pathlib.Path) -> bool:
 
 
 def still_written(folder: pathlib.Path) -> list[pathlib.Path]:
-    """The logs of a folder whose processes still run."""
+    """The logs of a folder whose processes are still running."""
     return [log for log in logs_in(folder) if writes(process_of(log), log)]
 
 

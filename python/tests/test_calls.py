@@ -72,7 +72,7 @@ class Telling(Traffic):
 
 
 def seen(call: Call) -> Made:
-    """A call that nrdb found, in the form of the traffic's report."""
+    """A call that nrdb found, as the traffic reports a call."""
     return Made(call.goroutine, call.name, call.socket, call.first, call.last, call.outcome)
 
 

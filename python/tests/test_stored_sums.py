@@ -107,7 +107,7 @@ VIEWS: dict[str, Callable[[str], list[str]]] = {
 
 
 def text_of(name: str, view: str) -> str:
-    """What nrdb says in a view of a recording, beside its program's source."""
+    """What nrdb says in a view of a recording, if the source of its program is in the current folder."""
     program = name.rpartition("-")[0]
     with in_the_folder_of_the_source(source_of(program) if program in PROGRAMS else SOURCE):
         return "\n".join(VIEWS[view](name))

@@ -1,4 +1,4 @@
-"""Tests `netrev changes` with the built program. The name of each case begins with its sort:
+"""Tests `netrev changes` with the built program. The name of each case begins with its kind:
 
     stored     the changes of three recordings are compared with stored lines. If a recording has an answer that isn't the
                machine's, only the changes before that answer are printed

@@ -1,4 +1,4 @@
-"""Bad recordings and bad command lines for the built program. The name of each case begins with its sort:
+"""Bad recordings and bad command lines for the built program. The name of each case begins with its kind:
 
     reason     each reason for which a step doesn't apply, once with `netrev check`. Three reasons are left out, because no
                recording of 1,000,000 steps reaches them: 6 (a full field of a lock word), 18 (a number at its last value) and

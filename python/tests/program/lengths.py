@@ -1,4 +1,4 @@
-"""Tests the built program beyond ordinary sizes. The name of each case begins with its sort:
+"""Tests the built program beyond ordinary sizes. The name of each case begins with its kind:
 
     walk      netrev walks in both directions over recordings with more steps than it keeps deltas for, and with more steps than
               lie between two copies

@@ -9,11 +9,11 @@
     hostile   callers disconnect in the middle, send a line without an end, don't read, or continue after `quit`, or a port is
               in use. The next caller is served, netrev ends by itself, and its status says whether a connection failed
     histories callers at 64 fronts, two at each, send random lines. All replies must fit one order of all lines (history.py), and
-              `placed K` must be the number of commands. With all sorts of lines, only eight fronts talk at the same time,
-              because the search would take too long for more; with steps forwards and queries, all 64 fronts do. Two fronts
-              fill the journal
-    altered   tests that the search for an order can fail: no order fits after any reply of one session, or any reply to a
-              command of another session, is altered
+              `placed K` must be the number of commands. With all kinds of lines, only eight fronts talk at the same time,
+              because the search would take too long for more. With steps forwards and queries, all 64 fronts talk. Two
+              fronts fill the journal
+    altered   tests that the search for an order can fail: in one session, no order fits if any reply is altered; in another,
+              no order fits if any reply to a command is altered
 
 pytest's option --seed sets the seed of the random lines.
 """

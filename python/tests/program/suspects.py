@@ -1,4 +1,4 @@
-"""Tests `netrev suspects` with the built program. The name of each case begins with its sort:
+"""Tests `netrev suspects` with the built program. The name of each case begins with its kind:
 
     stored     the output for six recordings is compared with stored lines: the recordings of each hunt, a recording with an
                answer that isn't the machine's, and a recording with a faulty line

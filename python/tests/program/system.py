@@ -1,4 +1,4 @@
-"""Tests the built program against the operating system. The name of each case begins with its sort:
+"""Tests the built program against the operating system. The name of each case begins with its kind:
 
     output    standard output is closed or full, or is a pipe that has no reader: netrev ends with status 3, without a signal
               and with nothing on standard error

@@ -31,7 +31,7 @@ const (
 	netrevOfUnix      = 3 // a is the path of a connection's own end, and b the other end's, as numbers; 0 if an end has none
 )
 
-// A system call's error in the form of the log.
+// A system call's error, as the log has it.
 const (
 	netrevNoError = iota
 	netrevAgain

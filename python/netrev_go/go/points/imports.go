@@ -17,7 +17,7 @@ var before124 = map[string]struct {
 	"internal/runtime/sys":           {declares: "GetCallerSP", what: "sys.GetCallerSP()", instead: "getcallersp()"},
 }
 
-// oursFor returns the part of our file that is appended to a file of Go, and the imports that Go's file lacks.
+// oursFor returns the part of our file that is appended to a Go file, and the imports that the Go file lacks.
 func oursFor(folder, path string, host *source) (functions, imports string, err error) {
 	ours, err := readSource(path)
 	if err != nil {
