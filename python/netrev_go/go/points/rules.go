@@ -16,7 +16,7 @@ const (
 	before  how = "before" // before the statement that contains it
 	behind  how = "behind"
 	rename  how = "rename" // the function
-	beside  how = "beside" // behind the function
+	beside  how = "beside" // after the function
 )
 
 // A variant has the edits of a function in some releases.
