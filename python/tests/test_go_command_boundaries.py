@@ -149,6 +149,29 @@ def test_a_process_that_failed_without_a_failed_test(
     assert bool(capsys.readouterr().err) is says
 
 
+@pytest.mark.parametrize("is_red", [False, True])
+@pytest.mark.parametrize("is_empty", [False, True])
+def test_only_a_test_that_failed_is_reported_while_its_recording_is_made(
+    is_red: bool, is_empty: bool, monkeypatch: Patch, capsys: Output
+) -> None:
+    monkeypatch.setattr(tested, "head_of", lambda test: f"FAIL {test.name}")
+    kept: list[str] = []
+
+    def made(read: object, name: Path, test: Any, hear: Callable[[list[str]], None]) -> Made:
+        hear(["it hangs"])
+        return Made(is_empty=is_empty)
+
+    own = Made(
+        read=lambda log, tests: None, of=lambda test: None, name_of=lambda package, test: Path(package, test), made=made, _names={Path("p", "T")},
+        keep=lambda told, name, outcome, saying: kept.append(str(name)),
+    )  # fmt: skip
+    test = Made(package="p", name="T", is_red=lambda: is_red)
+    Recordings.of_each(cast(Any, own), Path("log"), cast(Any, None), cast(Any, [test]))
+    empty = [messages.TEST_USED_NONE.format(test="FAIL T")] if is_empty else []
+    assert capsys.readouterr().err.splitlines() == (["FAIL T", "  it hangs", *empty] if is_red else [])
+    assert (kept, own._names) == (([], set()) if is_empty else (["p/T"], {Path("p", "T")}))
+
+
 class Runner:
     """A run of Go's command that ends with a status, and may have been cancelled."""
 
