@@ -1,6 +1,7 @@
-"""Close without evict: the goroutine that closed a socket hasn't evicted its descriptor, and has paused for more than
-twice the longest pause that ended in this recording, or holds its reference for more than twice the longest such
-hold."""
+"""Close without evict: the goroutine that closed a socket hasn't evicted its descriptor, and has paused too long or
+held its reference too long."""
+
+# too long: more than twice the longest pause, or the longest such hold, that ended in this recording
 
 from typing import Iterator
 

@@ -1,5 +1,5 @@
-"""Deadline left behind. A deadline was set for both sides, or before the recording begins. Then only the other side's
-deadline was moved, and this side's deadline passes. Or the goroutine that set the deadline has since set the other
+"""Deadline left behind: a goroutine moved only the other side's deadline, and then this side's deadline passes; it was
+set for both sides, or before the recording begins. Or the goroutine that set the deadline has since set the other
 side's deadline instead."""
 
 from typing import Iterator, Optional

@@ -1,6 +1,7 @@
-"""Leaked reference: the goroutine that holds a reference is gone, has paused for more than twice the longest pause that
-ended in this recording, or holds it for more than twice the longest such hold. References that Go's own calls hold
-over a system call are left out."""
+"""Leaked reference: the goroutine that holds a reference is gone, has paused too long, or has held it too long.
+References that Go's own calls hold over a system call are left out."""
+
+# too long: more than twice the longest pause, or the longest such hold, that ended in this recording
 
 from typing import Iterator
 

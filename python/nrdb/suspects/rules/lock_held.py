@@ -1,5 +1,7 @@
-"""Lock held: a goroutine sleeps for a lock whose holder is gone, or has paused for more than twice the longest pause
-that ended in this recording. Locks that Go's own Read, Write or SendFile holds over a system call are left out."""
+"""Lock held: a goroutine sleeps for a lock whose holder is gone or has paused too long. Locks that Go's own Read, Write
+or SendFile holds over a system call are left out."""
+
+# too long: more than twice the longest pause that ended in this recording
 
 from typing import Iterator
 

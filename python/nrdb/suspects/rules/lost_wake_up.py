@@ -1,4 +1,4 @@
-"""Lost wake-up. A goroutine is parked at a side, the readiness of the side's last event was taken, and no try has been
+"""Lost wake-up: a goroutine is parked at a side, the readiness of the side's last event was taken, and no try has been
 answered EAGAIN since then; netrev lists these goroutines. Or a `pollreset` discarded an event, and the goroutine is
 about to park for reading without a read in between."""
 

@@ -1,5 +1,6 @@
-"""Missed release: a goroutine that owes a release of a semaphore has paused for more than twice the longest pause at
-that place that ended in this recording."""
+"""Missed release: a goroutine that owes a release of a semaphore has paused too long at that place."""
+
+# too long: more than twice the longest pause at that place that ended in this recording
 
 from typing import Iterator
 

@@ -1,5 +1,5 @@
-"""End not passed on: a goroutine copied one connection to another and got the end of the stream, but never closed the
-second connection for writing. The Read at the other end of the second connection hangs."""
+"""End not passed on: a goroutine copied one connection to another, reached the end of the stream, and never closed the
+destination for writing, so the Read at the destination's other end hangs."""
 
 from typing import Iterator
 
