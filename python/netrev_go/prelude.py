@@ -58,7 +58,7 @@ class Lead(NamedTuple):
     goroutine: int
     arguments: tuple[Any, ...]
     answer: tuple[Any, ...]
-    stack: int = 0
+    stack: int
 
 
 DONE, YES, WAITS, NO = ("done",), ("yes",), ("wait",), ("no",)

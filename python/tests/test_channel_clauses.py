@@ -9,7 +9,7 @@ import pytest
 from nrdb.all_goroutines import CLOSED, FOR_ROOM, FOR_VALUE, PUT, TOOK, At, Use
 
 from nrdb.causes import (
-    balances, cancels, dropped_requests, failing, first, flushes, gone_readers, left_locked, leftovers, made_channels, mutex_holders, needs,
+    balances, cancels, dropped_requests, exchanges, failing, first, flushes, gone_readers, left_locked, leftovers, made_channels, mutex_holders, needs,
     needs_of_channels, needs_of_mutexes, rpc_calls, sibling_channels, slots, unpassed_ends, waiters,
 )  # fmt: skip
 from nrdb.causes.senders import Giving
@@ -598,3 +598,22 @@ class Hashable(NamedTuple):
 
     def __hash__(self) -> int:
         return id(self.lines)
+
+
+@pytest.mark.parametrize(
+    "opened, stack, dialed, moves, is_client",
+    [
+        (True, True, True, [("Read", 2), ("Write", 2)], True), (True, True, False, [("Write", 2)], False), (True, False, False, [("Write", 2), ("Read", 2)], True),
+        (True, False, True, [("Read", 2), ("Write", 2)], False), (False, True, True, [("Read", 2)], False), (False, True, False, [("Write", 2)], True),
+        (True, True, True, [("Read", 2), ("Write", 3)], False), (True, True, True, [], False),
+    ],
+)  # fmt: skip
+def test_the_end_that_a_goroutine_dialed(
+    opened: bool, stack: bool, dialed: bool, moves: list[tuple[str, int]], is_client: bool, monkeypatch: Patch
+) -> None:
+    monkeypatch.setattr(exchanges, "is_dialed", lambda index, socket: dialed and socket == 5)
+    calls = [Made(name="Open", first=3, goroutine=2, moved=0)] * opened
+    calls += [Made(name=name, first=at, goroutine=goroutine, moved=4) for at, (name, goroutine) in enumerate(moves, 4)]
+    lines = Made(of=lambda step: Made(calls=["a call"] if stack and step == 3 else []))
+    index = Made(by_socket={5: calls}, recording=Made(lines=lines))
+    assert exchanges.is_client(cast(Any, index), 2, 5) is is_client

@@ -143,6 +143,18 @@ def test_a_terminal_completes_the_word_before_the_cursor(session: Session) -> No
         assert found == [*wanted, None], line
 
 
+@pytest.mark.parametrize("fault", [None, OSError("full")])
+def test_the_history_is_written_if_it_can_be(
+    session: Session, fault: OSError | None, monkeypatch: pytest.MonkeyPatch
+) -> None:
+    monkeypatch.setenv("NETREV_HISTORY", "/nowhere/history")
+    fake = mock.Mock()
+    fake.write_history_file.side_effect = fault
+    monkeypatch.setattr(terminal, "readline", fake)
+    Terminal(session)._save()
+    fake.write_history_file.assert_called_once_with(Path("/nowhere/history"))
+
+
 @pytest.mark.parametrize(("line", "is_repeated"), [("stepi", True), ("si 3", True), ("rsi", True), ("info position", False), ("goto 3", False), ("re", False), ("nothing", False)])  # fmt: skip
 def test_an_empty_line_repeats_a_step_alone(line: str, is_repeated: bool) -> None:
     assert repeats(line) == is_repeated
