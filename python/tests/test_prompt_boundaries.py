@@ -2,6 +2,7 @@
 page and of its marks."""
 
 import io
+from pathlib import Path
 from typing import Any, cast
 from unittest import mock
 
