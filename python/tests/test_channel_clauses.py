@@ -554,6 +554,8 @@ func serve() {
 			write()
 			if late {
 				w.Flush()
+			} else {
+				w.Flush()
 			}
 		case two:
 			w.Flush()
@@ -564,7 +566,8 @@ func serve() {
 
 
 @pytest.mark.parametrize(
-    "written, flushed_at, is_flushed", [(9, 11, True), (9, 14, False), (9, 0, False), (7, 11, True), (7, 14, False)]
+    "written, flushed_at, is_flushed",
+    [(9, 11, True), (9, 13, False), (9, 16, False), (9, 0, False), (7, 11, True), (7, 16, False)],
 )
 def test_a_flush_on_the_way_to_the_next_read(
     written: int, flushed_at: int, is_flushed: bool, monkeypatch: Patch
@@ -575,7 +578,7 @@ def test_a_flush_on_the_way_to_the_next_read(
     )
     named = Made(flushes=("w.Flush",))
     monkeypatch.setattr(flushes, "calls_one_of", lambda text, names: any(name in text for name in names))
-    assert flushes.flushes_after(lines, range(1, 18), 3, written, cast(Any, named)) is is_flushed
+    assert flushes.flushes_after(lines, range(1, 20), 3, written, cast(Any, named)) is is_flushed
 
 
 @pytest.mark.parametrize(
