@@ -558,7 +558,12 @@ func serve() {
 				w.Flush()
 			}
 		case two:
-			w.Flush()
+			write()
+			if late {
+				w.Flush()
+			} else {
+				w.Flush()
+			}
 		}
 	}
 }
@@ -567,7 +572,16 @@ func serve() {
 
 @pytest.mark.parametrize(
     "written, flushed_at, is_flushed",
-    [(9, 11, True), (9, 13, False), (9, 16, False), (9, 0, False), (7, 11, True), (7, 16, False)],
+    [
+        (9, 11, True),
+        (9, 13, False),
+        (9, 18, False),
+        (9, 0, False),
+        (7, 11, True),
+        (7, 18, False),
+        (16, 18, True),
+        (16, 20, False),
+    ],
 )
 def test_a_flush_on_the_way_to_the_next_read(
     written: int, flushed_at: int, is_flushed: bool, monkeypatch: Patch
@@ -578,7 +592,7 @@ def test_a_flush_on_the_way_to_the_next_read(
     )
     named = Made(flushes=("w.Flush",))
     monkeypatch.setattr(flushes, "calls_one_of", lambda text, names: any(name in text for name in names))
-    assert flushes.flushes_after(lines, range(1, 20), 3, written, cast(Any, named)) is is_flushed
+    assert flushes.flushes_after(lines, range(1, 25), 3, written, cast(Any, named)) is is_flushed
 
 
 @pytest.mark.parametrize(
