@@ -147,6 +147,7 @@ def test_the_log_has_what_the_program_did() -> None:
         log = read_log(path)
         assert text_of(log, raw_points(path)) == STORED.read_text()
         assert said_of(log, folder / "whole.jsonl") == ""
+        assert log.stacks and all(all(stack.calls) for stack in log.stacks.values())  # (each call has an address)
         log.points, log.from_the_start = log.points[len(log.points) // 2 :], False
         del log.kinds
         assert said_of(log, folder / "noted.jsonl") == ""
