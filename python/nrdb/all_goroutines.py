@@ -96,7 +96,7 @@ class Use(NamedTuple):
 
 class Timer(NamedTuple):
     """A timer that a goroutine made, reset or stopped. `object` is its channel (0 if the timer calls a function), and
-    `step` is the last step before that. `due` is the time at which the timer goes off (-1 if it was stopped). For a
+    `step` is the last step before the goroutine did so. `due` is the time at which the timer goes off (-1 if it was stopped). For a
     timer without a channel, the recording has only the call that made it."""
 
     object: int
@@ -180,7 +180,7 @@ class AllGoroutines:
     def begin_goroutines(self) -> None:
         """Starts without any goroutine."""
         self.goroutines: dict[int, GoGoroutine] = {}
-        self.parks: dict[int, list[Park]] = {}  # by goroutine, in the order of their beginnings
+        self.parks: dict[int, list[Park]] = {}  # by goroutine, in the order in which they began
         self.objects: dict[int, Object] = {}
         self.uses: dict[int, list[Use]] = {}  # by object
         self.timers: dict[int, list[Timer]] = {}  # by channel

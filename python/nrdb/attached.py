@@ -1,4 +1,4 @@
-"""`commands N`: lines that nrdb runs each time a mark hits, as GDB does."""
+"""`commands N`: lines that nrdb runs each time a mark is hit, as GDB does."""
 
 from collections import deque
 from dataclasses import dataclass, field
@@ -16,11 +16,11 @@ class Attached:
     pending: deque[str] = field(default_factory=deque)
 
     def begin(self, mark: str) -> None:
-        """Replaces the lines of this mark by the lines typed next."""
+        """Replaces the lines of this mark with the lines typed next."""
         self.lines[mark], self.taking = [], mark
 
     def takes(self, line: str) -> bool:
-        """Whether the line belongs to a mark. Such a line is kept, and runs when the mark hits."""
+        """Whether the line belongs to a mark. Such a line is kept, and runs when the mark is hit."""
         if self.taking is None:
             return False
         if line.strip() == END:
@@ -30,7 +30,7 @@ class Attached:
         return True
 
     def hits(self, marks: Sequence[str]) -> None:
-        """Queues the lines of the marks that hit after a move. Lines left from an earlier stop are dropped."""
+        """Queues the lines of the marks that a move hit. Lines left from an earlier stop are dropped."""
         self.pending = deque(line for mark in marks for line in self.lines.get(mark, ()))
 
     def listed(self, entries: Sequence[str]) -> Iterator[str]:

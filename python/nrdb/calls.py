@@ -95,8 +95,8 @@ def fail(notes: Notes, call: Call, outcome: Outcome) -> None:
         call.passed = timeout.passing.step
 
 
-# The functions that run after the steps of each kind, made from the book, the notes and a step's arguments, as in
-# `noting.py`. (`sysread`, `syswrite`, `setdeadline` and `closewrite` don't end a call.)
+# One function for each kind of step. It takes the book, the notes and a step's arguments, and returns a function that
+# runs after each step with the same line, as in `noting.py`. (`sysread`, `syswrite`, `setdeadline` and `closewrite` don't end a call.)
 
 
 def goes_on(book: Book, notes: Notes, g: int, *_: object) -> Look:

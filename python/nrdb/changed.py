@@ -19,8 +19,8 @@ NOTHING = "changed: nothing that a cell shows"
 def tables_beside(
     changes: RecordedChanges, recording: Recording, position: int, hit: Sequence[Listed]
 ) -> Iterator[Table]:
-    """The tables after a move to a position: the owners of the timers of the steps next to it, the marks that hit, and
-    the changes made by the last step."""
+    """The tables after a move to a position: the timers of the last and the next step, with their owners, the marks
+    that were hit, and the changes made by the last step."""
     if (timers := timers_beside(recording, position)).rows:
         yield timers
     if hit:

@@ -95,7 +95,9 @@ class ChangedLines:
         named = b" %s = " % cell.encode()
         end = len(self._lasts) if until is None else bisect_right(self._lasts, until) + 1
         for piece in self.pieces[:end]:
-            before, *parts = piece.split(named)  # (each part ends with the step of the next one)
+            before, *parts = piece.split(
+                named
+            )  # (each part ends with the number of the next step that changed the cell)
             for part in parts:
                 step = int(before[before.rfind(b"\n") + 1 :])
                 if until is not None and step > until:

@@ -1,4 +1,4 @@
-"""Conditions of marks: a cell, and the value that the cell must have when the mark hits."""
+"""Conditions of marks: a cell, and the value that the cell must have when the mark is hit."""
 
 from fnmatch import fnmatchcase
 from typing import NamedTuple, Optional, Sequence

@@ -11,7 +11,7 @@ from netrev_words.plain import plain
 from .messages import session as messages
 
 WANTED_BY = "NRDB_TRACEBACK"  # the environment variable that turns tracebacks on
-LONGEST = 200  # the most characters of an error's text
+LONGEST = 200  # the maximum number of characters in an error's text
 
 
 class Misused(Exception):

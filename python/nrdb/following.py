@@ -92,7 +92,7 @@ def _rest(count: int, shown: int, name: str, line: str, subject: Subject, positi
 
 
 def calls_table(recording: Recording, subject: Subject, position: int, most: Optional[int]) -> Table:
-    """The last calls of the subject that began up to the position."""
+    """The subject's calls that began at or before the position. If there are more than `most`, only the last ones."""
     found = [call for call in book_of(recording).calls if call.first <= position and subject.has(call)]
     shown = found if most is None else found[-most:]
     rows = [call_row(recording, call, position) for call in shown]
@@ -170,7 +170,7 @@ def finish_goal(recording: Recording, goroutine: int, position: int) -> Goal:
 
 
 def return_goal(recording: Recording, goroutine: int, position: int) -> Goal:
-    """The position before the goroutine's first step after it has left its current function of the program."""
+    """The position just before the goroutine's first step outside the program's function that it is now in."""
     found = position_of_return(recording, goroutine, position)
     if found is not None:
         return Goal(found)

@@ -6,8 +6,8 @@ from .output import Row
 from .waits import Name, of_names
 from .words import DOING, SIDES
 
-MANY = 4  # the fewest goroutines that share a row if they wait for the same lock or event
-RUNS = 8  # the most ranges of numbers that are shown
+MANY = 4  # at least this many goroutines that wait for the same lock or event share a row
+RUNS = 8  # the maximum number of ranges of numbers in a row
 
 
 def grouped(rows: list[Row], who_has: Callable[[int, str], str]) -> list[Row]:
@@ -29,7 +29,7 @@ def _likeness(values: dict[str, Any]) -> Optional[Hashable]:
     name, *rest = values["status"].split()
     if name == "queued":
         return values["status"]
-    # (goroutines are parked at different descriptors, with different deadlines and steps)
+    # (goroutines are parked on different descriptors, with different deadlines and steps)
     return (name, rest[1], *_common(values)) if name == "parked" else None
 
 
@@ -42,7 +42,7 @@ def _common(values: dict[str, Any]) -> tuple[str, ...]:
 
 
 def _place(values: dict[str, Any]) -> tuple[str, str]:
-    """The program's line at which a goroutine is, and the line that started it; empty if unknown."""
+    """A goroutine's current line in the program, and the line that started the goroutine; empty if unknown."""
     at = values["at"].split(" since step ") if "at" in values else ["", ""]
     return at[0], at[1].partition("; ")[2] if at[1:] else ""
 

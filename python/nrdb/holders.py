@@ -25,7 +25,7 @@ class Reference:
 
 
 class Holding(NamedTuple):
-    """A reference, while nrdb counts references. `number` is the step that took the reference."""
+    """A reference during the count in `holders_of`. `number` is the number of the step that took the reference."""
 
     number: int
     goroutine: int

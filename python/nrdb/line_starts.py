@@ -50,6 +50,6 @@ class LineStarts:
         return len(self._data) + 1 if line else 0
 
     def line_at(self, place: int) -> int:
-        """The number, from 1, of the line at a place of the text."""
+        """The number of the line that contains a place in the text. Lines are numbered from 1."""
         block = place // BLOCK
         return self._before[block] + self._data.count(b"\n", block * BLOCK, place) + 1

@@ -1,5 +1,5 @@
-"""The changes of a recording without netrev, for schedules of `explore` and candidates of `reduce`. The Python model of
-the machine computes the changes, in the form of `netrev changes`."""
+"""The changes made by a recording's steps, for schedules of `explore` and candidates of `reduce`. They are computed
+without netrev, by the Python model of the machine, in the form of `netrev changes`."""
 
 from typing import Any, Callable, Iterable, Iterator, Optional
 

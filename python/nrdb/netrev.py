@@ -14,11 +14,11 @@ from .messages import session as messages
 from .interrupts import Interrupts
 from .shapes import Listed, Strange, entries_in, mark_of, value_of
 
-AT_ONCE = 16_384  # the most bytes of lines that are sent before their replies are read; any pipe has room for them
+AT_ONCE = 16_384  # the maximum number of bytes sent before the replies are read; every pipe has room for that many
 READ = 65_536
 LONGEST = 2 * 1_048_576 + 64  # the bytes of the longest reply, which is a dump of a full buffer
 QUERIES = ("print ", "dump ", "info position")  # queries whose replies only other lines change
-MOST_KEPT, LONGEST_KEPT = 65_536, 200  # the most replies that are kept, and the most bytes of one
+MOST_KEPT, LONGEST_KEPT = 65_536, 200  # the maximum number of stored replies, and the maximum bytes of one
 SILENCE = 1  # after this many seconds without a first reply, the caller is notified
 
 

@@ -35,8 +35,8 @@ class Passing(NamedTuple):
 
 
 class Taking(NamedTuple):
-    """A step by which a goroutine took a readiness: the step, the goroutine, and the step of the event that brought the
-    readiness."""
+    """A step at which a goroutine consumed a descriptor's readiness: the step, the goroutine, and the step of the event
+    that had made the descriptor ready."""
 
     step: int
     goroutine: int
@@ -104,9 +104,9 @@ class Use:
         self.descriptor, self.socket, self.opened, self.closed, self.tag = descriptor, socket, opened, 0, tag
         self.settings: list[Setting] = []
         self.errors: list[ErrorEvent] = []
-        self.thrown: list[Taking] = []  # readinesses for reading that a `pollreset` discarded
-        # for both sides: the origin of the deadline, the steps at which the deadline passed, the last event, the last
-        # readiness that was taken or discarded, and the waits
+        self.thrown: list[Taking] = []  # events for reading that a `pollreset` discarded
+        # for each side: the origin of the deadline, the steps at which the deadline passed, the last event, the last
+        # time that readiness was consumed or discarded, and the waits
         self.dues: list[Optional[Due]] = [None, None]
         self.passings: tuple[list[Passing], ...] = ([], [])
         self.last_events = [0, 0]

@@ -21,7 +21,7 @@ Look = Callable[[int], None]  # called with the step's number
 Looks = Mapping[str, Callable[..., Look]]  # makes such a function for each kind, from the notes and a step's arguments
 Row = tuple[Goroutine, Optional[Note], Optional[Look]]
 CLOSED = 1  # the bit of a lock word for a closed socket
-MOST_CHANGED = 1_024  # the most bytes of a firing's changes, which are a dozen lines at most
+MOST_CHANGED = 1_024  # the maximum number of bytes in a firing's changes, which are a dozen lines at most
 
 
 class Now(dict[str, str]):

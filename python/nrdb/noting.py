@@ -2,7 +2,7 @@
 function that is called at each step with the same line. That function's arguments are the step's number as an integer
 and as text. Goroutines, sockets and descriptors have their own modules. Each function looks up the cells that it needs
 by step and cell (`12 lock 0`). `changed_aspects` in crates/nr_rev/specs/Aspect.antt says which cells a kind may change.
-`parkcommit`, a deadline and an evict neither make a word ready nor take a readiness."""
+`parkcommit`, a deadline and an evict neither make a word ready nor consume its readiness."""
 
 from typing import Callable
 

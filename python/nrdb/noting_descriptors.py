@@ -78,7 +78,7 @@ def began_to_wait(notes: Notes, g: int, d: int, side: str) -> Note:
 
 
 def took(notes: Notes, g: int) -> Note:
-    """Notes that a goroutine arms its wait or wakes. If its wait word was ready, the goroutine takes the readiness."""
+    """Notes that a goroutine arms its wait or wakes. If its wait word was ready, the goroutine consumes that."""
     goroutine, told, own, moves, ready = notes.goroutine(g), notes.told.get, f" gor {g}", notes.moves, notes.ready
 
     def note(step: int, number: str) -> None:
@@ -92,7 +92,7 @@ def took(notes: Notes, g: int) -> Note:
 
 
 def taken(notes: Notes, step: int, number: str, g: int, d: int, side: str) -> Taking:
-    """Notes that a goroutine takes a descriptor's readiness."""
+    """Notes that a goroutine consumes a descriptor's readiness."""
     if f"{number} {side}g {d}" in notes.told:
         notes.ready[side].discard(d)
     use, at = notes.use_of[d], AT[side]

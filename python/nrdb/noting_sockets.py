@@ -85,8 +85,8 @@ def shut(notes: Notes, g: int, s: int) -> Note:
 
 
 def referred(kind: str) -> Callable[..., Note]:
-    """Makes the function that notes a step that may take a reference. The function notes whether the lock word counts
-    one more reference, and, for a side, whether the step also took the lock."""
+    """Makes the function for steps that may take a reference. The function notes whether the lock word counts one more
+    reference, and, for a side, whether the step also took the lock."""
 
     def of(notes: Notes, g: int, s: int, side: str = "") -> Note:
         goroutine, locks, told, cell = notes.goroutine(g), notes.locks, notes.told.get, f" lock {s}"

@@ -1,4 +1,4 @@
-"""A call of Go: its object, its beginning and end, and its result."""
+"""A Go call: its object, its beginning and end, and its result."""
 
 from dataclasses import dataclass
 from enum import Enum
@@ -41,7 +41,7 @@ class Call:
     first: int
     last: int = 0
     waited: int = 0  # the number of steps during which the call's goroutine slept
-    slept: int = 0  # the nanoseconds of the clock during these steps
+    slept: int = 0  # the nanoseconds that the clock advanced during these steps
     moved: Optional[int] = None  # the number of bytes that it moved, if it tried to read or write any
     outcome: Outcome = Outcome.DONE
     side: str = ""  # the side of the lock that it holds

@@ -142,7 +142,7 @@ class TextPrinter(Printer):
         self.is_coloured = is_coloured
 
     def styled(self, text: str, style: Style) -> str:
-        """The text in this style, made plain first."""
+        """The text in this style, with an escape for each invisible or control character."""
         is_styled = self.is_coloured and style is not Style.PLAIN
         return f"\x1b[{style.value}m{plain(text)}\x1b[0m" if is_styled else plain(text)
 

@@ -10,7 +10,7 @@ from .commands import Ambiguous, parts_of, whole_words
 from .netrev import AT_ONCE, Netrev
 from .output import Printer
 
-MOST = 1_024  # the most lines that are sent together
+MOST = 1_024  # the maximum number of lines sent together
 
 
 class Answering(Protocol):

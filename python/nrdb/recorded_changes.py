@@ -11,7 +11,7 @@ from typing import Callable, Iterable, Iterator, NamedTuple, Optional, Sequence
 from .messages import session as messages
 from .changed_lines import ChangedLines, NoChanges
 
-FEW = 300  # the number of queries that are answered by searching the lines before the arrays are made
+FEW = 300  # this many queries are answered by a search of the lines; the next one builds the arrays
 AT_START = {"clock": "0", "waiters": "0", "timers": "0", "firings": "0", "gor 0": "idle"}
 
 
@@ -134,8 +134,8 @@ class RecordedChanges:
     def nearest(
         self, cells: Sequence[str], are_wanted: Callable[[list[str]], bool], position: int, backwards: bool
     ) -> Optional[int]:
-        """The nearest position in a direction at which `are_wanted` accepts the cells' values, and the step just before
-        it changed one of the cells; None if no such position exists."""
+        """The nearest later (or, with `backwards`, earlier) position just after a change of one of the cells at which
+        `are_wanted` accepts the cells' values; None if no such position exists."""
         steps = sorted({step for cell in cells for step in self.steps_of(cell, position if backwards else None)})
         ways = reversed(steps[: bisect_left(steps, position)]) if backwards else steps[bisect_right(steps, position) :]
         return next((step for step in ways if are_wanted(self.values(step, cells))), None)

@@ -143,7 +143,7 @@ class Recording:
         return self.data[self._starts[self._numbers[first + 1] - 1] : self._starts[self._numbers[last]]]
 
     def is_last(self, number: int) -> bool:
-        """Whether only blanks follow the line with this number."""
+        """Whether only blank lines follow the line with this number."""
         return not self.data[self._starts[number] :].strip(b" \t\r\n\0")
 
     @cached_property
@@ -184,7 +184,7 @@ class Recording:
             end, size = first - 1, 2 * size
 
     def number_at(self, place: int) -> int:
-        """The number of the step at this place of the text."""
+        """The number of the step at this place in the text."""
         return bisect_left(self._numbers, self._starts.line_at(place))
 
     def arrays(self) -> Iterator[list[Any]]:
@@ -192,7 +192,7 @@ class Recording:
         return self.rows(lambda values: values)
 
     def rows(self, made: Callable[[list[Any]], Row], begin: int = 1, end: Optional[int] = None) -> Iterator[Row]:
-        """A value made from each step's array, in order. The value is made only once for similar lines nearby."""
+        """The result of `made` for each step's array, in order. Equal lines near each other may share one result."""
         return chain.from_iterable(self._rows_together(made, begin, end))
 
     def _rows_together(

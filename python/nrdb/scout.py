@@ -9,7 +9,7 @@ from .netrev import Ended, Netrev
 from .shapes import move_of
 
 JOURNAL = 65_536  # the number of commands that fit into a session of `netrev run`
-MOST_PLACED = 2  # the most commands that a move to a position takes
+MOST_PLACED = 2  # a move to a position takes at most this many commands
 
 Seen = TypeVar("Seen")
 
@@ -20,8 +20,8 @@ class Lost(Exception):
 
 class Scout:
     """Answers queries at any position. The first query starts netrev. A later query starts it again when its journal is
-    nearly full. A session that never moves may lend its own netrev for the first queries, and ends that netrev
-    itself."""
+    nearly full. A session that never moves may pass its own netrev as `lent`, for the first queries. The session,
+    not the scout, stops that netrev."""
 
     def __init__(self, opened: Callable[[], Netrev], lent: Optional[Netrev] = None):
         self._opened = opened
@@ -38,13 +38,13 @@ class Scout:
                 raise Lost(f"{error.filename}: {error.strerror}") from None
 
     def drop(self) -> None:
-        """Ends netrev, even in the middle of a query. A lent netrev is given back instead."""
+        """Stops netrev, even in the middle of a query. A netrev that the session lent isn't stopped, only no longer used."""
         dropped, self._netrev = self._netrev, None
         if dropped is not None and dropped is not self._lent:
             dropped.drop()
 
     def look(self, position: int, looks: Callable[[Netrev], Seen]) -> Seen:
-        """The second netrev's result of a query at the position."""
+        """The result of a query at the position, from the scout's netrev."""
         return self._anew(lambda: looks(self._at(position)))
 
     def values(self, position: int, cells: Sequence[str]) -> list[str]:
@@ -63,7 +63,7 @@ class Scout:
             raise Lost(messages.SECOND_NETREV_ENDED) from None
 
     def _whole(self, look: Callable[[], Seen]) -> Seen:
-        """The complete result of a query. If anything interrupts the query, its netrev is ended."""
+        """The complete result of a query. If anything interrupts the query, the scout drops its netrev."""
         try:
             return look()
         except BaseException:

@@ -50,9 +50,9 @@ class Session:
     depth: int = 0
     program: str = ""  # netrev's program, and the recording's file, if known
     path: str = ""
-    breaks: Breaks = field(default_factory=Breaks)  # breaks at places of the program
+    breaks: Breaks = field(default_factory=Breaks)  # breaks at lines and functions of the program
     frame: Optional[int] = None  # the stack's frame, counted from the innermost; None for the program's own line
-    is_before: bool = False  # whether the stack is that of the next step, at a place of the program
+    is_before: bool = False  # whether the stack is that of the next step, because a break stopped the move
     goroutine: Optional[Name] = None  # the chosen goroutine, until the session moves
     recorded: Optional[RecordedChanges] = None  # None if the session has no recording
     errors: int = 0  # the number of nrdb's own errors
@@ -121,7 +121,7 @@ class Session:
             return True
 
     def attempt(self, line: str) -> bool:
-        """Answers a line, which may have several commands separated by `;`, and runs the commands of marks that hit.
+        """Answers a line, which may have several commands separated by `;`, and runs the commands of marks that were hit.
         Returns False if the session has ended."""
         if not line.split() or line.lstrip().startswith("#"):
             return True
@@ -180,8 +180,8 @@ class Session:
         return reply.first != "bye"
 
     def note_marks(self, entries: Sequence[str]) -> None:
-        """Prints the lines that run when the marks of `info breakpoints` hit, the breaks at places of the program, and
-        the conditions of marks."""
+        """Prints what `info breakpoints` adds to netrev's marks: the lines that run when a mark is hit, the breaks at
+        lines and functions of the program, and the conditions of marks."""
         standing = [*(entry.split()[0] for entry in entries), *self.breaks.standing]
         conditions = [one.says(number) for number, one in self.conditions.items() if number in standing]
         breaks = [one.words() for one in self.breaks.standing.values()]
@@ -201,7 +201,7 @@ class Session:
             self.interrupts.check()
 
     def holding(self, marks: Sequence[str]) -> list[str]:
-        """The marks that hit, except marks with a condition that isn't true at the session's position."""
+        """The marks that were hit, except marks with a condition that isn't true at the session's position."""
         return [mark for mark in marks if mark not in self.conditions or self.holds(self.conditions[mark])]
 
     def holds(self, condition: Condition, position: Optional[int] = None) -> bool:
@@ -211,8 +211,8 @@ class Session:
         return condition.is_met(value, self.words_of(cell, value))
 
     def back_to_a_break(self, sent: str, reply: Reply) -> Reply:
-        """The reply to a move. If the move passed a break at a place of the program, the session moves back to that
-        break, and the result is the reply to this second move."""
+        """The reply to a move. If the move passed a break at a line or function of the program, the session moves back
+        to that break, and the result is the reply to this second move."""
         if not self.breaks.standing or not MOVED.fullmatch(reply.first):
             return reply
         position = move_of(sent, reply.first).position
@@ -240,7 +240,7 @@ class Session:
         return dump_words(cell, value) if is_dump else in_words(cell, value) if cell_of(cell.split()) else ""
 
     def arrive(self, position: int, numbers: Sequence[str] = (), stood: Sequence[Listed] = ()) -> None:
-        """Prints the position after a move, the marks that hit, and the changes made by the last step. `stood` are the
+        """Prints the position after a move, the marks that were hit, and the changes made by the last step. `stood` are the
         marks listed before the move."""
         self.stood, self.frame, self.is_before, self.goroutine = position, None, False, None
         self.attached.hits(numbers)

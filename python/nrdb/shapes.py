@@ -54,7 +54,7 @@ class Position(NamedTuple):
 
 class Move(NamedTuple):
     """The result of a move: the new position, whether it is an end of the recording, and the numbers of the marks that
-    hit."""
+    were hit."""
 
     position: int
     is_end: bool

@@ -23,15 +23,15 @@ LAST = re.compile(r"ok (\d+) steps")
 
 
 class LostWakeUp(NamedTuple):
-    """A goroutine that is parked at a side although it is owed a try: the readiness of the side's last event was taken,
-    and no try on the side has been answered EAGAIN since then."""
+    """A goroutine that parked on a side without another try: the readiness from the side's last event was consumed, and
+    no try on that side has returned EAGAIN since then."""
 
     line: str
     goroutine: int
     descriptor: int
     side: str
     event: int  # the step of the event
-    taken: int  # the step that took the readiness, and its goroutine
+    taken: int  # the step that consumed the readiness, and its goroutine
     by: int
 
 
@@ -50,7 +50,7 @@ class HeldReference(NamedTuple):
 class OfDeadline(NamedTuple):
     """The effect of a side's deadline at a step: the deadline passed, a goroutine's call ended with it, or it was
     withdrawn before that goroutine checked. `setting` is the step that set the deadline, for the sides `sides`; `moved`
-    is the first later setting of the other side alone."""
+    is the first later step that set a deadline for the other side alone."""
 
     line: str
     step: int
@@ -64,7 +64,7 @@ class OfDeadline(NamedTuple):
 
 class Listed:
     """The entries of a list of suspects. Lost wake-ups and passed deadlines are in the order of the lines. Sleeping
-    goroutines whose side must be answered are keyed by goroutine, descriptor and side. Held references are keyed by
+    goroutines whose read or write could return are keyed by goroutine, descriptor and side. Held references are keyed by
     socket and goroutine, and timeouts by step. Withdrawn deadlines are keyed by step, descriptor and side."""
 
     def __init__(self, lines: Iterable[str] = ()) -> None:

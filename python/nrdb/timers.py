@@ -17,7 +17,7 @@ FOLLOWED = frozenset(("pollopen", "pollclose", "setdeadline", "evict", "tick", "
 
 
 class Timer(NamedTuple):
-    """A timer of a `pop` or a `fire`: its sides, the descriptor and the socket that it had when its deadline was set,
+    """A timer of a `pop` or a `fire`: its sides, its descriptor, the descriptor's socket when the deadline was set,
     the due time, and the step that set the deadline. A stale timer was stopped or moved before its function ran."""
 
     sides: str
@@ -41,7 +41,7 @@ class Following:
         self._deadlines = Deadlines()
         self._clock = 0
         self._free: list[int] = []  # free descriptors, with the one freed last at the end
-        self._sockets: dict[int, int] = {}  # the sockets of descriptors
+        self._sockets: dict[int, int] = {}  # the socket of each descriptor
 
     def follow(self, number: int, kind: str, *arguments: Any) -> Optional[Timer]:
         """Processes a step, and returns the timer that it pops or runs."""

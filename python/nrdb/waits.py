@@ -11,7 +11,7 @@ from .recording import Recording
 from .where import Lines, Stack, Wait
 from .words import duration
 
-MOST_NUMBERS = 8  # the most goroutines whose numbers are given
+MOST_NUMBERS = 8  # the maximum number of goroutines that are listed by number
 LAST_USE, A_CONNECTION, A_RESPONSE, ALL_REQUESTS = (
     "the last user of the descriptor",
     "a connection of net/http",
@@ -149,8 +149,8 @@ def name_of_goid(lines: Lines, goid: int, step: Optional[int] = None) -> Name:
 
 
 def of_names(names: Iterable[Name]) -> str:
-    """Goroutines by their names: `goroutine 3`, `goroutines 3 and 5, goid 41`. If there are many, only the first are
-    named, with the number of the others."""
+    """Goroutines by their names: `goroutine 3`, `goroutines 3 and 5, goid 41`. A long list
+    gives only the first numbers and says how many more follow."""
     every = set(names)
     numbers, goids = (sorted(name.number for name in every if name.is_goid is is_goid) for is_goid in (False, True))
     named = [f"goroutine{'s' if numbers[1:] else ''} {listed(numbers)}"] if numbers else []

@@ -15,8 +15,8 @@ from .all_goroutines import OF_GOROUTINES, AllGoroutines, typed
 OF_GO, OF_THE_PROGRAM, OF_A_LIBRARY = "go", "program", "library"
 OF_SOCKETS = frozenset(("peers", "ends", "addresses", "sent", "sizes", "errors"))  # lines of the file
 OF_CALL = {"function": str, "file": str, "line": int, "of": str}
-MOST_BYTES, MOST_LINE = 2**26, 2**24  # the most bytes of the file and of one of its lines
-SHOWN = 12  # the most calls of a stack that are shown
+MOST_BYTES, MOST_LINE = 2**26, 2**24  # the maximum size of the file and of one of its lines, in bytes
+SHOWN = 12  # the maximum number of calls shown from a stack
 FORMS = (1, 2)  # formats of the file; the second has all goroutines
 
 
@@ -123,7 +123,7 @@ class Lines(AllGoroutines):
         self.orders: Optional[list[tuple[int, int]]] = None
         self.bytes: Optional[
             int
-        ] = None  # the most bytes that the count of a read or a write shows; None if each count has all bytes
+        ] = None  # the largest count that is recorded for a read or a write; None if counts have no limit
         self.has_tags = False  # whether Go compared an event's tag with the current use of the descriptor
         self.prelude = 0  # the number of steps that lead to the state in which the recording begins
         # for each test, the first and the last step during the test, its package and its name

@@ -7,7 +7,7 @@ from typing import Any, Mapping
 from netrev_words.plurals import counted
 from netrev_words.vocabulary import CELLS, Of
 
-DUMPED = 80  # the most digits of a dump that are shown as text
+DUMPED = 80  # the maximum number of digits of a dump that are shown as text
 FIELD = 0xFFFFF  # the fields for references and waiters have 20 bits each
 UNITS = ((1_000_000_000, "s"), (1_000_000, "ms"), (1_000, "µs"), (1, "ns"))
 SIDES = {"r": "read", "w": "write"}

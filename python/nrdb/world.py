@@ -15,7 +15,7 @@ COUNTED_BY = {Of.GOROUTINE: "gor", Of.SOCKET: "lock", Of.DESCRIPTOR: "fdseq"}
 LIMITS = {Of.GOROUTINE: "gor", Of.SOCKET: "sock", Of.DESCRIPTOR: "desc"}
 AT_FIRST, TIMES = 8, 8  # the number of cells in the first query, and the factor for each later one
 BLOCK = 16_384  # the number of steps after which the open descriptors are stored again
-PIECE = 256  # the same number within a block, for positions near recent ones
+PIECE = 256  # the same within a block, for positions near recent ones
 
 
 class World:

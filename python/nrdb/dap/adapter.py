@@ -73,7 +73,7 @@ class Adapter:
         }  # fmt: skip
 
     def serve(self, begun: Sequence[Request] = ()) -> None:
-        """Answers requests until the editor disconnects, first `begun`, whose `initialize` has been answered."""
+        """Answers `begun`, whose `initialize` already has an answer, and then requests until the editor disconnects."""
         with closing(self._source), self._opened:
             for request in begun:
                 self._initialize(request) if request.command == "initialize" else self._guarded(request)
@@ -121,7 +121,7 @@ class Adapter:
                 self._close()
 
     def _worked(self, request: Request, work: Work) -> Outcome:
-        """The result of a request. During the work, the editor's messages are read."""
+        """The result of a request. While nrdb works on the request, a thread reads the editor's messages."""
         if self._source.ends(request):
             raise Interrupted
         if request.command in ("launch", "attach"):

@@ -11,7 +11,7 @@ from .numbering import Numbering
 from .target import Target
 from .wishes import Unset, Wish, cell_wish, kind_wish, positions_of, wish_of
 
-MOST_TARGETS = 1_000  # the most lines that are searched for steps
+MOST_TARGETS = 1_000  # the maximum number of lines searched for steps
 
 
 def set_lines(target: Target, numbering: Numbering, request: Request) -> Body:

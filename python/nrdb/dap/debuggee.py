@@ -61,12 +61,13 @@ class Debuggee:
         return step.argument("g") if step else None
 
     def maker_here(self) -> Maker:
-        """The maker of the next step; at the end of the recording, the maker of the last step."""
+        """The goroutine that makes the next step; at the end of the recording, the goroutine that made the last step.
+        None for the network and the clock."""
         return self.maker(min(self.position + 1, self.length))
 
     def last_step_of(self, maker: Maker) -> int:
-        """The last step of this maker up to the position; 0 if the maker has made no step, or if the step is far
-        away."""
+        """The last step up to the position that this goroutine (None: the network or the clock) made; 0 if it has made
+        no step, or if the step is far away."""
         if maker is not None:
             return last_steps(self.recording, self.position, [maker])[maker]
         numbers = range(self.position, max(self.position - FAR, 0), -1)

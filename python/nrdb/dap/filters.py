@@ -88,7 +88,7 @@ class Filters:
         return sorted({wrong.step - 1 for one in self._set for wrong in self._all[one]})
 
     def nearest(self, position: int, forwards: bool) -> Optional[int]:
-        """The nearest position in a direction at which a filter stops."""
+        """The nearest later (or, backwards, earlier) position at which a filter stops."""
         positions = self._positions()
         at = bisect_right(positions, position) if forwards else bisect_left(positions, position) - 1
         return positions[at] if 0 <= at < len(positions) else None

@@ -17,8 +17,8 @@ from .messages import Body, Unanswerable
 from .roots import Roots
 from .wishes import Unset, Wish, is_in, refused
 
-FIRST = 1_000_000  # the number of the first of these breakpoints, larger than the numbers of all marks
-FUNCTIONS = "functions"  # stands for a file name, for breakpoints at functions
+FIRST = 1_000_000  # the number of the first of these breakpoints; marks have smaller numbers
+FUNCTIONS = "functions"  # used in place of a file name for breakpoints on functions
 
 
 class Hits:
@@ -87,7 +87,7 @@ class GoLines:
         return {"id": self._given, "verified": True}
 
     def nearest(self, position: int, forwards: bool) -> Optional[int]:
-        """The nearest position in a direction at which a breakpoint stops."""
+        """The nearest later (or, backwards, earlier) position at which a breakpoint stops."""
         found = [near(hits.positions, position, forwards) for many in self._of.values() for hits in many]
         return (min if forwards else max)((one for one in found if one is not None), default=None)
 
@@ -98,6 +98,6 @@ class GoLines:
 
 
 def near(rising: Sequence[int], position: int, forwards: bool) -> Optional[int]:
-    """The nearest of these positions in a direction. The positions are in ascending order."""
+    """The nearest later (or, backwards, earlier) one of these positions, which are in ascending order."""
     at = bisect_right(rising, position) if forwards else bisect_left(rising, position) - 1
     return rising[at] if 0 <= at < len(rising) else None

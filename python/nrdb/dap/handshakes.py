@@ -11,9 +11,9 @@ from .admission import Stranger, is_let_in
 from .capabilities import CAPABILITIES
 from .messages import Malformed, Request, Unanswerable, Wire
 
-IN_TIME = 10.0  # the seconds within which an editor at the port must send a launch
-MOST = 64  # the most connections without the token at one time; a further connection ends the oldest one
-MOST_BYTES = 65_536  # the most bytes that a connection may send before it has named the token
+IN_TIME = 10.0  # seconds that an editor at the port has to send a launch
+MOST = 64  # the maximum number of connections that haven't sent the token; a further one closes the oldest
+MOST_BYTES = 65_536  # the maximum number of bytes that a connection may send before the token
 
 
 class Connection:

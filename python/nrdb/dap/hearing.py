@@ -17,7 +17,7 @@ CANCEL, PAUSE = "cancel", "pause"
 MOVES = ("continue", "reverseContinue", "next", "stepIn", "stepBack", "stepOut", "goto", "restart", "configurationDone")
 PAUSED = (*MOVES, "evaluate")
 SIGNAL = signal.SIGUSR1
-MOST_HELD = 2**22  # the most bytes of waiting requests; above that, reading pauses
+MOST_HELD = 2**22  # the maximum number of bytes in waiting requests; above that, reading pauses
 
 
 class Source(Protocol):
@@ -62,7 +62,7 @@ class Hearing:
         self._wire = wire
         self._came: "SimpleQueue[tuple[Request | Exception | None, int]]" = SimpleQueue()
         self._room, self._held, self._is_over = Condition(), 0, False
-        self._urgent: list[Request] = []  # requests that arrived and wait for their turn
+        self._urgent: list[Request] = []  # requests that have arrived and wait for their turn
         self._at_work: Optional[Request] = None
         self._interrupts = Interrupts()
         self._is_told = False
@@ -151,7 +151,7 @@ def stops(request: Request, heard: Request) -> bool:
 
 
 def is_cancelled_by(request: Request, heard: Request) -> bool:
-    """Whether an arrived message cancels a request, which it names by number or by progress."""
+    """Whether a message cancels a request. The message names the request's number or its progress."""
     if heard.command != CANCEL:
         return False
     named = heard.arguments.get("requestId"), heard.arguments.get("progressId")

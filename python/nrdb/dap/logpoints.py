@@ -9,7 +9,7 @@ from .messages import Body
 from .wishes import HERE, IN_BRACES, Wish
 
 FIRST = 2_000_000  # the first number of these breakpoints, above all other breakpoints
-MOST = 1_000  # the most messages that a move prints
+MOST = 1_000  # the maximum number of messages that a move prints
 
 
 class LogPoint(NamedTuple):
@@ -20,7 +20,7 @@ class LogPoint(NamedTuple):
 
 
 class LogPoints:
-    """The log messages that are set, by file."""
+    """The current logpoints, by file."""
 
     def __init__(self, session: Session):
         self._session = session
@@ -28,11 +28,11 @@ class LogPoints:
         self._given = FIRST
 
     def clear(self, path: str) -> None:
-        """Removes the log messages of a file."""
+        """Removes the logpoints of a file."""
         self._of[path] = []
 
     def set(self, path: str, positions: Sequence[int], wish: Wish) -> Body:
-        """Sets a log message for these positions, and returns the protocol's object for it."""
+        """Sets a logpoint at these positions, and returns the protocol's object for it."""
         self._given += 1
         self._of.setdefault(path, []).append(LogPoint(wish.message, wish.stops(self._session, positions)))
         return {"id": self._given, "verified": True}

@@ -61,7 +61,7 @@ class Marks:
         return self._numbers[sort, wish.what]
 
     def holding(self, numbers: Sequence[str]) -> list[str]:
-        """The marks that hit at the session's position, except marks with a condition that isn't true."""
+        """The marks that are hit at the session's position, except marks with a condition that isn't true."""
         marks = {number: mark for mark, number in self._numbers.items()}
         met = self._session.holding(numbers)  # according to the conditions that were set in the console
         return [number for number in met if number not in marks or self._holds(marks[number])]

@@ -7,7 +7,7 @@ from typing import Any, BinaryIO, Optional
 
 from ..messages import editors as texts
 
-LONGEST = 16 * 2**20  # the most bytes of a message
+LONGEST = 16 * 2**20  # the maximum number of bytes in a message
 LONGEST_HEADER = 1_024
 HEADERS = (b"content-length", b"content-type")  # the header lines of the protocol
 
@@ -62,7 +62,7 @@ class Wire:
 
     def __init__(self, reader: BinaryIO, writer: BinaryIO, most: Optional[int] = None):
         self._reader, self._writer = reader, writer
-        self.most = most  # the most bytes that may arrive in all, headers included
+        self.most = most  # the maximum number of bytes that may arrive in all, headers included
         self._came = 0
         self._sent, self._lock = 0, Lock()
         self.received = 0  # the bytes of all messages so far

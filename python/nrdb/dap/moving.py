@@ -16,13 +16,13 @@ from .logpoints import LogPoints
 from .marks import Marks
 from .messages import Unanswerable
 
-PIECE = 100_000  # the most steps that netrev passes in one command; a move checks for a pause after each command
+PIECE = 100_000  # the maximum number of steps in one netrev command; a move checks for a pause after each command
 AT_THE_END = "the recording's end"
-MOST_STEPS = 20_000  # the most steps of a recording for which a stop at the end says what all goroutines wait for
+MOST_STEPS = 20_000  # in a longer recording, a stop at the end doesn't say what all goroutines wait for
 
 
 class Stop(NamedTuple):
-    """The reason for a stop: the protocol's name, a sentence for the user, and the marks that hit."""
+    """The reason for a stop: the protocol's name, a sentence for the user, and the marks that were hit."""
 
     reason: str
     says: str
@@ -96,8 +96,8 @@ class Moves:
         return self.run(True, goal.position)
 
     def run(self, forwards: bool, target: Optional[int] = None) -> Stop:
-        """Goes to the nearest position in a direction at which a mark hits or a filter stops. The move goes no further
-        than the target, if given, or the end."""
+        """Goes to the nearest later (or, backwards, earlier) position at which a mark is hit or a filter
+        stops. The move goes no further than the target, if given, or the end."""
         begun = self._debuggee.position
         stood = self._session.netrev.marks()
         try:

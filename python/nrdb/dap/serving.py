@@ -1,5 +1,5 @@
-"""Serves editors one after the other, over the standard streams or at a port of the loopback. At a port, each editor
-must send a launch with the token."""
+"""Serves editors one after the other, over the standard streams or on a loopback port. On a port, each editor must
+send a launch with the token."""
 
 import os
 import socket
@@ -49,7 +49,7 @@ def serve_streams(program: str) -> int:
 
 
 def serve_port(program: str, port: int) -> int:
-    """Serves editors at a port of the loopback, one after the other, until Ctrl-C, and returns the exit status. Port 0
+    """Serves editors on a loopback port, one after the other, until Ctrl-C, and returns the exit status. Port 0
     means any free port. The port is printed, with the token that an editor must send."""
     try:
         token = token_for_a_port()

@@ -14,7 +14,7 @@ TITLES = {"launch": texts.READING, "attach": texts.JOINING, "evaluate": "nrdb an
 
 
 class Work:
-    """The work on one request. If the work takes long, a thread reports that to the editor, because the main thread
+    """The work on one request. If the work takes a long time, a thread tells the editor, because the main thread
     writes nothing until the work is done."""
 
     def __init__(self, wire: Wire, request: Request, shows_progress: bool):
@@ -50,7 +50,7 @@ class Work:
             return self._is_answered
 
     def _tell(self) -> None:
-        """Reports to the editor, from the thread, that the work takes long, with its progress."""
+        """Runs in the thread. Tells the editor that the work takes a long time, and reports its progress."""
         if self._done.wait(LATE):
             return
         with self._lock, suppress(OSError, ValueError):  # (if the editor has gone, the reading thread notices)

@@ -1,4 +1,4 @@
-// Go's calls, and the stories. A story is a suspect or a cause that nrdb found in the run. A call's colour shows its state:
+// Go's calls, and the stories of the page: a story is a suspect or a cause that nrdb found in the run. A call's colour shows its state:
 // done, failed, hangs, hasn't ended, waits for connections.
 const DONE = 0, FAILED = 1, HANGS = 2, OPEN = 3, LISTENS = 4;
 const ENDS = ["", "failed", "hangs", "hasn't ended", "waits for connections"];

@@ -197,8 +197,8 @@ function drawClock(row, y, wide) {
   }
 }
 
-// The wake-ups in view; none if there are too many. Each has its step and two vertical middles: of the row of the goroutine that woke
-// another one, or else of the row where that happened; and of the row of the woken goroutine.
+// The wake-ups in view; none if there are too many. An arrow has a step and two heights: the middle
+// of the waker's row (or, without a waker, of the row in which the wake-up happened), and the middle of the woken goroutine's row.
 function arrows(middles) {
   const seen = D.wakes.filter(([step]) => step >= V.from - 1 && step <= V.from + V.span + 1);
   if (seen.length > ARROWS) return [];

@@ -1,5 +1,5 @@
-// The search finds steps by their text, and calls and waits by their line or a function on their stack. The name of a goroutine or a
-// connection finds what belongs to it.
+// The search finds steps by their text, and calls and waits by their line or a function on their stack. If the text
+// names a goroutine or a connection, the search finds the steps, calls and waits that belong to it.
 const MADE_BY_NONE = /^(?:sockopen|arrive|peerclose|drain|pollevent|tick|pop|fire|spawn)\b/;
 const FOUND = new Map(); // the row of each call or wait that was found, by the position at which it begins
 
@@ -26,7 +26,7 @@ function stepsFound(wanted) {
   return found;
 }
 
-// A test whether one of some texts contains the wanted text. A number matches only whole numbers: `a.go:3` isn't in `a.go:37`.
+// Returns a function that reports whether any of its texts contains the wanted text. A number matches only whole numbers: `a.go:3` isn't in `a.go:37`.
 function finder(wanted) {
   const spelled = wanted.replace(/[.*+?^${}()|[\]\\]/g, "\\$&");
   const pattern = new RegExp(`${/^\d/.test(wanted) ? "(?<!\\d)" : ""}${spelled}${/\d$/.test(wanted) ? "(?!\\d)" : ""}`);

@@ -104,7 +104,7 @@ function showStand() {
   if (S.picture && S.stands) S.picture.stand(S.stands.position, $("follow").checked);
 }
 
-// Shows a text about the picture's progress until there is a picture.
+// Shows how far nrdb is with the picture, until the picture is here.
 function making(text) {
   if (!S.picture) $("part").textContent = text ? `${text}. Lines are answered meanwhile.` : "";
   $("part").hidden = Boolean(S.picture) || !text;
@@ -148,7 +148,7 @@ function seen(from, to, last) {
   }, SOON);
 }
 
-// Posts a text to one of nrdb's paths. Returns nrdb's answer as `said`, or as `why` the reason why there is none.
+// Posts a text to one of nrdb's paths. Returns nrdb's answer in `said`; if no answer came, the reason is in `why`.
 async function posted(path, text) {
   try {
     const headers = { "Netrev-Token": TOKEN, "Netrev-Browser": String(S.number), "Content-Type": "text/plain;charset=utf-8" };

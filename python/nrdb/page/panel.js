@@ -63,7 +63,7 @@ function waitLine(wait) {
   return line;
 }
 
-// The cells of a position: those that its step changed, and those that say something.
+// The cells at a position: those that its step changed, and those that differ from their idle values.
 function fillTables(at) {
   const cells = Object.keys(D.cells), values = new Map(cells.map((cell) => [cell, valueAt(cell, at)]));
   const changed = at > D.first ? cells.filter((cell) => changedAt(cell, at)) : [];
@@ -112,7 +112,7 @@ function timeWords(cell, value) {
   return value === "absent" ? "no timer" : time(Number(value));
 }
 
-// Moves a shared session to the chosen position. If the page is a file, copies the command for that.
+// Moves a shared session to the chosen position. If the page is a file, copies the `goto` command.
 const goThere = () => lookAt(`goto ${V.chosen}`);
 
 // Sends a line to a shared session. If the page is a file, copies the line.

@@ -9,7 +9,7 @@ const ONLY = { s: null, g: null }; // the connection and the goroutine to which 
 let GROUPS = grouped();
 if (GROUPS.length > MANY) for (const [socket] of GROUPS) if (!ofStories().has(socket)) FOLDED.add(socket);
 
-// The groups of the stories: sockets, and the goroutines that make no step.
+// The groups that the stories are about: sockets, and the goroutines that make no step.
 function ofStories() {
   return new Set(STORIES.map(groupOf).filter((group) => group !== null));
 }
@@ -19,7 +19,7 @@ function groupOf(story) {
   return story.s ?? (story.goid === undefined ? null : OTHERS);
 }
 
-// The groups with their rows. A row has a name, a kind, a title, and runs with a shade each. For a side of a descriptor, it also has the
+// The groups with their rows. A row has a name, a kind, a title, and runs, each with its shade. For a side of a descriptor, it also has the
 // positions at which its uses begin and end.
 function grouped() {
   const groups = new Map();

@@ -10,7 +10,7 @@ function unpick() {
   V.edge = undefined;
 }
 
-// The first press makes the chosen position one end of the span. The second press makes the position that is chosen then the other end.
+// The first press makes the chosen position one end of the span. The second press takes the position chosen by then as the other end.
 function pickEdge() {
   if (V.edge === undefined) {
     V.edge = V.chosen;

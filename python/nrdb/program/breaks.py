@@ -1,4 +1,4 @@
-"""The breaks at places of the program. These breaks are nrdb's own and use none of netrev's marks. If netrev has moved
+"""The breaks at lines and functions of the program. These breaks are nrdb's own and use none of netrev's marks. If netrev has moved
 past such a break, nrdb goes back to it."""
 
 import re
@@ -29,7 +29,7 @@ class Break:
 
 @dataclass
 class Breaks:
-    """The current breaks at places of the program."""
+    """The current breaks at lines and functions of the program."""
 
     standing: dict[str, Break] = field(default_factory=dict)
     given: int = 0
@@ -44,12 +44,12 @@ class Breaks:
         return made
 
     def nearest(self, position: int, forwards: bool) -> Optional[int]:
-        """The nearest position in a direction at which a break stops."""
+        """The nearest later (or, backwards, earlier) position at which a break stops."""
         near = [one for mark in self.standing.values() if (one := self._next(mark, position, forwards)) is not None]
         return (min if forwards else max)(near, default=None)
 
     def _next(self, mark: Break, position: int, forwards: bool) -> Optional[int]:
-        """The next position in a direction at which this break stops."""
+        """The nearest later (or, backwards, earlier) position at which this break stops."""
         near = beyond(mark.place, position, forwards)
         while near is not None and not self.is_met(mark.number, near):
             near = beyond(mark.place, near, forwards)
@@ -79,7 +79,7 @@ def names_a_place(recording: Optional[Recording], words: list[str]) -> bool:
 
 
 def beyond(place: Place, position: int, forwards: bool) -> Optional[int]:
-    """The nearest position in a direction at which a place is reached."""
+    """The nearest later (or, backwards, earlier) position at which a goroutine reaches a place."""
     rows = place.positions
     at = bisect_right(rows, position) if forwards else bisect_left(rows, position) - 1
     return rows[at] if 0 <= at < len(rows) else None

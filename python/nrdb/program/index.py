@@ -14,7 +14,7 @@ from ..where import Call, Stack
 OF_A_LINE = re.compile(r"(.+):(\d{1,9})\Z")
 Key = TypeVar("Key", bound=Hashable)
 POINTER = re.compile(r"\(\*([^()]*)\)")  # a pointer receiver
-MOST_NEAR = 5  # the most lines that are named if the requested line has no step
+MOST_NEAR = 5  # if the requested line has no step, the answer names at most this many other lines
 
 
 class Place(NamedTuple):

@@ -54,7 +54,7 @@ def answer_delete(session: Session, words: list[str]) -> None:
 
 
 def delete_all(session: Session) -> None:
-    """Deletes netrev's marks and the breaks at places of the program, and prints what was deleted."""
+    """Deletes netrev's marks and the breaks at lines and functions, and prints what was deleted."""
     gone = []
     for mark in session.netrev.marks():
         if not session.ask(f"delete {mark.number}").startswith("fault"):
@@ -120,8 +120,8 @@ def calls_of(recording: Recording) -> list[Call]:
 
 
 def stack_at(session: Session) -> Stack:
-    """The stack of the chosen goroutine. If no goroutine is chosen, it is the stack of the last step. If a move stopped
-    at a place of the program, it is the stack of the next step."""
+    """The stack of the chosen goroutine. Without a chosen goroutine, the stack of the last step, or, if a move stopped at
+    a line or function of the program, the stack of the next step."""
     if session.goroutine:
         found = stack_of(session.text(), session.goroutine, session.stands().position)
         return found.stack if found else Stack((), None)

@@ -92,7 +92,7 @@ def candidates(
 
 
 def of_cell(rest: list[str], numbers: Callable[[Of], list[str]]) -> list[str]:
-    """The words that can follow these words, with which a cell begins."""
+    """The words that can come next in a cell. `rest` has the words typed so far."""
     if not rest:
         return list(CELLS)
     cell = CELLS.get(rest[0])

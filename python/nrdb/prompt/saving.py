@@ -11,7 +11,7 @@ from .answers_of_calls import usage
 
 
 def answer_save(session: Session, words: list[str]) -> None:
-    """Writes netrev's marks, the breaks at places of the program, and the lines that run when a mark hits."""
+    """Writes netrev's marks, the breaks at lines and functions, and the lines that run when a mark is hit."""
     if len(words) != 2 or words[0] != "breakpoints":
         raise Misused(usage("save"))
     lines = list(lines_of_marks(session))

@@ -26,7 +26,7 @@ except ImportError:  # without readline there is no line editing
 
 PROMPT, TAKING = "(netrev) ", "> "  # the second one is for the lines of `commands`
 FIRST = "what went wrong: info suspects; what hangs: info hangs; what failed: info errors; all commands: help"
-MOST_STEPS = 200_000  # the most steps of a recording whose causes nrdb finds within seconds
+MOST_STEPS = 200_000  # in a recording of up to this many steps, nrdb finds the causes within seconds
 KEPT = 1000
 
 

@@ -27,7 +27,7 @@ from .serving import Unavailable
 
 CODE = f"import sys; sys.path[:0] = {sys.path!r}; from nrdb.web.painting import paint; paint(*sys.argv[1:])"
 MOST_WAITING = 16
-MOST_KEPT = 6  # the most parts that are kept
+MOST_KEPT = 6  # the maximum number of stored parts
 TELLS, FAILS = b"T", b"F"  # the kinds of lines of the process that aren't pictures: progress, or an error
 
 Wanted = Optional[Window]  # None: the whole run, with the part that the page shows first
@@ -107,8 +107,8 @@ class Painter:
 
 
 def paint(program: str, path: str) -> None:
-    """Makes the pictures that the lines of the input request, until the input ends. Each picture is written as a line
-    of the output."""
+    """Makes pictures until the input ends. Each line of the input requests a picture, and each picture is written as a
+    line of the output."""
     interrupts = Interrupts()
     scout = Scout(lambda: Own(program, path, interrupts))
     changes = ArrivingChanges(program, path, interrupts, lambda _: None)

@@ -9,7 +9,7 @@ from typing import Mapping
 
 from ..messages import browsers as texts
 
-LONGEST_LINE = 256  # the most bytes of a line that netrev accepts
+LONGEST_LINE = 256  # the maximum number of bytes in a line that netrev accepts
 TOKEN, BROWSER, POSITIONS = "netrev-token", "netrev-browser", "netrev-positions"  # headers that the page's script sends
 PAGE, EVENTS, TIMELINE, PART, LINE, COMPLETE = "/", "/events", "/timeline", "/part", "/line", "/complete"
 METHODS = {PAGE: "GET", EVENTS: "GET", TIMELINE: "GET", PART: "GET", LINE: "POST", COMPLETE: "POST"}

@@ -28,9 +28,9 @@ from .shared import Shared
 from .streams import Streams
 
 DONE, FAILED = 0, 3
-MOST_WAITING = 32  # the most lines that wait for earlier ones
+MOST_WAITING = 32  # the maximum number of lines that wait for earlier ones
 EVERY = 1.0  # seconds between two checks for other users' moves
-LATEST = 30.0  # the most seconds between two attempts to reconnect to netrev; the first intervals are shorter
+LATEST = 30.0  # the maximum number of seconds between attempts to reconnect to netrev; the first intervals are shorter
 GONE = "netrev has ended"
 Opening = Callable[[Printer], Netrev]
 

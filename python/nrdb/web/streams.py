@@ -13,9 +13,9 @@ from ..timeline.page import plain_json
 from .requests import Rejected
 
 MOST_STREAMS = 16
-MOST_KEPT, KEPT_BYTES = 400, 2**20  # the most events that are kept for later browsers, and their most bytes
-WAITING_BYTES = 8 * 2**20  # the most bytes that may wait for a slow browser
-STATES = ("stands", "marks", "netrev", "picture")  # the events of which only the latest one matters
+MOST_KEPT, KEPT_BYTES = 400, 2**20  # the maximum number of events stored for later browsers, and of their bytes
+WAITING_BYTES = 8 * 2**20  # the maximum number of bytes that wait for a slow browser
+STATES = ("stands", "marks", "netrev", "picture")  # events of which only the latest matters
 
 Event = dict[str, Any]
 
