@@ -40,7 +40,7 @@ class Beside:
 
     peers: list[tuple[int, int]] = field(default_factory=list)
     errors: list[tuple[int, str]] = field(default_factory=list)
-    waits: list[Wait] = field(default_factory=list)  # outside of the poller
+    waits: list[Wait] = field(default_factory=list)  # outside the poller
     ends: list[tuple[int, int, int]] = field(default_factory=list)  # sockets with the numbers of both ends' names
     # the addresses of datagram sockets, and the addresses that they are connected to
     addresses: list[tuple[int, str, str]] = field(default_factory=list)
@@ -50,7 +50,7 @@ class Beside:
     sizes: list[tuple[int, int]] = field(default_factory=list)
     # for each path, the sockets that were accepted and dialed there, with the goroutines that did so
     _unix: dict[int, tuple[list[tuple[int, int]], list[tuple[int, int]]]] = field(default_factory=dict)
-    _names: dict[int, int] = field(default_factory=dict)  # the numbers of names
+    _names: dict[int, int] = field(default_factory=dict)  # a number for each name
     # sockets by name, while their other end isn't known
     _ends: dict[tuple[int, int], list[int]] = field(default_factory=dict)
 

@@ -27,7 +27,7 @@ from .trying import ready
 from .watching import snapshot, watch
 
 
-KNOWN: list[object] = []  # data of the last converted log, kept to the end because freeing it takes long
+KNOWN: list[object] = []  # data of the last converted log; kept until exit, because freeing it is slow
 
 
 def flags(go: Go, words: list[str]) -> list[str]:

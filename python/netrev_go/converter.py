@@ -55,7 +55,7 @@ class Converter:
         self.ended: list[int] = []  # the number of steps after each point
         self.made: list[Made] = []  # the goroutines' steps, by Go's names
         self._number = 0  # of the point
-        self.calls: dict[tuple[int, Socket], list[int]] = {}  # the last stack of a goroutine at a socket
+        self.calls: dict[tuple[int, Socket], list[int]] = {}  # a goroutine's last stack on a socket
         self.sockets = 0
         self.free: list[int] = []
         self.descriptors = 0
@@ -114,7 +114,7 @@ class Converter:
         return before, repeated_line(point, g, socket), g, self.call(point.goroutine, socket)
 
     def call(self, identity: int, socket: Socket) -> list[int]:
-        """The stack of a goroutine's last call at a socket; 0 if none is known."""
+        """The stack of a goroutine's last call on a socket; 0 if none is known."""
         return self.calls.setdefault((identity, socket), [0])
 
     def _others(self) -> dict[int, Callable[[Point, Socket], None]]:
@@ -127,14 +127,14 @@ class Converter:
         }  # fmt: skip
 
     def made_of(self) -> dict[int, int]:
-        """How many steps were made at each socket, by its opening."""
+        """The number of steps made for each socket; the key is the number of the socket's opening."""
         counts: dict[int, int] = defaultdict(int)
         for (_, socket), before, behind in zip(self.points, chain((0,), self.ended), self.ended):
             counts[socket.opening] += behind - before
         return counts
 
     def steps_before(self, number: int) -> int:
-        """The number of steps that were made of the points up to this one."""
+        """The number of steps made from the points up to this one."""
         place = bisect_right(self.points, number, key=lambda pair: pair[0].number)
         return self.ended[place - 1] if place else 0
 
@@ -144,7 +144,7 @@ class Converter:
         self.stacks.append(0)
 
     def of(self, g: int, socket: Socket, stack: int, text: Line) -> None:
-        """Adds a step of a goroutine at a socket. If its point has no stack, the step gets the stack of the goroutine's last call there."""
+        """Adds a step of a goroutine on a socket. If its point has no stack, the step gets the stack of the goroutine's last call on the socket."""
         call = self.call(self.names[g], socket)
         if stack:
             call[0] = stack
@@ -239,7 +239,8 @@ class Converter:
 
     def close_write(self, point: Point, socket: Socket) -> None:
         """Closes the write side. Points are logged after their system calls, so an earlier write may have a later point. At most one
-        write does, because the next write has to wait for it, and its goroutine was in that call before this point."""
+        write can: the next write has to wait for it. That write's goroutine was already in the call before this point.
+        """
         g, last = self.goroutine(point.goroutine), socket.last_write
         if last and last.number > point.number and last.number not in self.early:
             self.write(last, socket)
@@ -309,7 +310,7 @@ class Converter:
         self.of(g, socket, stack, f'["setdeadline",{g},{number},"{mode}",{time},"done"]')
 
     def pop_what_fires(self, socket: Socket, side: int) -> None:
-        """A timer that is about to be stopped or reset fires first if the log has its firing, because it had left Go's heap by then."""
+        """Pops a timer before it is stopped or reset, if a later point shows that the timer fired: it had already left Go's heap."""
         timer = self.deadlines.armed(socket.descriptor, side)
         if timer and (socket, side, timer.sequence + socket.sequences[side]) in self.later_fires:
             self.go_on_to(timer.due)
@@ -345,9 +346,9 @@ class Converter:
         self.beside.named(socket.number, point, self.last_steps[self.goroutine(point.goroutine)] if point.c else 0)
 
     def noted(self, point: Point, socket: Socket) -> None:
-        """Makes the steps that lead to a noted socket. The clock advances to the first note, but not past a deadline that will be set. The
-        steps for later notes also advance the clock. Until then it is as far behind Go's clock, so that deadlines set between the notes
-        equal Go's."""
+        """Makes the steps that bring a socket into its noted state. At the first note, the clock advances to the note's time, but not past a
+        deadline that these steps will set. The steps of later notes advance the clock too. Until the last note, the clock is behind Go's
+        by the time that the remaining notes' steps take, so that deadlines set between the notes equal Go's."""
         if not self.clock:
             sockets = {socket for one, socket in self.points if one.kind == Kind.NOTED}
             dues = [due - 1 for socket in sockets if socket.note for due in socket.note.deadlines if due > 0]

@@ -162,8 +162,8 @@ class Measured:
 
 @dataclass
 class Served:
-    """The server of one Go with one recorder, and its measurements by number of connections and setting: the nanoseconds of a request, and
-    how many bytes of a request are kept."""
+    """The server, built with one release of Go and one recorder. Its measurements are stored by number of connections and setting: the
+    nanoseconds per request, and the bytes kept per request."""
 
     name: str
     programs: tuple[pathlib.Path, pathlib.Path]
@@ -223,8 +223,8 @@ def loads() -> str:
 def measured_by(
     recorder: pathlib.Path, name: str, go: Go, folder: pathlib.Path, requests: int, is_before: bool
 ) -> Measured | Served:
-    """The samples, built with the overlay of a clone's recorder. For a server with the earlier recorder, only the settings with the
-    overlay, and the first one, are measured."""
+    """The samples, built with the overlay of a clone's recorder. For a server with the earlier recorder, only `without the overlay`
+    and the settings with the overlay are measured."""
     folder.mkdir(parents=True)
     overlay = overlay_by(recorder, go)
     if requests:

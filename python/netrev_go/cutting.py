@@ -10,7 +10,7 @@ from .points import Kind, Log
 from .ran import Ran
 from .sockets import Owned, Socket
 
-MADE = 1  # a point of a goroutine that another started, rather than only woke
+MADE = 1  # in a READY point: the goroutine started another one, instead of waking it
 
 
 class Makers:

@@ -17,7 +17,7 @@ from .goroutines import (
 )  # fmt: skip
 from .lines import OF_GO, OF_THE_PROGRAM, Calls
 
-MOST = 2**16  # the most entries that are kept of each list: waits, uses of channels, timers, goroutines
+MOST = 2**16  # the greatest number of entries kept in each list: waits, uses of channels, timers, goroutines
 OTHERS = 4  # at most a quarter of them have ended when the log ends
 REASONS = (
     "", "a value from a channel", "room in a channel", "a select", "a condition", "time.Sleep", "a mutex", "a read lock", "a write lock",
@@ -25,7 +25,7 @@ REASONS = (
 )  # fmt: skip
 FOR = {VALUE: "value", ROOM: "room"}
 CHANNEL = "channel"
-HELD = "held"  # the line of locked mutexes, which has a meaning even without rows: none is locked
+HELD = "held"  # the line of locked mutexes; a line without rows means that none is locked
 TIMED_OUT, CANCELLED = -1, -2  # why a connect failed, if not because of a system error
 SORTS = {
     MUTEX: "mutex", READ_LOCK: "RWMutex", WRITE_LOCK: "RWMutex", WAIT_GROUP: "WaitGroup", CONDITION: "condition",
@@ -43,7 +43,7 @@ FUNCTIONS = (
 
 
 def names_of_go(calls: Calls | None) -> list[str]:
-    """The functions of Go that the program or a library called, from the innermost."""
+    """Go's own functions that the program or a library called, innermost first."""
     names = []
     for call in calls.calls if calls else ():
         if call.of != OF_GO:
@@ -64,7 +64,7 @@ def waited_for(what: int, calls: Calls | None) -> int:
 
 
 def semaphore_at(what: int, found: int, calls: Calls | None) -> int:
-    """The distance of a semaphore from its object, for a wait that the runtime calls `what` and whose stack shows `found`."""
+    """The offset of a semaphore in its object, for a wait that the runtime calls `what` and whose stack shows `found`."""
     if what == SEMAPHORE and any("sync.(*Mutex)." in name for name in names_of_go(calls)):
         return OF_A_MUTEX
     return OFFSETS.get(found if what == SEMAPHORE else what, 0)
@@ -146,12 +146,12 @@ def why_words(number: int) -> str:
 
 
 def mutex_at(address: int, what: int, calls: Calls | None) -> int:
-    """The address of the object at whose semaphore a goroutine waits."""
+    """The address of the object on which a goroutine waits, from the address of the object's semaphore."""
     return address - semaphore_at(what, waited_for(what, calls), calls)
 
 
 class Objects:
-    """The objects at which goroutines wait or that goroutines use, numbered from 1, with the known facts about each."""
+    """The objects that goroutines use or wait on, numbered from 1, with the known facts about each."""
 
     def __init__(self, rooms: dict[int, int]) -> None:
         self._rooms = rooms
@@ -177,8 +177,8 @@ class Everybody:
 
     found: Goroutines
     kept: Kept
-    numbers: dict[int, int]  # the recording's numbers of goroutines, by Go's numbers
-    last_stacks: dict[int, int]  # the last stacks of the recording's goroutines, by Go's numbers
+    numbers: dict[int, int]  # the recording's number for each goroutine, by Go's number
+    last_stacks: dict[int, int]  # the last stack of each goroutine in the recording, by Go's number
 
     def lines(
         self, calls: dict[int, Calls], stack: Callable[[int], int], call: Callable[[int], int], most: int = MOST
@@ -235,7 +235,7 @@ class Everybody:
 
     @staticmethod
     def park(park: Park, calls: Calls | None, objects: Objects, stack: int) -> tuple[object, ...]:
-        """A wait as the file has it."""
+        """A wait in the file's form."""
         found = waited_for(park.what, calls)
         back = semaphore_at(park.what, found, calls)
         sort = SORTS.get(found, CHANNEL)
@@ -264,7 +264,7 @@ class Everybody:
         return {goid: stacks[goid] for goid in compress(in_order, choice)}
 
     def goroutine(self, goid: int, made: int) -> tuple[object, ...]:
-        """A goroutine as the file has it."""
+        """A goroutine in the file's form."""
         maker, first, begin = self.found.born.get(goid, (0, UNENDED, UNENDED))
         last, end = self.found.ended.get(goid, (UNENDED, UNENDED))
         return goid, self.numbers.get(goid, -1), made, maker, first, last, begin, end

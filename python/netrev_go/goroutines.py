@@ -1,5 +1,5 @@
-"""All goroutines of a log, including those without sockets: where and at what each waits outside the poller, which goroutine started it,
-when it ends, and what it did at channels. Goroutines have Go's own numbers here, as in Go's stack dumps."""
+"""All goroutines of a log, including those without sockets: where each waits outside the poller and on what object, which goroutine started
+it, when it ends, and what it did with channels. Goroutines have Go's own numbers here, as in Go's stack dumps."""
 
 from __future__ import annotations
 
@@ -29,17 +29,17 @@ ADDED, DONE = "added", "done"  # at a WaitGroup
 OF_A_WAIT_GROUP = 8  # the offset of a WaitGroup's semaphore from its address, in all recordable releases of Go
 NEVER = -1  # for a stopped timer, instead of the time at which it goes off
 OF_KIND = {SENT: PUT, RECEIVED: TOOK, CLOSED: CLOSES, FOUND_CLOSED: ENDED}
-# The reasons of waits, as in go/log/orders.go: the lowest byte of a point's word.
+# The reasons for waits, as in go/log/orders.go: the lowest byte of a point's word.
 (
     OTHER, VALUE, ROOM, SELECT, CONDITION, SLEEP, MUTEX, READ_LOCK, WRITE_LOCK, WAIT_GROUP, SEMAPHORE, NIL_CHANNEL, NO_CASES,
 ) = range(13)  # fmt: skip
 UNENDED = -1
-GENERATION = 48  # the bit from which on a channel's key counts the channels at its address
+GENERATION = 48  # the number of a channel's lowest key bit that counts the channels at the same address
 BEHIND = 2**64, 0, 0  # a step after the last point
 
 
 class At(NamedTuple):
-    """The address of an object at which a goroutine waits, and the operation that it waits for: VALUE, ROOM, or 0."""
+    """The address of an object on which a goroutine waits, and the operation that it waits for: VALUE, ROOM, or 0."""
 
     address: int
     use: int
@@ -82,7 +82,7 @@ class Timer(NamedTuple):
 
 
 class Used(NamedTuple):
-    """What a goroutine did from one stack at a channel or at a WaitGroup's semaphore."""
+    """What a goroutine did, from one stack, with a channel or a WaitGroup's semaphore."""
 
     address: int
     goroutine: int
@@ -324,7 +324,7 @@ class Passing:
             self._used(at, other, others, 0, step, time)
 
     def _used(self, at: int, g: int, what: str, stack: int, step: int, time: int, often: int = 1) -> None:
-        """Records what a goroutine did at a channel or a WaitGroup. If it waits, it has the stack of its wait."""
+        """Records what a goroutine did with a channel or a WaitGroup. If it waits, it has the stack of its wait."""
         if not stack and g in self._parked:
             stack = self._parked[g].stack
         use = at, g, what, stack

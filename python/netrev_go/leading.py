@@ -67,19 +67,19 @@ def is_written_later(socket: Socket) -> bool:
 
 
 def close_write(converter: Converter, socket: Socket, step: Lead) -> None:
-    """Adds the noted closing of the write side."""
+    """Adds the step that closes the write side of a socket that was noted as shut."""
     socket.shut = True
     g = converter.goroutine(step.goroutine)
     put(converter, socket, step, g, of_json(["closewrite", g, socket.number, answer_of(step)]))
 
 
 def answer_of(step: Lead) -> object:
-    """The answer, as a recording has it."""
+    """The answer, in a recording's form."""
     return step.answer[0] if len(step.answer) == 1 else list(step.answer)
 
 
 def put(converter: Converter, socket: Socket, step: Lead, g: int, line: Line) -> None:
-    """Adds a step of a goroutine, with its stack; the step takes part in no order of the program."""
+    """Adds a step of a goroutine, with its stack. The step isn't used to order the program's steps."""
     converter.lines.append(line)
     converter.stacks.append(step.stack)
     converter.last_steps[g] = len(converter.lines)

@@ -121,7 +121,7 @@ def outside_the_runtime(calls: list[Call]) -> tuple[Call, ...]:
 
 
 def lines_of(log: Log, used: set[int], program: pathlib.Path, reader: list[str], roots: Roots) -> dict[int, Calls]:
-    """The calls of the stacks that are used, by the command that reads lines; empty if the program is missing or has no line table."""
+    """The calls of the used stacks, found by the `reader` command; empty if the program is missing or has no line table."""
     stacks: dict[int, Stack] = {number: log.stacks[number] for number in used if number in log.stacks}
     try:
         moved = shift(program, log.text)

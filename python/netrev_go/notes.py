@@ -83,7 +83,7 @@ class Note:
             self.queued.append(Queued(goroutine, side_of(a), stack))
 
     def goroutines(self) -> set[int]:
-        """The goroutines that wait at the socket."""
+        """The goroutines that wait on the socket."""
         return {one.goroutine for one in self.inside.values()} | {one.goroutine for one in self.queued}
 
     def known(self) -> set[int]:
@@ -159,7 +159,7 @@ class Debts:
 
 
 class Span(NamedTuple):
-    """The points, by their numbers, between which all open descriptors were noted."""
+    """The numbers of the first and the last point of notes about all open descriptors."""
 
     begin: int
     end: int

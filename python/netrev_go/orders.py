@@ -45,7 +45,7 @@ class Queue:
 
 
 class Channel:
-    """The steps that precede the values in a channel's buffer, its free places, and its close."""
+    """For a channel: the steps that precede each value in its buffer, each free place, and its close."""
 
     def __init__(self) -> None:
         self.values = Queue()

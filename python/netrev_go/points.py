@@ -134,8 +134,8 @@ class Log:
     process: int = 0
     text: int = 0
     program: str = ""
-    from_the_start: bool = True  # no point is missing before the first
-    has_orders: bool = False  # of the program
+    from_the_start: bool = True  # the log still has the first point that was logged
+    has_orders: bool = False  # whether the log has the points that order the program's goroutines
     notes: list[str] = field(default_factory=list)
     holders: list[Holder] | None = None
 

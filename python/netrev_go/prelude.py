@@ -3,18 +3,22 @@
 These states can be reached:
 
 - Any lock word whose holders are known: a goroutine that has a lock or a reference releases it later in the log, or is inside the wait of
-that side. Goroutines that are queued for a lock are queued in their order.
-- Each place of a wait, with a word that is nil, ready, wait or the goroutine. A woken goroutine parks first, and an event, a past
+that side. Goroutines that wait for a lock are queued in the order in which they came.
+- Each stage of a wait; the wait word is nil, ready, wait or the goroutine. A woken goroutine first parks, and then an event, a past
 deadline or the close wakes it.
 - Future deadlines, deadlines that passed while their timers run, and deadlines set in the past; also one timer for both sides.
-- Go's sequences and tags may be in the millions, but the machine begins to count anew. So an event names the use of the descriptor to
-which it belongs, and a firing names its timer; neither has Go's number.
+- Go's sequences and tags may be in the millions, but the machine begins to count anew. So an event names the use of its descriptor,
+and a firing names its timer, and neither has Go's number.
 - Bytes aren't known. The input is empty, because bytes arrive just before the read that gets them; the output is full if a goroutine waits
   to write there, or if a write finds it full later.
 
-Left out, with the reason: a socket at which a goroutine is about to pass a lock to another, or has a lock or a reference that it doesn't
-release in the log; a socket whose timer is due and hasn't run; and a state to which these steps don't lead. The model in Python runs each
-socket's steps, and the resulting state is compared with the whole note.
+A socket is left out, with the reason, if one of these holds:
+
+- A goroutine is about to pass one of the socket's locks to another goroutine.
+- A goroutine has one of the socket's locks or references, and the log doesn't show that it releases it.
+- One of the socket's timers is due and hasn't run.
+- The steps don't lead to the noted state. The model in Python runs each socket's steps, and the resulting state is compared with the whole
+note.
 """
 
 from __future__ import annotations
@@ -52,7 +56,7 @@ class Unreachable(Exception):
 
 class Lead(NamedTuple):
     """A step that leads to the state: its kind, the goroutine by Go's number, the other arguments, the answer, and the stack. A deadline is
-    a time of Go's clock."""
+    a time on Go's clock."""
 
     kind: str
     goroutine: int

@@ -78,7 +78,8 @@ def recorded(log: pathlib.Path, result: Result, name: pathlib.Path) -> bool:
 
 
 def compared(netrev: str, result: Result) -> None:
-    """Stores netrev's answer about a recording and Go's lock words in it, and, for a healthy program, nrdb's suspects."""
+    """Stores netrev's answer about a recording, and how many of Go's lock words differ in it. For a healthy program, also stores nrdb's
+    suspects."""
     name = pathlib.Path(result.recording)
     try:
         taken, result.said = check(netrev, name)
@@ -129,8 +130,8 @@ class Recorder:
         keep(self.results, self.out)
 
     def suite(self, suite: Suite) -> None:
-        """Runs each test of a package in a process of its own. If the package isn't here, as another project's may not be, adds it to
-        `missing`."""
+        """Runs each test of a package in a process of its own. If the package isn't here (another project's may be missing), adds
+        it to `missing`."""
         folder = source_folder(self.go, suite)
         if not folder.is_dir():
             self.missing.append(suite.package)

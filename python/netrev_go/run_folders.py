@@ -45,7 +45,7 @@ def claim(folder: pathlib.Path) -> pathlib.Path:
     marks = folder / UNRECORDED
     try:
         marks.mkdir(0o700)
-        if os.geteuid() == 0:  # programs may start processes as other users, which may leave a mark but read nothing
+        if os.geteuid() == 0:  # programs may start processes as other users: these may create marks, but read nothing
             folder.chmod(0o711)
             marks.chmod(0o1733)
         file = (folder / OWNER).open("x", encoding="utf-8", errors="surrogateescape")

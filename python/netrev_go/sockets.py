@@ -1,7 +1,7 @@
 """The socket of each point, and the sockets that fit into a recording.
 
 Steps of different sockets share only the order of their goroutines, the clock and the list of firings, so the points of some of the sockets
-make a recording too. A socket without its opening in the log and without a note is left out.
+make a recording too. A socket is left out if the log has neither its opening nor a note of it.
 """
 
 from __future__ import annotations
@@ -35,7 +35,7 @@ MOST_SOCKETS, MOST_GOROUTINES, MOST_STEPS = 256, 4_096, 1_000_000
 MEGABYTE, MOST_MEGABYTES = 2**20, 1_024  # the text for moved bytes
 STEPS_OF_A_NOTE = 32  # steps that lead to it, if no goroutine is queued for its locks
 LOW = 2**32 - 1
-FEW_BYTES = 64  # the most bytes that a read or a write counts, unless all are requested
+FEW_BYTES = 64  # a read or a write of more bytes is recorded with this many, unless the user requests all bytes
 
 
 @dataclass(eq=False)
@@ -55,7 +55,7 @@ class Socket:
     written: int = 0
     largest: int = OUTPUT
     full_at: int = 0
-    last_write: Point | None = None  # the last point of a write that put bytes, or found no room
+    last_write: Point | None = None  # the last point of a write that wrote bytes, or found no room
     number: int = -1
     descriptor: int = -1
     is_open: bool = False  # the converter's place
@@ -117,15 +117,15 @@ class Owners:
         return uses[-1]
 
     def not_opened(self, socket: Socket) -> Socket:
-        """The poller rejected a socket: if the same lock word already had a socket there, that socket continues."""
+        """Marks a socket as rejected by the poller. If an earlier socket with the same lock word is still open, that socket continues."""
         socket.failed = True
         if socket.before and not socket.before.closed:
             self.words[socket.word] = socket.before
         return socket
 
     def note(self, point: Point) -> Socket | None:
-        """Reads a point of a note. Returns the note's socket if this is the note's first point and the socket isn't known yet, or if this is
-        a point with the socket's names."""
+        """Reads one of a note's points. Returns the note's socket if this is the note's first point and the socket isn't known yet, or if
+        this is a point with the socket's names."""
         kind, at = point.kind, point.at
         if kind == NOTED:
             known = self.words.get(at)
@@ -200,7 +200,7 @@ def points_of_call(point: Point, socket: Socket) -> list[tuple[Point, Socket]]:
 
 
 def count_bytes(socket: Socket, point: Point) -> None:
-    """Counts a read or a write at its socket: the text, the size of the output, and, for a read, the steps."""
+    """Adds a read or a write to its socket's counts: the characters of text, for a write the bytes written, and for a read the steps."""
     _, kind, _, _, asked, got, failed, _, _ = point
     got = max(got, 0)
     if kind == READ:
@@ -227,7 +227,7 @@ def count_parts(points: list[tuple[Point, Socket]]) -> None:
 
 
 def count_points(points: list[tuple[Point, Socket]]) -> None:
-    """Counts each point of a socket as a step, and the goroutines that passed them."""
+    """Counts each point as a step of its socket, and adds the point's goroutine to the socket's goroutines."""
     goroutines = map(GOROUTINE, map(POINT, points))
     for (goroutine, socket), steps in Counter(zip(goroutines, map(SOCKET, points))).items():
         socket.steps += steps
@@ -252,12 +252,12 @@ class Owned:
 
     points: list[tuple[Point, Socket]]
     sockets: list[Socket]
-    cut: int  # reads and writes that count as fewer bytes
+    cut: int  # how many reads and writes are recorded with fewer bytes than they moved
 
     def began(self) -> dict[int, int]:
-        """For each goroutine, the number of its first point, or, if smaller, of the note of a socket. The goroutine waited for that socket or
-        was using it. (The points are read from the last to the first, so that the first one stays: there may be a million points.)
-        """
+        """For each goroutine, the number of its first point. If a note says that the goroutine waited for a socket or was using it, the
+        note's number counts too; the smaller number is returned. (The points are read from the last to the first, so that the first one
+        stays: there may be a million points.)"""
         points = list(map(POINT, reversed(self.points)))
         began = dict(zip(map(GOROUTINE, points), map(NUMBER, points)))
         for note in (socket.note for socket in self.sockets if socket.note):

@@ -61,8 +61,8 @@ class Recordings:
         self.base, self._go, self._wish, self._keeps_all = base, go, wish, keeps_all
         self._is_page_wanted = is_page_wanted
         self.told: dict[tuple[str, str], Told] = {}
-        self._names: set[pathlib.Path] = set()  # that recordings have
-        self._short: dict[str, str] = {}  # the package that has a short name
+        self._names: set[pathlib.Path] = set()  # the file names of the recordings
+        self._short: dict[str, str] = {}  # the package to which each short name belongs
         self.all_recorded = True  # whether everything was recorded that should be
         self.trouble = False  # whether a recording couldn't be written
         self.suspected = False

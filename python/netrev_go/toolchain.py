@@ -20,8 +20,8 @@ from . import messages
 
 SOURCES = pathlib.Path(__file__).resolve().parent / "go"
 OVERLAY, NEW, LEFT_OUT = "overlay.json", "new.json", "without.txt"
-CHANGED = ("runtime", "internal/poll", "testing")  # of Go's packages
-WITHOUT = "without "  # the beginning of a line for an optional rule
+CHANGED = ("runtime", "internal/poll", "testing")  # the packages of Go that the overlay changes
+WITHOUT = "without "  # a line for an optional rule begins like this
 # For each release, the patch with which the rules were tried.
 TRIED = {"1.19": 8, "1.21": 13, "1.22": 12, "1.23": 5, "1.24": 4, "1.26": 10, "1.27": 3}
 

@@ -47,7 +47,7 @@ class Trial:
 
 
 def trial(go: Go) -> Trial:
-    """Records the small program on one processor and on four, reports the result, and keeps it if it succeeded."""
+    """Records the small program on one processor and on four, and returns the result. If the trial succeeded, stores the result."""
     kept_in = overlay(go).parent / KEPT
     with tempfile.TemporaryDirectory(prefix="netrev-trial-") as name:
         tried_out = tried_in(go, pathlib.Path(name))

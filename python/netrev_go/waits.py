@@ -1,5 +1,5 @@
-"""The waits of recorded goroutines outside the poller, at a channel, a select, a mutex, a condition or a WaitGroup, if a step of the
-recording comes during the wait."""
+"""The waits of recorded goroutines outside the poller, on a channel, a select, a mutex, a condition or a WaitGroup. A wait counts only if
+a step of the recording comes during it."""
 
 from __future__ import annotations
 

@@ -1,5 +1,5 @@
 """Makes recordings of a running server: at once, or when one of its calls has waited for a long time. Two small tables of the log say
-which goroutines wait at sockets, and since when, so frequent checks are cheap."""
+which goroutines wait on sockets, and since when, so frequent checks are cheap."""
 
 from __future__ import annotations
 
@@ -37,7 +37,7 @@ ACCEPTS = "internal/poll.(*FD).Accept"
 
 
 class Waiting(NamedTuple):
-    """A goroutine that waits at a socket: Go's number, the side, the stack (0 if unknown), when the wait began by Go's clock, and the
+    """A goroutine that waits on a socket: Go's number, the side, the stack (0 if unknown), when the wait began by Go's clock, and the
     address of the socket's lock word."""
 
     goroutine: int

@@ -50,7 +50,7 @@ class Numbered:
         return self.numbers[key]
 
     def made(self, key: int) -> int:
-        """The number of the call of the `go` statement that started a stack's goroutine; 0 for none."""
+        """The file's number for the call that ran the `go` statement of a stack's goroutine; 0 for none."""
         known = self.stacks.get(key)
         return self.call(known.made) if known and known.made else 0
 

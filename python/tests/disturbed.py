@@ -1,4 +1,4 @@
-"""Runs a session of nrdb in which an event happens at some point of its communication with netrev. The session's output
+"""Runs a session of nrdb in which an event happens at some point in its communication with netrev. The session's output
 must be the same as without the event, or a part of that output. `tests.test_interrupts` uses a model of netrev, and
 `tests.program.nrdb.test_slow` uses the built program."""
 
@@ -96,7 +96,7 @@ class Disturbances(unittest.TestCase, Generic[Of]):
             self.addCleanup(stack.pop_all().close)
 
     def opened(self, weather: Weather[Of]) -> Of:
-        """A netrev over the example, with this event."""
+        """A netrev that runs on the example, and to which this event happens."""
         raise NotImplementedError
 
     def told_by(self, played: Played, command: str) -> Events:

@@ -230,7 +230,7 @@ func held(mutex, unlocked *sync.Mutex, shared, written *sync.RWMutex) {
 	runtime.Gosched()
 }
 
-// open makes a connection in each state of notes, and sets the last connection's deadlines repeatedly until notes exist.
+// open leaves sockets open in each state that notes can show. It then sets the last socket's deadlines so often that notes are written.
 func open() {
 	a, b := pair("tcp4", "127.0.0.1:0")
 	for i := 0; i < 2; i++ {

@@ -67,7 +67,7 @@ func TestEnds(t *testing.T) {
 )
 
 
-# prints what netrev-go stores of the linked programs
+# prints what netrev-go stores about the linked programs
 LOOKS = """package p
 
 import (

@@ -1,5 +1,5 @@
-"""When a schedule's state continues as another state does: the numbers of its objects may differ, and so may what nothing can read any
-more."""
+"""When a schedule continues from a state as from another state. The states may differ in the numbers of their objects, and in values that no
+later step can read."""
 
 from typing import Any
 

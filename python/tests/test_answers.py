@@ -110,7 +110,7 @@ class Flushes(WithFile):
 
 
 class NewReaders(WithFile):
-    """Goroutine 1 reads on socket 0 in `command`, answers in `answer`, and reads again; goroutine 0 waits at socket 1."""
+    """Goroutine 1 reads from socket 0 in `command`, answers in `answer`, and reads again. Goroutine 0 waits on socket 1."""
 
     def said(self, source: str = READER, more: list[Any] = []) -> list[str]:
         answers: list[Any] = [

@@ -28,7 +28,7 @@ def begun(begins: int, steps: list[Any]) -> Recording:
 
 class Before(unittest.TestCase):
     def said(self, begins: int) -> str:
-        """The answer about a Read that waits at the end, if no goroutine has written."""
+        """nrdb's text about a Read that still waits when the recording ends. No goroutine has written to its other end."""
         recording = begun(begins, [*TWO_ENDS, *READS_ON])
         index = index_of(recording)
         (call,) = [one.call for one in waiters_at(index, recording.length).values() if one.call]

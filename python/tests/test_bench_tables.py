@@ -1,4 +1,4 @@
-"""The tables of the benchmark: the contents of each row, and that means are geometric."""
+"""Tests the benchmark's tables: the contents of each row, and the geometric means."""
 
 import unittest
 from collections.abc import Iterator
@@ -29,7 +29,7 @@ def figures(steps: int, times: float, programs: tuple[str, ...]) -> Figures:
 
 
 def measured(*programs: str, sizes: tuple[int, ...] = (1_000, 10_000)) -> Measurement:
-    """Figures of two shapes of recording. The baseline's figures for the second shape are a quarter of those for the
+    """Figures for recordings of two shapes. The baseline's figures for the second shape are a quarter of those for the
     first; the other programs' figures are the same for both."""
     found = {}
     for steps in sizes:
@@ -86,7 +86,7 @@ def cases(*programs: str) -> Cases:
 
 
 def named(name: str, of: Cases) -> Cases:
-    """These cases with only their figures for the walk, which get another name."""
+    """These cases with only their figures for the walk, under the given name."""
     return {case: {one: {name: figures["walk"]} for one, figures in all_of.items()} for case, all_of in of.items()}
 
 

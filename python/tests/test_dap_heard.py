@@ -169,7 +169,9 @@ class Heard(unittest.TestCase):
 
     def test_what_was_heard_is_gone_when_its_turn_has_come(self) -> None:
         for number, command in enumerate(("terminate", "pause", "cancel"), 1):
-            self.asked(framed(number, command, requestId=10 + number))  # (it may be refused, and then isn't worked on)
+            self.asked(
+                framed(number, command, requestId=10 + number)
+            )  # (the adapter may refuse it, and then never begins it)
             request = self.asked(framed(10 + number, "continue"))
             self.assertFalse(self.hearing.ends(request), command)
             with self.hearing.work(request, self.interrupts):
@@ -231,7 +233,7 @@ def told_of_work(command: str, shows: bool, told: int, refuses: bool = False) ->
 
 
 class Late(unittest.TestCase):
-    """Long work is reported."""
+    """The adapter reports requests that take long."""
 
     def test_a_move_is_answered_before_it_is_done(self) -> None:
         (response,) = told_of_work("continue", False, 1)
@@ -269,7 +271,7 @@ class Pieces(unittest.TestCase):
         return Moves(debuggee, marks, Filters(debuggee.recording), lines, logpoints, self.interrupts), marks, debuggee
 
     def stops(self, piece: int) -> list[tuple[Stop, int]]:
-        """The positions to which moves in both directions lead if netrev makes this many steps at once."""
+        """The stops and positions after moves in both directions, if netrev makes this many steps at once."""
         with patch.object(moving, "PIECE", piece):
             moves, marks, debuggee = self.moves()
             wishes = [wish_of("pollreset", {"condition": "gor 2 idle"}), wish_of("rwlock", {"hitCondition": "% 3"})]

@@ -1,4 +1,4 @@
-"""The answers of the adapter for editors at the boundaries of its requests: a row for each side of a boundary."""
+"""Tests how the adapter for editors answers requests whose arguments are at a boundary. Each side of a boundary has a row."""
 
 import base64
 from types import SimpleNamespace as Made
@@ -154,7 +154,7 @@ def test_completions_before_the_first_column_are_those_of_an_empty_line() -> Non
 def test_a_breakpoint_stops_by_its_condition_and_hit_count(
     asked: dict[str, str], is_true: bool, position: int, stops: bool, monkeypatch: pytest.MonkeyPatch
 ) -> None:
-    """The kind of step is reached at positions 3, 5 and 9."""
+    """The steps of this kind are at positions 3, 5 and 9."""
     monkeypatch.setattr(dap_marks, "positions_of", lambda session, what: [3, 5, 9])
     session = Made(
         netrev=Made(marks=lambda: []), ask=lambda line: {"break rwlock": "mark 4", "break acquire": "mark 7"}[line], holding=lambda numbers: numbers,
@@ -210,7 +210,7 @@ def test_breakpoints_of_a_kind_are_replaced() -> None:
 def test_the_lines_that_have_a_step(
     line: int, end: Optional[int], is_recording: bool, wanted: list[int], first: int
 ) -> None:
-    """Lines 3, 5 and 9 of the program have steps, and lines 2 to 5 of the recording; the editor counts lines from `first`."""
+    """Steps are at lines 3, 5 and 9 of the program, and at lines 2 to 5 of the recording. The editor counts lines from `first`."""
     steps = {number: Made(number=number, line=number + 1) for number in (1, 2, 3, 4)}
     debuggee = Made(
         is_at=lambda path: is_recording, step=steps.get, step_at=lambda line: next((one for one in steps.values() if one.line >= line), None)

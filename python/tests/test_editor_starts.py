@@ -52,7 +52,7 @@ INITIALIZE, LAUNCH, STRANGE = (
 def test_a_connection_is_admitted_by_a_launch_with_the_token(
     sent: bytes, is_admitted: bool, answered: list[tuple[str, bool]]
 ) -> None:
-    """The requests before it are answered, and both are given to the adapter."""
+    """The connection answers the requests before the launch. The adapter gets the initialize request and the launch."""
     editor, ours = socket.socketpair()
     with editor, editor.makefile("rb") as reader:
         connection = Connection(_Unoptioned(ours), TOKEN)

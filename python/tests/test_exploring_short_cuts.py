@@ -24,12 +24,12 @@ from tests.test_exploring import EXAMPLES, answered, with_answers
 pytestmark = pytest.mark.long
 REAL = sorted((EXAMPLES / "real").glob("*.jsonl"))
 RACES = sorted((EXAMPLES / "races").glob("*.jsonl"))
-MOST, AT_ONCE = 200, 9  # schedules, every nth of which is run
+MOST, AT_ONCE = 200, 9  # how many schedules are made; every 9th is run
 TRAFFIC, LENGTH = (720, 726), 400  # seeds, and the length of their recordings
 
 
 class PlainBoard(Board):
-    """A board that lets the machine make each step and a snapshot after it."""
+    """A board whose machine makes each step. Each answer and state is compared with the model's."""
 
     def make(self, step: Step, number: int) -> Made:
         behind = apply(self.world(), step)

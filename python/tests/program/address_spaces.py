@@ -59,7 +59,7 @@ def ended(process, given=None):
 
 
 def limit_memory(size):
-    """Limits the address space of the next process to this many bytes, without a core file."""
+    """Limits the address space of the next process to this many bytes. The process writes no core file."""
     resource.setrlimit(resource.RLIMIT_CORE, (0, 0))
     resource.setrlimit(resource.RLIMIT_AS, (size, size))
 
@@ -220,7 +220,7 @@ def a_hundred_sizes(play):
 
 
 def play_memory_of_serve(recording):
-    """A hundred sizes for a session that two callers share, one after the other."""
+    """Runs a shared session in address spaces of a hundred sizes. Two callers use each session, one after the other."""
 
     def play(size):
         try:

@@ -4,7 +4,7 @@ the same bytes. The name of each case begins with its kind:
     recording  each stored recording is checked, upgraded and walked in both directions
     bad        refused recordings, one for each fault in `tests/program/hostile.py`
     sizes      the greatest sizes of a recording, in few steps
-    sides      a wait for writing without one for reading; and two firings: the second is run first, undone and run again
+    sides      a wait for writing without one for reading; and two firings, of which the second is run first, undone and run again
     random     random cases of the fuzzer: each cell at each position in both directions, random lines, damaged recordings, and
                upgrades. The options `--random N` and `--seed` of `pytest python/tests/program/agree.py` set the number of
                cases and the first seed

@@ -1,8 +1,8 @@
-"""Tests every beginning of each short recording, byte by byte, for hostile.py: netrev accepts a beginning that ends
-with a whole line, and refuses any other beginning at its last line.
+"""Tests every prefix of each short recording, byte by byte, for hostile.py: netrev accepts a prefix that ends with a
+whole line, and refuses any other prefix at its last line.
 
-There are some thirty thousand beginnings of recordings, and Python takes longer to start netrev than netrev takes to
-check one. So one shell for each processor of the machine runs netrev, and checks many beginnings in a row.
+The recordings have some thirty thousand prefixes, and Python takes longer to start netrev than netrev takes to check
+one. So one shell for each processor of the machine runs netrev, and checks many prefixes in a row.
 """
 
 import os
@@ -37,8 +37,8 @@ def wanted_of(place: object, fault: object) -> Printed:
 
 
 def beginning(text: bytes, differs: Optional[int]) -> Printed:
-    """The output for a beginning, whose last line is whole or malformed. Step `differs`, if given, has a recorded
-    answer that isn't the machine's."""
+    """The expected output for a prefix of a recording. A last line that isn't whole is malformed. Step `differs`, if
+    given, has a recorded answer that isn't the machine's."""
     lines = text.split(b"\n")
     if not lines[-1] and len(lines) > 1:
         steps = len(lines) - 2

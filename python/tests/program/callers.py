@@ -27,8 +27,8 @@ def ask_much(caller):
 
 
 def end_and_reset(caller):
-    """Resets after netrev has read the end of the lines, so that netrev's write fails as a write to a closed pipe
-    does."""
+    """Resets the connection after netrev has read to the end of the lines. The write of netrev then fails like a write to
+    a closed pipe."""
     caller.shutdown(socket.SHUT_WR)
     reset(caller)
 

@@ -24,7 +24,7 @@ from netrev_words.writing import write_plain
 from .sharing import ROOT, expect
 from .upgrades import RECORDINGS, USAGE, ended, played
 
-SHORT = 300  # the most steps of a recording whose cells are printed at each position
+SHORT = 300  # in recordings with at most this many steps, the cells are printed at each position
 MADE_BY = {Of.GOROUTINE: "spawn", Of.SOCKET: "sockopen", Of.DESCRIPTOR: "pollopen"}
 
 READS = ROOT / "scripts/recordings/woken-by-an-event.jsonl"

@@ -1,9 +1,9 @@
-"""Tests each call that takes memory, with its requests for memory refused one after the other.
+"""Tests each call that allocates memory, and refuses its requests for memory one after the other.
 
-The program is crates/nr_refused, or the program that NR_REFUSED names. It makes the given call, and then makes it again
-with memory; scripts/refused.c is loaded before the C library. In the first run, the first request of the first call is
-refused; in the next run, the second request is refused; and so on until no request is left. Then each request is
-refused together with all later ones. The program compares the results of both calls with the right answer and, after a
+The program is crates/nr_refused, or the program that NR_REFUSED names. It makes the given call, and
+then repeats it, with no request refused. scripts/refused.c, loaded before the C library, refuses requests. In the first
+run, the first request of the first call is refused; in the next run, the second request is refused; and so on until no
+request is left. Then each request is refused together with all later ones. The program compares the results of both calls with the right answer and, after a
 refusal, compares the values that must stay unchanged. A call whose request is refused must either report that or return
 the right result, and must return the right result when it is repeated. A call that gets no memory at all must report
 that, unless it needs none.
@@ -25,9 +25,9 @@ PROGRAM = os.path.abspath(os.environ.get("NR_REFUSED", ROOT / "crates/nr_refused
 PATIENCE = 60  # seconds
 RIGHT, REFUSED = "right", "refused, then right"
 
-# calls that take no memory
+# calls that allocate no memory
 WITHOUT = {"restored-in-place", "restored-in-place-plain", "goto-a-copy", "journal-split"}
-# calls that send a refused line again themselves, so they aren't tested with all later requests refused
+# calls that themselves retry a refused line; they aren't tested with all later requests refused
 LINES = {"six-lines"}
 # calls with threads, whose number of requests varies
 WITH_THREADS = {"search-forward-by-three", "search-backward-by-three", "serve-bytes"}

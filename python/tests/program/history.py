@@ -6,9 +6,9 @@ commands. So a query shows a state that the session had after the query was sent
 state is no older than the last state that the query's front has seen. Once the journal is full, each further command
 gets the reply that says so.
 
-The search goes from the beginning, and decides at each point which front's line comes next. A query or a fault that
-fits is taken at once. This loses no history, because the line changes nothing and could come this early in any history.
-If several commands fit, the search first tries the commands whose replies show where they began (such as the reply to
+The search goes from the beginning, and decides at each point which front's line comes next. If a line is a query or got
+a fault, and its reply fits here, the search takes the line at once. This loses no history, because the line changes
+nothing and could come this early in any history. If several commands fit, the search first tries the commands whose replies show where they began (such as the reply to
 `stepi`). The search doesn't leave a position if remaining lines need the position and can't reach it again. It doesn't
 delete a mark that another line still shows. It doesn't enter the same state with the same remaining lines twice.
 """
@@ -30,7 +30,7 @@ CHECKPOINT = re.compile(r"checkpoint (\d+) at (\d+)$")
 POSITION = re.compile(r"at (\d+) of \d+ (forward|reverse)$")
 DELETED = re.compile(r"deleted (mark|checkpoint) (\d+)$")
 
-Name = tuple[str, int]  # a mark or a checkpoint, by its sort and number
+Name = tuple[str, int]  # a mark or a checkpoint: its sort and number
 Choice = tuple[int, State]  # a front, and the state after its next line
 
 
@@ -74,7 +74,7 @@ class Clue(NamedTuple):
 
 
 def earliest(numbers: list[int]) -> list[int]:
-    """For each place, the least number from that place on."""
+    """For each index, the smallest of the numbers from that index to the end."""
     least: list[int] = list(accumulate(reversed(numbers), lambda one, other: min(one, other)))
     return least[::-1]
 
@@ -84,8 +84,8 @@ class GaveUp(Exception):
 
 
 class Search:
-    """A search for the history of what some fronts exchanged, given as one list for each front, in the order of its
-    lines."""
+    """A search for a history that explains all replies. `fronts` has a list for each front: its lines, in order, with
+    their replies."""
 
     def __init__(
         self, recording: Recording, fronts: Sequence[Sequence[Exchange]], room: int, most: int = 1_000_000
@@ -139,8 +139,8 @@ class Search:
         return self.clues[front][self.taken[front]]
 
     def open_fronts(self) -> list[int]:
-        """The fronts whose next line may come now, because the line was sent before the first reply to a remaining line
-        was read."""
+        """The fronts whose next line may come now. A line may come now if it was sent before any reply to a remaining
+        line was read."""
         left = [front for front, at in enumerate(self.taken) if at < len(self.fronts[front])]
         first: int = min((self.known[front][self.taken[front]] for front in left), default=0)
         return [front for front in left if self.next_of(front).sent < first]
@@ -157,7 +157,7 @@ class Search:
         return state if reply == exchange.reply and self.may_leave(front, state) else None
 
     def may_leave(self, front: int, state: State) -> bool:
-        """Whether the other remaining lines may still be answered after the front's next line."""
+        """Whether the replies to the other remaining lines are still possible if the front's next line comes now."""
         clue = self.clue_of(front)
         if clue.takes_away and self.shown[clue.takes_away]:
             return False
@@ -187,7 +187,7 @@ class Search:
         self.state = state
 
     def choices(self) -> list[Choice]:
-        """Takes all lines that fit now and don't change the state. Returns the lines that fit then, the best line last."""
+        """Takes all lines that fit now and don't change the state. Returns the lines that fit after these, best last."""
         while True:
             fitting = [(front, state) for front in self.open_fronts() if (state := self.behind(front)) is not None]
             calm = [choice for choice in fitting if self.next_of(choice[0]).is_calm()]

@@ -7,8 +7,8 @@
     header     first lines that aren't a header
     version    the differences between the two versions: recorded answers, `closewrite` and large buffers
     answer     malformed recorded answers, an answer that isn't the machine's, and which of two faults is reported
-    beginning  every beginning of each short recording, byte by byte: netrev accepts a beginning that ends with a whole line,
-               and refuses any other at its last line
+    beginning  every prefix of each short recording, byte by byte: netrev accepts a prefix that ends with a whole line, and
+               refuses any other at its last line
     command    command lines that name nothing that exists
 """
 

@@ -10,8 +10,8 @@
               in use. The next caller is served, netrev ends by itself, and its status says whether a connection failed
     histories callers at 64 fronts, two at each, send random lines. All replies must fit one order of all lines (history.py), and
               `placed K` must be the number of commands. With all kinds of lines, only eight fronts talk at the same time,
-              because the search would take too long for more. With steps forwards and queries, all 64 fronts talk. Two
-              fronts fill the journal
+              because the search would take too long for more. All 64 fronts talk at once if they send only queries and
+              steps forward. In one session, two fronts fill the journal
     altered   tests that the search for an order can fail: in one session, no order fits if any reply is altered; in another,
               no order fits if any reply to a command is altered
 
@@ -169,9 +169,9 @@ def commands_in(lines):
 
 
 def share_lines(recording, fronts, journal=4096, workers=1, windows=(1,), at_once=None):
-    """Sends the lines of each front's connections, each caller with one of the windows, and returns what each front
-    exchanged. All callers connect at the beginning. The first caller talks alone; then the callers of this many fronts,
-    or of all fronts, talk at the same time."""
+    """Sends the lines of each front's connections, and returns each front's lines with their replies. The callers take
+    their windows from `windows` in turn. All callers connect at the beginning. The first caller talks alone; then the
+    callers of `at_once` fronts, by default of all fronts, talk at the same time."""
     at_once = at_once or len(fronts)
     with Server(recording.path, len(fronts), len(fronts[0]), journal, workers) as server:
         talkers = [
@@ -336,7 +336,7 @@ def line_without_end(caller):
 
 
 def reads_nothing(caller):
-    """Sends until nothing more can be sent, because it reads no replies, and resets."""
+    """Reads no replies, and sends until the connection takes no more. Then resets the connection."""
     caller.sendall(b"stepi 3\n")
     expect("a reply", b"at 3\n", caller.recv(100))
     caller.settimeout(0.5)
@@ -356,7 +356,7 @@ def more_behind_quit(caller):
 
 
 def no_end_behind_quit(caller):
-    """Sends without end after `quit`: netrev reads some of it, and closes."""
+    """Sends without end after `quit`: netrev reads a part, and closes the connection."""
     caller.sendall(b"quit\n")
     expect("the reply", b"bye\n", caller.recv(100))
     try:
@@ -376,7 +376,7 @@ def stays_behind_quit(caller):
 
 
 def test_hostile(parked):
-    """Each of these callers disconnects in a bad way. The next caller of the front is served at the front's position,
+    """Each of these callers disconnects in the middle, or misuses its connection. The next caller of the front is served at the front's position,
     and the session ends."""
     for leave, status, position, placed in (
         (half_a_line, 0, 3, 2),
@@ -455,9 +455,9 @@ def other_reply(reply):
 
 
 def test_altered(parked, lives, dice):
-    """If two callers talk one after the other, only one history exists. If one of their replies is altered, none exists.
-    Commands with rising positions have only one possible order. If the reply to such a command is altered, no history
-    exists. The altered reply to a query may fit an earlier or a later state."""
+    """If two callers talk one after the other, only one history exists. If one of their replies is altered, no
+    history exists. Commands with rising positions have only one possible order, so the same holds if the reply to such
+    a command is altered. The altered reply to a query may fit an earlier or a later state."""
     two = [[Lines(dice, parked).some(20)] for _ in range(2)]
     expect_no_other(parked, share_lines(parked, two, at_once=1), lambda one: True)
     expect_no_other(lives, race_forwards(lives, dice, fronts=8, connections=1), lambda one: is_command(one.asked))

@@ -1,8 +1,8 @@
 """The places in which README's commands must work: a clone, the archive and the Debian package. Nothing else of netrev
 is installed in any of them.
 
-    python3 python tests.program.readme_rooms ROOT    plays README in ROOT/root, for scripts/try_deb.sh: the root of a Debian system
-                                                      with the package and Go"""
+    python3 python tests.program.readme_rooms ROOT    runs README's commands in ROOT/root, for scripts/try_deb.sh; ROOT is the root of
+                                                      a Debian system with the package and Go"""
 
 import os
 import re
@@ -88,7 +88,7 @@ class Room:
                 raise ReadmeError(f"`{command}` says to type `{text}`, which ends with status {status}:\n{said}")
 
     def check_answers(self, command: Command, printed: str) -> None:
-        """Fails if a text after netrev's name isn't netrev's answer."""
+        """Fails if a text printed after `netrev:` isn't netrev's answer."""
         recording = RECORDING.search(command.text)
         for answer in ANSWER.findall(printed):
             if not recording or not all(self.is_of_netrev(recording[0], part.strip()) for part in answer.split(";")):

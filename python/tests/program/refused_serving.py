@@ -4,8 +4,8 @@ Two callers, each at its own front, send fixed lines one after the other, so the
 short recording, which one worker searches, then over a recording of more than three thousand steps, which three workers
 search. In the second case, the allocations before callers are served aren't refused, because they are like those in the
 first case. The allocations come in the same order each time, except those of threads that are starting. Several
-sessions run at the same time. The tests refuse allocations with ever higher numbers, until as many sessions in a row
-had no allocation to refuse. A refused allocation must be reported once, and in one of these ways:
+sessions run at the same time. The tests refuse allocations with ever higher numbers. They stop when the last AT_A_TIME
+sessions had no allocation to refuse. A refused allocation must be reported once, and in one of these ways:
 
 - before a caller is served, as `fault 108 memory`, with status 1;
 - in place of a reply to a query, or to a line that first has to complete another front's search, as

@@ -69,7 +69,7 @@ def library_of(name, folder):
 
 
 class Ports:
-    """Unused ports, none of which is given twice. They are below the ports that the system gives to callers. They come
+    """Unused ports, none of which is given twice. They are below the system's ephemeral ports. They come
     from blocks whose first port is held as long as this script runs, so that two scripts don't take the same ports. No
     process may be started while a port is tried, because the process would hold that port for a moment; `lock` prevents
     this."""
@@ -121,7 +121,7 @@ PORTS = Ports()
 
 
 class Server:
-    """A netrev that serves a recording at ports of its own, or from `port` on. `before` is called with the first port
+    """A netrev that serves a recording on ports of its own, or on `port` and the ports after it. `before` is called with the first port
     before netrev starts. The command `through`, if given, starts netrev. Each search uses the given number of workers.
     Without a number of connections, it serves until it is stopped."""
 
@@ -161,7 +161,7 @@ class Server:
                 caller.setsockopt(socket.IPPROTO_TCP, socket.TCP_NODELAY, 1)
                 caller.settimeout(PATIENCE)
                 return caller
-            except ConnectionError:  # refused before the front listens, or reset if netrev ends while this connects
+            except ConnectionError:  # refused before the front listens, or reset if netrev ends during the call
                 caller.close()
             if self.has_ended():
                 return None

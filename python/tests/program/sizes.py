@@ -150,7 +150,7 @@ def crowd() -> tuple[list[str], int]:
 
 def crowded(folder: Path) -> tuple[Path, int, int]:
     """A recording of that crowd, followed by ticks, so that copies of it are kept and all timers fire. Also returns the
-    position at which the whole crowd waits, and the last position."""
+    position at which all its goroutines wait, and the last position."""
     steps, _ = crowd()
     timers = 2 * DESCRIPTORS
     more = [f'["tick",{time}]' for time in range(1, 3001)] + [f'["tick",{3 * 10**9}]'] + ['["pop"]'] * timers
@@ -249,7 +249,7 @@ def play_commands(folder: Path) -> None:
 
 
 def greatest_memory(path: Path, steps: int) -> int:
-    """The most bytes that netrev has held by the time it has read a recording. (The figure of `wait4` includes this
+    """The most bytes that netrev has held by the time it has read a recording. (The figure from `wait4` includes this
     process's memory from before the program began.)"""
     with subprocess.Popen([NETREV, "run", str(path)], stdin=subprocess.PIPE, stdout=subprocess.PIPE, text=True) as ran:
         assert ran.stdin and ran.stdout

@@ -153,8 +153,8 @@ FULL = opened("/dev/full", os.O_WRONLY)
 @dataclass
 class Case:
     """A call of netrev with `word` and FILE, and its expected end. `input` is bytes, one of the above states, or
-    CLOSED. Standard output goes to `into`, and is read if that is None. `memory` limits the address space, and `beside`
-    limits it to that much more than loading takes."""
+    CLOSED. Standard output goes to `into`, and is read if that is None. `memory` limits the address space. `beside`
+    limits it too: to what loading the program takes, and this much more."""
 
     name: str
     word: str

@@ -126,7 +126,7 @@ class Finding(unittest.TestCase):
 
 
 class Companion(unittest.TestCase):
-    """Sessions of nrdb that are disturbed."""
+    """Sessions of nrdb in which Ctrl-C is pressed, or netrev is slow or killed."""
 
     def played(self, count):
         """The faults of this many sessions, and the events in them."""

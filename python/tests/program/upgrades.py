@@ -1,8 +1,8 @@
 """Tests `netrev upgrade` with the built program. The name of each case begins with its kind:
 
     stored     upgraded recordings are compared with stored texts; one of them has an answer that isn't the machine's
-    written    recordings that are written in different ways have a compact upgrade, with keys in alphabetical order and
-               hexadecimal digits in lower case
+    written    however a recording is written, its upgrade is compact, with keys in alphabetical order and hexadecimal
+               digits in lower case
     refused    faults, usage errors and a missing file: the statuses equal those of `check`
     recording  the upgrade of each stored recording equals the text of the fuzzer's model (python/netrev_machine); `check`
                accepts it, a second upgrade has the same bytes, and `run` has the same replies for it

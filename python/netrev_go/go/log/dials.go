@@ -9,7 +9,7 @@ import (
 	"unsafe"
 )
 
-// Why a dial failed, if not by an error of the system.
+// Why a dial failed, if not because of a system error.
 const (
 	netrevOtherFailure = 0
 	netrevTimedOut     = -1

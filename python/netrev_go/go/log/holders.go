@@ -16,7 +16,7 @@ import (
 
 const (
 	netrevHolders     = netrevNearEnd + netrevFarRows
-	netrevNearRows    = 16 // for each of the first processors
+	netrevNearRows    = 16 // for each of the 64 processors with the lowest numbers
 	netrevNearTries   = 2  // rows of these in which a mutex may be
 	netrevNearEnd     = netrevNearRows * 64
 	netrevFarRows     = 1 << 13
@@ -131,7 +131,7 @@ func netrevIsTaken(row *netrevHolderRow) bool {
 	return atomic.Load64(&row[netrevHolderAt]) == 0 && atomic.Cas64(&row[netrevHolderAt], 0, netrevHolderBegun)
 }
 
-// netrevCallsFrom writes the return addresses of the calls from a frame on into words, and returns how many it wrote.
+// netrevCallsFrom fills words with the return addresses of a frame and its callers, and returns how many it wrote.
 //
 //go:nosplit
 func netrevCallsFrom(gp *g, frame uintptr, words []uint64) uint64 {
@@ -161,7 +161,7 @@ func netrevLetsGo(at unsafe.Pointer, how uint64) {
 	}
 }
 
-// netrevFrees frees one row of a mutex that this goroutine, or any goroutine, holds in this way, and returns whether it found such a row.
+// netrevFrees frees one row for a mutex held in this way: by this goroutine if isMine, else by any. It returns whether it found a row.
 func netrevFrees(at, mine uint64, isMine bool, processor uint64) bool {
 	place := netrevMixed(at)
 	if processor < netrevNearEnd && netrevFreesNear(at, mine, isMine, processor, place) {

@@ -18,7 +18,7 @@ const (
 	netrevRowShare    = 64      // one more for this many points
 	netrevRowBytes    = unsafe.Sizeof(netrevRow{})
 	netrevRowTries    = 64      // rows in which a descriptor may be
-	netrevQueueMost   = 1 << 10 // goroutines that are queued at lock words
+	netrevQueueMost   = 1 << 10 // goroutines that are queued on lock words
 	netrevWaiterBytes = unsafe.Sizeof(netrevWaiter{})
 	netrevParts       = 4  // notes in each round of the ring
 	netrevShare       = 64 // each time, one descriptor at most is noted for this many points of the ring
@@ -37,7 +37,7 @@ const (
 	netrevDeadlineCallKind   = 142 // not a note: a is the mode, b the deadline, and c the lock word, to which the call had a reference
 )
 
-// Places of a goroutine inside a wait.
+// How far a goroutine has come in a wait.
 const (
 	netrevIsOutside = iota
 	netrevIsEntering
@@ -68,15 +68,15 @@ const (
 	netrevIsShut  = 2
 )
 
-// A netrevWaiter is a goroutine that is queued at the semaphore of a lock word; its root's lock protects it.
+// A netrevWaiter is a goroutine that is queued on the semaphore of a lock word. The lock of the semaphore's root protects it.
 type netrevWaiter struct {
 	addr                      uintptr // of the semaphore; 0 in a free row
 	order, goid, stack, since uint64
 	_                         [3]uint64
 }
 
-// Functions that return which timers of a descriptor run, and the descriptor's tag. Go's releases keep these
-// differently. The functions are set if the rules for notes fit.
+// Functions that return which timers of a descriptor run, and the descriptor's tag. Where the runtime stores these
+// depends on the release of Go. The functions are nil unless the rules for notes fit.
 var (
 	netrevRunning func(pd *pollDesc) int64
 	netrevTagOf   func(pd *pollDesc) int64
@@ -184,7 +184,7 @@ func netrevWaiterAt(row uint64) *netrevWaiter {
 	return (*netrevWaiter)(unsafe.Pointer(netrevQueue + uintptr(row)*unsafe.Sizeof(netrevWaiter{})))
 }
 
-// netrevQueues records that a goroutine joins the queue of a semaphore, whose root's lock is held.
+// netrevQueues records that a goroutine joins the queue of a semaphore. The caller holds the lock of the semaphore's root.
 func netrevQueues(addr *uint32, goid, stack uint64) {
 	if netrevRows == 0 {
 		return
@@ -200,8 +200,8 @@ func netrevQueues(addr *uint32, goid, stack uint64) {
 	atomic.Store(&netrevUnqueued, 1)
 }
 
-// netrevFirst returns the goroutine that has been queued longest at a semaphore, among goroutines with a greater number than `behind`, or
-// nil if no goroutine is queued.
+// netrevFirst returns the goroutine that has been queued longest on a semaphore, among those whose order is greater than `behind`, or nil
+// if there is none.
 func netrevFirst(at uintptr, behind uint64) *netrevWaiter {
 	var first *netrevWaiter
 	for try := uint64(0); try < netrevRowTries; try++ {
@@ -213,7 +213,7 @@ func netrevFirst(at uintptr, behind uint64) *netrevWaiter {
 	return first
 }
 
-// netrevLeaves removes the first goroutine from the queue of a semaphore, whose root's lock is held.
+// netrevLeaves removes the first goroutine from the queue of a semaphore. The caller holds the lock of the semaphore's root.
 func netrevLeaves(addr *uint32) {
 	if netrevRows == 0 {
 		return
@@ -360,7 +360,7 @@ func netrevNoteLocked(row *netrevRow, state uint64, pd *pollDesc) {
 
 // netrevNoteFlags returns bits. Bits 0 to 4: the descriptor is closing, it had an event error, its read timer runs, its
 // write timer runs, its write side is shut. Bits 8 and 9: its wait word for reading (0 nil, 1 ready, 2 wait, 3 a
-// goroutine). Bits 10 and 11: its wait word for writing. Bit 12: a goroutine may be queued that isn't noted.
+// goroutine). Bits 10 and 11: its wait word for writing. Bit 12: the notes may lack a queued goroutine.
 func netrevNoteFlags(row *netrevRow, pd *pollDesc) int64 {
 	flags := netrevBit(pd.closing) | netrevBit(pd.info().eventErr())<<1 | netrevRunning(pd)<<2 | netrevBit(row.marks&netrevIsShut != 0)<<4
 	return flags | netrevWordCode(pd.rg.Load())<<8 | netrevWordCode(pd.wg.Load())<<10 | int64(atomic.Load(&netrevUnqueued))<<12

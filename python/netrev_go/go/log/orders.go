@@ -16,7 +16,7 @@ const (
 	netrevEndedKind      = 122 // the channel was found closed and empty
 	netrevParksKind      = 124 // the goroutine begins to wait: a says for what; netrevAt and netrevSelects say at what
 	netrevGoesOnKind     = 125 // a goroutine that waited goes on
-	netrevCasesKind      = 126 // further cases of the select at which the goroutine is about to wait
+	netrevCasesKind      = 126 // further cases of the select in which the goroutine is about to wait
 	netrevHandedKind     = 127 // a value for a buffered channel goes to goroutine a, which waits for it and is made ready
 	netrevEndsKind       = 128 // the goroutine ends
 	netrevTimerKind      = 129 // the goroutine makes or resets a timer that goes off at a, with the timer's channel, if it has one
@@ -51,8 +51,8 @@ func netrevReadied(gp *g, traceskip int) int {
 	return traceskip &^ (netrevSema | netrevSemaRead)
 }
 
-// netrevMetSkip marks the number of frames to skip if the channel has no buffer: the point of the value that is taken
-// from a waiting sender then also says that the sender is made ready.
+// netrevMetSkip marks the number of frames to skip if the channel has no buffer. The point logged when the value is
+// taken from a waiting sender then also says that the sender becomes ready.
 func netrevMetSkip(c *hchan, skip int) int {
 	if c.dataqsiz == 0 {
 		return skip + netrevSema
@@ -110,11 +110,11 @@ func netrevWaits(reason string) int64 {
 	return netrevForOther
 }
 
-// netrevChannelOf returns the channel at which a goroutine is queued. This function is set if the rules for objects fit; otherwise points
-// don't name the object at which a goroutine waits.
+// netrevChannelOf returns the channel on which a goroutine is queued. It is nil unless the rules for objects fit; without it, points don't
+// name the object on which a goroutine waits.
 var netrevChannelOf func(waiting *sudog) *hchan
 
-// netrevSleepsUntil returns the time until which a goroutine is about to sleep. This function is set if the rules for timers fit.
+// netrevSleepsUntil returns the time until which a goroutine is about to sleep. It is nil unless the rules for timers fit.
 var netrevSleepsUntil func(gp *g) int64
 
 // netrevParks logs that a goroutine of the program is about to wait outside the poller, with the lock that gopark was
@@ -156,9 +156,9 @@ func netrevAt(what int64, lock unsafe.Pointer) (unsafe.Pointer, int64) {
 	return nil, 0
 }
 
-// netrevSelects returns up to three channels of a select that is about to wait; all its channels are locked. Above the
-// lowest eight bits of `what`, two bits for each say whether the goroutine waits for a value (1) or for room (2). If
-// there are more than three channels, it first logs a point for each three of the others.
+// netrevSelects returns up to three channels of a select that is about to wait; all its channels are locked. The lowest
+// eight bits of `bits` are `what`; above them, two bits per channel say whether the goroutine waits for a value (1) or
+// for room (2). If the select has more than three channels, netrevSelects first logs a point for every three others.
 func netrevSelects(gp *g, what int64) (at unsafe.Pointer, bits, b, c int64) {
 	const most, often = 3, 8
 	var channels [most]uintptr

@@ -75,10 +75,10 @@ const (
 	netrevOpenFailed  = 116
 )
 
-// The kinds of points that have a stack, and those that read the clock: a bit for each step, and one for each other
-// kind from netrevOpenFailed on (orders.go has those). Stacks and times are the costliest parts of a point. A later
-// step of a call has the stack of the call's first step at the socket, and a point without a time has the previous
-// point's time.
+// The kinds of points that have a stack, and those that read the clock, as sets of bits. Bit n of a ..Steps set is kind
+// n, a step; bit n of an ..Others set is kind netrevOpenFailed+n. Stacks and times are the costliest parts of a point.
+// A later step of a call has the stack of the call's first step on the socket, and a point without a time has the
+// previous point's time.
 const (
 	netrevStackedSteps  = 1<<3 | 1<<9 | 1<<10 | 1<<12 | 1<<netrevAcquire | 1<<netrevWaitBegin // sockopen, incref, increfclose, rwlock
 	netrevStackedOthers = 0x1f<<2 | 1<<8 | 1<<11 | 0x1f<<13 | 1<<(netrevDeadlineCallKind-netrevOpenFailed)
@@ -86,7 +86,7 @@ const (
 	netrevTimedOthers   = 0x3f<<1 | 1<<8 | 0x1f<<11 | 1<<17
 )
 
-// The marks of a lock word's semaphore, in the arguments of the runtime's own functions.
+// Marks in arguments of the runtime's own functions: the semaphore is a lock word's, and it is the readers' one.
 const (
 	netrevSema     = 1 << 20
 	netrevSemaRead = 1 << 21
@@ -323,8 +323,8 @@ func netrevMap(file uintptr, process uint64) (errno uintptr) {
 	return 0
 }
 
-// netrevKeepProgram copies the program beside the log, once for all processes that run it: the copy turns addresses
-// into lines. If there is no room for the copy, it is removed again.
+// netrevKeepProgram copies the program beside the log, once for all processes that run it. netrev-go uses the copy to
+// turn addresses into source lines. If there is no room for the copy, it is removed again.
 func netrevKeepProgram(path string) {
 	from, errno := netrevOpenFile([]byte("/proc/self/exe\x00"), netrevCloseOnExec, 0)
 	if errno != 0 {
@@ -364,7 +364,7 @@ func netrevLog(kind uint64, goid uint64, at uintptr, a, b, c, now int64) (stack 
 	number := netrevNext()
 	hasTime, hasStack := netrevTimedSteps>>kind&1 != 0, netrevStackedSteps>>kind&1 != 0
 	gp := getg()
-	if kind >= netrevOpenFailed { // at a channel a goroutine may log the point of another, which has a different stack
+	if kind >= netrevOpenFailed { // on a channel, a goroutine may log the point of another, which has a different stack
 		hasTime, hasStack = netrevTimedOthers>>(kind-netrevOpenFailed)&1 != 0, netrevStackedOthers>>(kind-netrevOpenFailed)&1 != 0 && goid == uint64(gp.goid)
 	}
 	if now == 0 && hasTime {
@@ -406,8 +406,8 @@ func netrevWrite(number, kind, goid uint64, at uintptr, a, b, c, now int64, stac
 	p[4], p[5], p[6], p[7] = uint64(b), uint64(c), uint64(now), stack|(sum^sum>>32)<<32
 }
 
-// netrevRoom reserves room for the next points, during the first round of the ring. A point that comes before this is done reserves its
-// own room; if no room is left, the log ends.
+// netrevRoom reserves room for the next points, during the first round of the ring. If a point is logged before its room is reserved, it
+// reserves room for itself; if no room is left, the log ends.
 func netrevRoom(number uint64) {
 	first, end := atomic.Load64(&netrevRoomed), number+2*netrevChunk
 	if end > netrevPoints {
@@ -477,14 +477,14 @@ func netrevBit(b bool) int64 {
 	return 0
 }
 
-// netrevPoll logs a point at a descriptor whose lock is held.
+// netrevPoll logs a point of a descriptor whose lock is held.
 func netrevPoll(kind uint64, pd *pollDesc, a, b, c int64) {
 	if netrevOn != 0 {
 		netrevLog(kind, netrevGoroutine(), uintptr(unsafe.Pointer(pd)), a, b, c, 0)
 	}
 }
 
-// netrevStep logs a point of a wait, after which the goroutine is at this place of the wait.
+// netrevStep logs a point inside a wait. `place` says how far the goroutine has come in the wait after the point.
 func netrevStep(kind uint64, pd *pollDesc, mode int32, seen int64, place uint64) {
 	goid, since := netrevGoroutine(), int64(0)
 	if kind == netrevWaitBegin {
@@ -494,7 +494,7 @@ func netrevStep(kind uint64, pd *pollDesc, mode int32, seen int64, place uint64)
 	netrevInside(pd, mode, place, goid, stack, since)
 }
 
-// netrevPollAlone logs a point at a descriptor whose lock isn't held.
+// netrevPollAlone logs a point of a descriptor whose lock isn't held.
 func netrevPollAlone(kind uint64, pd *pollDesc, a int64) {
 	if netrevOn != 0 {
 		lock(&pd.lock)
@@ -503,8 +503,8 @@ func netrevPollAlone(kind uint64, pd *pollDesc, a int64) {
 	}
 }
 
-// netrevOpened logs that a descriptor is opened, with the sequences from which its timers count, and the tag of its
-// events (0 in releases without tags).
+// netrevOpened logs that a descriptor is opened, with its first sequences (rseq and wseq, for its timers), and with the
+// tag of its events (0 in releases without tags).
 func netrevOpened(pd *pollDesc, fd, tag uintptr) {
 	netrevPoll(netrevOpen, pd, int64(fd)|int64(tag)<<32, int64(pd.rseq), int64(pd.wseq))
 }
@@ -589,8 +589,8 @@ func netrevCommitted(gp *g, pd *pollDesc, word *atomic.Uintptr, mode int64) bool
 	return parks
 }
 
-// netrevSetting has a row for each of the first processors. While the processor sets a deadline and holds the lock that
-// guards the lock word, the row has the descriptor and the lock word's value.
+// netrevSetting has a row for each of the 64 processors with the lowest numbers. While a processor sets a deadline and
+// holds the lock that guards the lock word, its row has the descriptor and the lock word's value.
 var netrevSetting [netrevNearEnd / netrevNearRows]struct {
 	descriptor uintptr
 	state      uint64
@@ -842,8 +842,8 @@ func netrevMixed(x uint64) uint64 {
 }
 
 // netrevDelay lets other goroutines run first, at a quarter of all places. It sleeps for 0.5 to 8 milliseconds; the seed chooses the
-// places and the times. It sleeps each of the first 64 times, and later one time in 16. A place is a kind of point in all goroutines
-// that the same code started. The caller holds no lock of the runtime.
+// places and the times. It sleeps each of the first 64 times, and later one time in 16. Two delays have the same place if their kind of
+// point is the same and the same code started their goroutines. The caller holds no lock of the runtime.
 //
 //go:linkname poll_runtime_netrevDelay internal/poll.runtime_netrevDelay
 func poll_runtime_netrevDelay(kind uint64) {

@@ -79,8 +79,8 @@ func netrevCopyLog() {
 	}
 }
 
-// netrevWriteLog writes the log to a file, and returns the error. The ring is written right after the header, because
-// new points replace the oldest; the mark says that some of these may be missing.
+// netrevWriteLog writes the log to a file, and returns the error. The ring is written right after the header, because new
+// points overwrite the oldest. The mark netrevCopied in the header says that some of the oldest points may be missing.
 func netrevWriteLog(file uintptr) uintptr {
 	ring, points := netrevRing-netrevBase, netrevPoints
 	if used := atomic.Load64(&netrevRoomed); used < points {

@@ -16,7 +16,7 @@ type function struct {
 	syntax *ast.FuncDecl
 }
 
-// A folder has the functions of a package, from the files that Go compiles for linux/amd64.
+// A folder holds a package's functions, read from the files that Go compiles for linux/amd64.
 type folder struct {
 	name      string
 	functions []function

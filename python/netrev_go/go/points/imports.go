@@ -7,7 +7,7 @@ import (
 	"strings"
 )
 
-// before124 has, for each of the runtime's packages that our functions use, its place in older releases, or what replaces its call.
+// before124 says how older releases differ in the packages that our functions use: a package has another path, or a call is replaced.
 var before124 = map[string]struct {
 	packages                []string
 	declares, what, instead string

@@ -11,8 +11,8 @@ const (
 	ofDials   = "dials that fail"
 )
 
-// The rules that find the channel, mutex, WaitGroup or condition at which a goroutine waits: gopark is given its
-// address, or its lock's. If one of these rules doesn't fit, all are left out.
+// The rules that find the channel, mutex, WaitGroup or condition on which a goroutine waits: gopark gets the object's
+// address, or the address of its lock. If one of these rules doesn't fit, all are left out.
 var objects = []rule{
 	ordered(channels, "chansend",
 		one(replace, "gopark(chanparkcommit, unsafe.Pointer(&c.lock), ...)", "")),
@@ -29,7 +29,7 @@ var objects = []rule{
 		{"1.26 and 1.27", "", []edit{one(beside, "sg.elem.get() != nil", channelIs("waiting.c.get()"))}}}},
 }
 
-// channelIs returns the code that finds the channel at which a goroutine is queued.
+// channelIs returns the code that finds the channel on which a goroutine is queued.
 func channelIs(found string) string {
 	return "func init() { netrevChannelOf = func(waiting *sudog) *hchan { return " + found + " } }"
 }

@@ -133,7 +133,7 @@ func late(end, _ *net.TCPConn) {
 	end.SetDeadline(time.Time{})
 }
 
-// queue has three readers at one lock, one of which gets bytes; the others are woken by the close.
+// queue starts three readers of one connection, which need the same lock. One gets bytes; the close wakes the others.
 func queue(end, other *net.TCPConn) {
 	var all sync.WaitGroup
 	for i := 0; i < 3; i++ {

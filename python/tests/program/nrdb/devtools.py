@@ -21,8 +21,8 @@ from .web_support import Web
 
 Body = dict[str, Any]
 LOADED = "document.getElementById('panel')?.innerText.includes('position')"
-TO, FROM = 3, 4  # the file descriptors over which chromium speaks
-FREE = 10  # above all descriptors that are in use
+TO, FROM = 3, 4  # chromium's file descriptors for messages to it and from it
+FREE = 10  # a number above all descriptors in use
 ENDING = 10  # seconds
 
 

@@ -159,7 +159,7 @@ class Looks(unittest.TestCase):
 
 
 class Shared(unittest.TestCase):
-    """A session that another program moves too."""
+    """A shared session in which another program changes the position too."""
 
     def test_it_is_joined_and_others_are_seen(self):
         with serving(fronts=2) as server, Adapter() as editor:

@@ -1,4 +1,4 @@
-"""`nrdb --dap-port` serves editors at a port, one after the other, and refuses all other connections."""
+"""`nrdb --dap-port` serves editors on a port, one after the other, and refuses all other connections."""
 
 import json
 import os
@@ -155,7 +155,7 @@ class OfOnesOwn(Port):
 
 @pytest.fixture
 def handshakes() -> Iterator[tuple[Handshakes, tuple[str, int]]]:
-    """The handshakes at a port of this process, and the port's address."""
+    """The handshakes on a port of this process, and the port's address."""
     with closing(socket.create_server((LOOPBACK, 0))) as listening:
         yield Handshakes(listening, TOKEN), listening.getsockname()
 

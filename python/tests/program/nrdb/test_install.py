@@ -94,7 +94,7 @@ class Install(unittest.TestCase):
         of = {path.relative_to(lib).parents[1] / f"{path.name.partition('.')[0]}.py" for path in compiled}
         self.assertEqual(of, modules)
         flags = {int.from_bytes(path.read_bytes()[4:8], "little") for path in compiled}
-        self.assertEqual(flags, {0b11})  # (PEP 552: checked by a hash of the source, which is read)
+        self.assertEqual(flags, {0b11})  # (PEP 552: Python reads the source and compares its hash with the .pyc file's)
         times = {path: path.stat().st_mtime_ns for path in compiled}
         self.assertEqual(printed(self.folder / "bin/nrdb", *ASKED), nrdb(*ASKED))
         self.assertEqual({path: path.stat().st_mtime_ns for path in lib.rglob("*.pyc")}, times)

@@ -16,7 +16,7 @@ TEXT, LARGE, EDGE = (
     4.5,
     3.0,
     3.0,
-)  # the least contrasts by WCAG 2.1: of text, of large text, and of the focus indicator
+)  # the minimum contrast ratios of WCAG 2.1 for text, large text and the focus indicator
 PLACES = {"timeline": "real/hijacked.jsonl", "hanging": "real/hung.jsonl"}
 
 # Each visible text: its words, its colour, its background, and its size.

@@ -1,5 +1,5 @@
-"""While nrdb waits for a slow netrev, Ctrl-C is pressed once or twice, or netrev is killed. This happens at every point
-of a conversation with the built program, to the session's netrev and to the scout's."""
+"""While nrdb waits for a slow netrev, Ctrl-C is pressed once or twice, or netrev is killed. The tests do this at each
+point in a conversation with the built program, with the session's netrev and with the one that the scout uses."""
 
 import unittest
 

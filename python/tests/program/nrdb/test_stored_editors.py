@@ -32,8 +32,8 @@ NAMES = (
     "examples/real/hung",
     "python/tests/caused/hub-bad",
 )
-EACH, MOST = 10, 60  # conversations over a recording, and requests in one
-LEFT_OUT = ("attach", "cancel", "pause")  # whose answers depend on the time or on another program
+EACH, MOST = 10, 60  # conversations about each recording, and the greatest number of requests in a conversation
+LEFT_OUT = ("attach", "cancel", "pause")  # the answers to these requests depend on the time or on another program
 FUNCTIONS = ("main.main", "main.serve", "main.(*room).say", "net.Listen", "lock 0", "pollreset", "fire", "nothing")
 SOURCES = ("main.go", "/samples/main.go", "half.go", "hung/main.go")
 EXPRESSIONS = (

@@ -16,7 +16,7 @@ HOSTILE = "</script><img src=x onerror=\"document.title='obeyed'\"><b>\u202e`"
 
 
 def page_of(path: Path, *words: str) -> str:
-    """The text of the page of a recording."""
+    """The text of the timeline page for a recording."""
     with tempfile.TemporaryDirectory() as folder:
         file = Path(folder) / "page.html"
         nrdb(*words, "--timeline", file, path)

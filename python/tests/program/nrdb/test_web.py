@@ -21,7 +21,7 @@ GONE = "netrev has ended: lines aren't answered until it is back"
 
 
 def serving(fronts: int, port: "int | None" = None) -> Server:
-    """A shared session on the lost wake-up, which serves as long as needed."""
+    """A shared session about the recording LOST. It serves until it is stopped."""
     server = Server(LOST, fronts=fronts, connections=0, port=port)
     for front in range(fronts):
         server.call(front).close()
