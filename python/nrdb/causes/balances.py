@@ -123,7 +123,7 @@ def of_function(
 
 
 def called_at(path: Path) -> str:
-    """The line from which a function was called, as `a.go:3`."""
+    """The line from which a function was called, such as `a.go:3`."""
     return path[0].place() if path else ""
 
 

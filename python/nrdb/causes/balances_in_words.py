@@ -12,8 +12,8 @@ MOST_BALANCES = 3  # the most sentences
 
 
 def kept_says(recording: Recording, balances: list[Balance]) -> list[str]:
-    """Sentences about the goroutines whose calls kept what they took. The sentences also name the lines at which these
-    goroutines differ from others that the same `go` statement started."""
+    """Sentences about the goroutines whose calls took values and didn't give them back. The sentences also name the
+    lines at which these goroutines differ from others that the same `go` statement started."""
     kept = [one for one in balances if one.missing > 0]
     if not kept:
         return []

@@ -45,7 +45,8 @@ def is_kept(wait: Waiting) -> bool:
 
 
 def request_of(recording: Recording, wait: Waiting) -> Optional[tuple[Name, Stack]]:
-    """The goroutine of the last request that a connection's goroutine took, and the stack that made it."""
+    """The goroutine that made the last request on a connection, and its stack when it passed the request to the
+    connection's goroutine."""
     lines = recording.lines
     goid = wait.name.number if wait.name.is_goid else lines.goid_of(wait.name.number)
     found = []

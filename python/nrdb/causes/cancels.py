@@ -46,8 +46,8 @@ class Cancel(NamedTuple):
 
 
 def cancel_before(index: Index, step: int) -> Optional[Cancel]:
-    """Why a goroutine made a step: a function that it is in found a channel closed, and the goroutine has used no
-    socket since then."""
+    """Why a goroutine made a step: one of the functions on its stack found a channel closed, and the goroutine has used
+    no socket since."""
     recording = index.recording
     lines, goroutine = recording.lines, recording.step(step).argument("g")
     goid = lines.goid_of(goroutine, step)

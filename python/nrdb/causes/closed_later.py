@@ -18,8 +18,8 @@ DONE = ".Done"
 
 
 def closed_later(recording: Recording, wait: Waiting, stacks: Iterable[tuple[Name, Stack]]) -> Optional[Need]:
-    """The need of a goroutine that waits in a select. The result is None if the goroutine isn't in a select, or if no
-    other goroutine is before a line that would end the select."""
+    """What a goroutine needs while it waits in a select: another goroutine that will later close a case's channel or
+    cancel a case's context. The result is None if the goroutine isn't in a select, or if no such goroutine is found."""
     own = wait.stack.own()
     lines = source_of(recording, own[0].file) if own and own[0].of == OF_THE_PROGRAM else None
     if wait.kind != A_SELECT or not own or not lines:

@@ -1,5 +1,5 @@
 """What should wake a goroutine that waits on a sync.Cond. The module finds, in the program's source, functions that
-change what the loop around the Wait tests and call neither Signal nor Broadcast."""
+change the condition of the loop around the Wait but call neither Signal nor Broadcast."""
 
 import re
 from typing import Iterator, NamedTuple, Optional
@@ -46,7 +46,7 @@ def unsignalled(recording: Recording, wait: Waiting) -> list[str]:
 
 
 def one_alone(recording: Recording, wait: Waiting, waiting: int) -> list[str]:
-    """Sentences about a function that sets what all waiting goroutines test, and wakes only one goroutine."""
+    """Sentences about a function that sets a flag for which several goroutines wait, but wakes only one of them."""
     return [
         f"Perhaps {one.file}:{one.signal} in {one.function} should wake all: Signal wakes only one goroutine, and {waiting} still wait."
         for one in wakings_of(recording, wait)
@@ -106,7 +106,8 @@ def have_waited(recording: Recording, wait: Waiting) -> bool:
 
 
 def wakings_of(recording: Recording, wait: Waiting) -> list[Waking]:
-    """The functions of the waiter's type, or of its package, that change what the loop around the Wait tests."""
+    """The functions in the waiter's file that change a field tested around the Wait. If the waiter is in a method, only
+    the methods of its type count."""
     source = source_at(recording, wait)
     if source is None:
         return []

@@ -16,8 +16,8 @@ MOST = 2
 
 
 def copies_says(recording: Recording, lock: Call) -> str:
-    """Words for the line that copies a struct with its mutex, as `, as a.go:12 copies it`; empty if unknown. A
-    goroutine waits for that mutex in the call `lock`."""
+    """Text that names the lines that copy a struct together with its mutex, for example `, as a.go:12 copies it`; empty
+    if unknown. A goroutine waits for that mutex in the call `lock`."""
     name = LOCK.search(text_at(recording, lock)) if lock.of == OF_THE_PROGRAM else None
     field = place_of_variable(recording, lock, name[1]) if name else None
     places = list(copies_of(recording, lock.file, field.partition(".")[0])) if field else []
@@ -26,7 +26,7 @@ def copies_says(recording: Recording, lock: Call) -> str:
 
 
 def copies_of(recording: Recording, file: str, struct: str) -> Iterator[str]:
-    """The lines of a package that copy a struct to which a pointer of this type points."""
+    """The lines of a package that copy a struct of this type through a pointer."""
     for path, lines in files_of(recording, file):
         for number, text in enumerate(lines, 1):
             found = COPY.search(text.partition("//")[0])

@@ -1,4 +1,5 @@
-"""Bodies of net/http that end before their Content-Length: a Read of the remaining bytes met the end of the stream."""
+"""Bodies of net/http that end before their Content-Length: a Read of the remaining bytes reached the end of the
+stream."""
 
 import re
 from typing import Iterator
@@ -16,7 +17,7 @@ MOST = 2
 
 
 def cut_bodies(index: Index) -> Iterator[Call]:
-    """The Reads that met the end of a stream inside a body whose length was known."""
+    """The Reads that reached the end of the stream inside a body of known length."""
     for call in index.book.calls:
         if call.outcome is Outcome.EOF and call.last and is_of_a_body(index.recording, call):
             yield call

@@ -65,7 +65,8 @@ def dropped_datagram(index: Index, call: Call) -> list[str]:
 
 
 def reader_of(index: Index, call: Call, wrote: Call, position: int) -> Optional[Call]:
-    """The only Read of a datagram of this length at another socket since a Write; None if several Reads qualify."""
+    """The only Read on another datagram socket since a Write; None if several Reads got data, or if the Read and the
+    Write have different lengths."""
     found = [
         one
         for socket, calls in index.by_socket.items()

@@ -1,4 +1,4 @@
-"""Deadlines that lie ahead of waiting calls. A call with such a deadline ends by itself."""
+"""Future deadlines of waiting calls. A call with such a deadline ends by itself."""
 
 from collections import defaultdict
 from functools import lru_cache

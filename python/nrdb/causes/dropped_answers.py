@@ -42,8 +42,8 @@ def is_for_values(wait: Waiting) -> bool:
 
 
 def dropped_answer(index: Index, wait: Waiting, hands: Mapping[int, list[Hand]]) -> Optional[Need]:
-    """The need of a goroutine that waits for an answer, if a goroutine in `hands` (keyed by socket) read the answer and
-    passed it to no other goroutine; None if unknown."""
+    """What a waiting goroutine needs: an answer that a goroutine in `hands` (keyed by socket) read and passed to no
+    other goroutine. None if unknown."""
     sockets = asked_at(index, wait) if hands else set()
     for hand in (hand for socket in sorted(sockets) for hand in hands.get(socket, ())):
         wrote = request_of(index, wait, hand.call.socket)
@@ -54,9 +54,9 @@ def dropped_answer(index: Index, wait: Waiting, hands: Mapping[int, list[Hand]])
 
 
 def hands_of(recording: Recording, wait: Waiting, waiters: Mapping[Name, Waiter]) -> list[Hand]:
-    """The goroutines that wait to read and that pass on what they read. Such a goroutine has put values into channels
-    from which others took them at the waiter's line, or it is in a function in which another goroutine has done so. If
-    no goroutine has put such a value, these are the goroutines in functions with a line that can put one."""
+    """The goroutines that wait to read and that pass on what they read. Each has put a value into a channel, and the
+    waiter's line received from that channel. A goroutine that is in a function which put such a value counts too. If no
+    goroutine has put such a value, these are the goroutines in functions with a line that can put one."""
     readers = {name: waiter for name, waiter in waiters.items() if waiter.call and waiter.call.name == "Read"}
     lines, own = recording.lines, wait.stack.own()
     taken = {

@@ -64,8 +64,8 @@ def names_at(recording: Recording, call: Call) -> list[str]:
 
 
 def is_dropping(recording: Recording, own: Call, name: str, line: Call, lines: Lines) -> bool:
-    """Whether a line is a case of a select with a `default`, in a function of a call, and puts a value into the channel
-    of this name."""
+    """Whether a line is a case of a select with a `default`, and puts a value into the channel that `own` uses under
+    this name. If the name has no dot, the line must be in the same function as `own`."""
     sends = SENDS.match(lines[line.line - 1].partition("//")[0])
     if sends is None or default_of(lines, line.line) is None:
         return False

@@ -27,7 +27,8 @@ class Taken(NamedTuple):
 
 
 def dropped_request(recording: Recording, wait: Waiting, waiters: Mapping[Name, Waiter]) -> Optional[Need]:
-    """The need of a goroutine whose request another goroutine took and didn't answer; None if unknown."""
+    """What a waiting goroutine needs: an answer to a request that another goroutine took but didn't answer. None if
+    unknown."""
     if not wait.objects or any(at.use != FOR_VALUE for at in wait.objects):
         return None
     request = put_before(recording, wait)

@@ -77,7 +77,7 @@ def of_a_handler(recording: Recording, goid: int) -> list[str]:
 
 def kept_by_a_handler(recording: Recording, stack: Stack) -> list[str]:
     """A sentence about the line that keeps the context of an HTTP handler's request. The list is empty if the stack is
-    that of a handler, or unless the package has exactly one such line."""
+    a handler's, or if the package doesn't have exactly one such line."""
     own = stack.own()
     if own is None or any(call.function == SERVE for call in stack.calls):
         return []

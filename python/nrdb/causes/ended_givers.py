@@ -1,5 +1,5 @@
-"""Goroutines that ended without doing what another goroutine waits for on a channel. By the program's source, they ran
-a function with a line that puts a value there or takes one, and ended before that line."""
+"""Goroutines that ended without doing what another goroutine waits for on a channel. According to the program's source,
+each was in a function with a line that puts a value into the channel or takes one, and ended before that line."""
 
 import re
 from typing import Iterator, Optional
@@ -22,8 +22,8 @@ MOST = 50  # the most goroutines to examine
 
 
 def ended_giver(index: Index, wait: Waiting) -> Optional[Need]:
-    """The need of a goroutine that waits for a value or for room, if other goroutines should perhaps have given it but
-    have ended; else None."""
+    """What a waiting goroutine needs: a value, or room for one, that other goroutines perhaps should have provided
+    before they ended. None if no such goroutine is found."""
     own, recording = wait.stack.own(), index.recording
     is_select = wait.kind == A_SELECT
     if not own or own[0].of != OF_THE_PROGRAM or not wait.objects or wait.objects[0].use not in WORDS:
@@ -50,7 +50,8 @@ def givings_of_select(recording: Recording, call: Call) -> list[Giving]:
 
 
 def need_of(index: Index, wait: Waiting, found: list[int], own: Call, number: int) -> Need:
-    """The need of a wait. These goroutines ended before they reached the line that would have ended the wait."""
+    """What a waiting goroutine needs. The goroutines in `found` ended before they reached the line that would have
+    ended the wait."""
     lines, names = index.recording.lines, [name_of_goid(index.recording.lines, goid) for goid in found]
     known = lines.goroutines[found[0]]
     made = f", started at {known.made.place()}," if known.made else ","
@@ -76,8 +77,8 @@ def ended_before(recording: Recording, wait: Waiting, file: str, givings: list[G
 
 
 def upcoming(recording: Recording, goid: int, made: Call, file: str, givings: list[Giving]) -> int:
-    """The line that gives a value or takes one, after the last line that a goroutine passed in a function of its stack
-    or in its first function; 0 if no such line exists."""
+    """The line at which a goroutine would next have given or taken a value; 0 if unknown. The goroutine passed earlier
+    lines of that function, or it started in the function and passed no known line of it."""
     passed = lines_of(recording).of(goid)
     for giving in givings:
         last = max((call.line for call in passed if call.file == file and call.line in giving.within), default=0)

@@ -30,8 +30,8 @@ class EndedHand(NamedTuple):
 
 
 def ended_hand(index: Index, wait: Waiting) -> Optional[Need]:
-    """The need of a goroutine that waits for a value, if all goroutines that put values for others at the same line
-    have ended. The result is None if one of these goroutines hasn't ended, or if no goroutine put values there."""
+    """What a goroutine needs if it waits for a value, and all goroutines that provided values for its line have ended.
+    The result is None if one of these goroutines hasn't ended, or if no goroutine provided values."""
     lines, own = index.recording.lines, wait.stack.own()
     if not own or own[0].of != OF_THE_PROGRAM or len(wait.objects) != 1 or wait.objects[0].use != FOR_VALUE:
         return None
@@ -47,8 +47,7 @@ def ended_hand(index: Index, wait: Waiting) -> Optional[Need]:
 
 @lru_cache(maxsize=256)
 def hands_at(index: Index, line: Call) -> tuple[EndedHand, ...]:
-    """The goroutines that put values into channels from which others took them at a line, in the order of their last
-    values."""
+    """The goroutines that put values into the channels from which a line received, in the order of their last puts."""
     lines, found = index.recording.lines, dict[Name, EndedHand]()
     taken = [
         uses
@@ -85,7 +84,7 @@ def says_of(index: Index, hands: Sequence[EndedHand]) -> list[str]:
 
 
 def failed_last(index: Index, name: Name) -> Optional[OneCall]:
-    """The last Read or Write of a goroutine, if it failed or met the end of the stream."""
+    """The last Read or Write of a goroutine, if it failed or reached the end of the stream."""
     calls = [] if name.is_goid else index.by_goroutine.get(name.number, [])
     moving = [call for call in calls if call.name in ("Read", "Write") and call.last]
     return moving[-1] if moving and (moving[-1].outcome.is_error or moving[-1].outcome in ENDED) else None

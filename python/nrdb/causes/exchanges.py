@@ -132,10 +132,11 @@ def unended(index: Index, wrote: Call, read: Call, now: Call) -> list[str]:
 
 
 def perhaps_why(index: Index, call: Call, now: Call) -> str:
-    """Why a goroutine that looks for the end of a line perhaps reads on. The reason concerns the answer if a path skips
-    the answer or its Flush, or if the function writes through a buffer. If the source isn't available, the reason
-    concerns the answer if an earlier request with the same number of Writes was answered. In all other cases it
-    concerns the request."""
+    """Why a goroutine that looks for the end of a line perhaps reads on: an answer was skipped or is still in a buffer,
+    or the request lacks its end. If a path skips the answer or its Flush, the text begins with the answer, and leaves
+    out the request if an earlier request like it was answered. Otherwise the text has both reasons. It begins with the
+    answer if the function writes through a buffer. If the source isn't available, it does so if an earlier request with
+    the same number of Writes was answered."""
     line = line_reader_of(index, now)
     if not line:
         return ""

@@ -56,7 +56,7 @@ def connected_by(index: Index, goroutine: int) -> Iterator[Call]:
 
 
 def reason_words(failed: FailedDial) -> str:
-    """Why a connect failed, as `ECONNREFUSED, 127.0.0.1:80`; empty if unknown."""
+    """Why a connect failed, such as `ECONNREFUSED, 127.0.0.1:80`; empty if unknown."""
     return ", ".join(word for word in (failed.why, failed.address) if word)
 
 

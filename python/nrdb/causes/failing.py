@@ -121,8 +121,8 @@ def between(index: Index, call: Call) -> str:
 
 
 def under(well: list[Call], late: list[Call], name: str) -> str:
-    """Text about the calls that succeeded or timed out under a deadline before the deadline ended a call; only a full
-    stop if no call did."""
+    """The end of a sentence about a deadline: how many earlier calls succeeded or timed out under it. If none did, the
+    text is only a full stop."""
     did = [f"{counted(len(well), name)} went well under it"] if well else []
     did += [f"{counted(len(late), name)} had timed out by it before"] if late else []
     return f"; {' and '.join(did)}, and nobody has moved it since." if did else "."
@@ -220,7 +220,8 @@ def part_says(index: Index, call: Call, last: Call) -> list[str]:
 
 
 def late_write(index: Index, call: Call, by: Call) -> Optional[Call]:
-    """The last Write to a call's socket by the same goroutine, if the other end was closed before it."""
+    """The last Write on a call's socket before the call, if the call's goroutine made that Write after `by` had closed
+    the other end; else None."""
     wrote = index.last_use(call.socket, call.first, ("Write",))
     return (
         wrote
@@ -230,7 +231,7 @@ def late_write(index: Index, call: Call, by: Call) -> Optional[Call]:
 
 
 def is_late(index: Index, call: Call) -> bool:
-    """Whether a Read met the end of a stream after its goroutine, a client, had sent a request to an end that was
+    """Whether a Read reached the end of a stream after its goroutine, a client, had sent a request to an end that was
     already closed."""
     if call.outcome is not Outcome.EOF or not is_client(index, call.goroutine, call.socket):
         return False

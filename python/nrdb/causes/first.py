@@ -100,8 +100,8 @@ def topic_lines(graph: WaitGraph, topic: Topic, shown: set[int]) -> list[str]:
 
 
 def in_order(graph: WaitGraph, failed: list[Cause], hangs: list[Hang]) -> list[Union[Cause, Hang]]:
-    """The failures and hangs in their order. Failures come first. If the main goroutine hangs for a known reason,
-    failures unrelated to its hang come last, because the program went on after them."""
+    """The failures and hangs in the order in which they are shown. Failures come first. If the main goroutine hangs for
+    a known reason, failures unrelated to its hang come last, because the program went on after them."""
     first = next(iter(hangs), None)
     if first is None or not is_of_main(graph, first):
         return [*failed, *hangs]
@@ -217,8 +217,8 @@ def telling_failures(recording: Recording) -> list[Cause]:
 
 
 def late_reads(index: Index) -> list[Call]:
-    """The Reads that met the end of a stream instead of an answer, because their goroutine had written to an end that
-    was already closed."""
+    """The Reads that reached the end of a stream instead of an answer, because their goroutine had written to an end
+    that was already closed."""
     return [call for call in index.book.calls if call.outcome is Outcome.EOF and call.last and is_late(index, call)]
 
 

@@ -40,8 +40,8 @@ def ways_round_a_flush(recording: Recording, stack: Stack) -> str:
 
 
 def unflushed_line(lines: Lines, within: range, read: int, named: Named) -> int:
-    """The first line after a function's read that writes into a buffer, if the buffer isn't flushed before the next
-    read although other paths of the function flush. The result is 0 if no such line exists."""
+    """The first line after the line `read` that writes into a buffer without a flush before the next read. The result
+    is 0 if no such line exists, or if no path of the function flushes."""
     later = range(read + 1, within.stop)
     habit = any(calls_one_of(code(lines, number), named.flushes) for number in later)
     for number in later if habit else ():

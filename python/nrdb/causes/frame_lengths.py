@@ -83,8 +83,8 @@ def line_of(recording: Recording, call: Call, pattern: "re.Pattern[str]") -> Opt
 
 
 def bodies_of(recording: Recording, wrote: Call) -> set[str]:
-    """The variables that the function of a Write writes, except variables named like a header and slices that the
-    function assembles."""
+    """The variables whose data the function around a Write appends, copies or writes. Variables named like a header and
+    slices that the function assembles are left out."""
     own = recording.lines.of(wrote.first).own()
     lines = source_of(recording, own[0].file) if own and own[0].of == OF_THE_PROGRAM else None
     within = range_of(lines, own[0]) if lines and own else None

@@ -64,7 +64,7 @@ def is_stuck(recording: Recording, at: At) -> bool:
 
 
 def says(recording: Recording, wait: Waiting, at: At) -> list[str]:
-    """The sentences about a given-up wait."""
+    """The sentences about an abandoned wait."""
     room = recording.lines.objects[at.object].room
     what = (
         f"for room in a channel that has {counted(room, 'value')}, as many as it has room for"

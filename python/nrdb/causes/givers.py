@@ -54,6 +54,6 @@ def is_in(stack: Stack, call: Call) -> bool:
 
 
 def has_left(stack: Stack, earlier: Stack) -> bool:
-    """Whether a goroutine has returned from the function of the program that it was in."""
+    """Whether a goroutine has returned from the innermost function of the program on its earlier stack."""
     own = earlier.own()
     return own is not None and all(call.function != own[0].function for call in stack.calls)

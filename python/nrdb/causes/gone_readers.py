@@ -40,7 +40,7 @@ def gone_readers(index: Index, position: int) -> Iterator[GoneReader]:
 
 
 def gone_reader(index: Index, socket: int, position: int) -> Optional[GoneReader]:
-    """The goroutine that read a socket, if the goroutine had ended at a position. The result is None if no such
+    """The only goroutine that read from a socket, if it had ended by a position. The result is None if no such
     goroutine exists or if the socket was closed at this end."""
     other = index.recording.lines.peers.get(socket)
     if other is None:
@@ -57,8 +57,8 @@ def gone_reader(index: Index, socket: int, position: int) -> Optional[GoneReader
 
 
 def ended_behind(index: Index, call: Call, position: int) -> Optional[int]:
-    """The step after which the goroutine of a call had ended at a position; None if the goroutine hadn't ended or if
-    the step is unknown."""
+    """The step after which a call's goroutine ended, if it had ended by a position; None if it hadn't, or if the step
+    is unknown."""
     lines = index.recording.lines
     known = lines.goroutines.get(lines.goid_of(call.goroutine, call.first))
     return known.last if known is not None and 0 <= known.last <= position else None
@@ -66,7 +66,7 @@ def ended_behind(index: Index, call: Call, position: int) -> Optional[int]:
 
 def without_reader(index: Index) -> Iterator[Cause]:
     """Possible causes at the end of the recording: readers that ended before more bytes came, although their last Read
-    neither failed nor met the end of the stream."""
+    neither failed nor reached the end of the stream."""
     for one in gone_readers(index, index.recording.length):
         if not one.wrote or not one.read.moved or one.read.outcome is not Outcome.DONE:
             continue

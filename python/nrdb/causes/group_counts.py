@@ -66,7 +66,7 @@ def places_of(recording: Recording, uses: list[Use]) -> str:
 
 
 def started_by(recording: Recording, count: Count) -> set[int]:
-    """The goroutines that were started after the first Add by goroutines that called Add."""
+    """The goroutines that the callers of Add started after the first Add."""
     adders, begin = {use.goid for use in count.added}, min(use.begin for use in count.added)
     goroutines = recording.lines.goroutines
     return {goid for goid, known in goroutines.items() if known.maker in adders and known.begin >= begin}

@@ -1,5 +1,5 @@
-"""The need of a goroutine that waits on a WaitGroup: the goroutines that may still call Done, found from the source or
-from the function that started them. If goroutines ended without Done, the module finds how they differ from the
+"""The goroutines that may still call Done while another goroutine waits on a WaitGroup. They are found from the source
+or from the function that started them. If goroutines ended without Done, the module finds how they differ from the
 others."""
 
 import re
@@ -51,7 +51,7 @@ class Groups:
         ] = {}  # the members, keyed by the program's calls in which a goroutine waits
 
     def of(self, waiter: Waiter, waiters: Container[Name], does: Callable[[Name], str]) -> Optional[Need]:
-        """The need of a goroutine that waits on a WaitGroup; None if no goroutine may call Done."""
+        """What a goroutine needs while it waits on a WaitGroup; None if no goroutine may call Done."""
         calls = tuple(call for call in waiter.stack.calls if call.of == OF_THE_PROGRAM)
         if calls not in self._members:
             self._members[calls] = [*self._by_source(waiter), *self._started(waiter)]
@@ -124,8 +124,9 @@ class Groups:
         return [count_says(self._recording, count), *ended] if count and ended else []
 
     def _in_order(self, members: list[Member], count: Optional[Count]) -> list[Member]:
-        """The goroutines that may call Done, first those that haven't called it yet. If goroutines that called Add
-        started some of these goroutines afterwards, the result has only those."""
+        """The goroutines that may call Done, first those that haven't called it yet. If callers of Add started some of
+        them after the first Add, the result has only the goroutines started this way. If none was, but all goroutines
+        that called Done were, the result is empty."""
         if count is None:
             return members
         started = started_by(self._recording, count)
@@ -163,9 +164,9 @@ class Groups:
         ]
 
     def _started(self, waiter: Waiter) -> list[Member]:
-        """Goroutines that wait or sleep and were started by a function that the waiter is in, or by the function around
-        it if that function is a literal. If no such goroutine exists, the result has the goroutines that another
-        literal of that function, or a WaitGroup, started."""
+        """Goroutines that wait or sleep, and that a function on the waiter's stack started. For a function literal, the
+        named function around it counts too. If no such goroutine exists, the result has the goroutines that
+        WaitGroup.Go or any literal in these functions started."""
         inside = {call.function for call in waiter.stack.calls if call.of == OF_THE_PROGRAM}
         outer = set(map(outermost, inside))
         made = [(name, stack.made) for name, stack in self._stacks if stack.made]

@@ -33,9 +33,9 @@ VERBS = {
     "reads": "read",
 }
 SEVERAL = {"{by}, which calls": "{by}, which call", "as it ends": "as they end", "what it reads": "what they read"}
-MOST_LINES = 20  # the most lines of a tree
-MOST_BESIDE = 3  # the most sentences about goroutines that wait for a root
-MOST_LOOSE = 4  # the most goroutines to name that may hold mutexes for one another
+MOST_LINES = 20  # the maximum number of lines in a tree
+MOST_BESIDE = 3  # the maximum number of sentences about goroutines that wait for a root
+MOST_LOOSE = 4  # how many goroutines to name that may hold mutexes for one another
 INDENT = "  "
 
 
@@ -101,8 +101,8 @@ def beside_words(graph: WaitGraph, hang: Hang) -> list[str]:
 
 
 def unread_words(graph: WaitGraph, hang: Hang) -> list[str]:
-    """Sentences about bytes that a goroutine of a hang wrote and no goroutine reads. The list is empty if the hang's
-    root waits for room, because the root's sentence already names those bytes."""
+    """Sentences about bytes that a hanging goroutine wrote and no goroutine reads. The list is empty if the hang's root
+    waits for room, because the root's sentence already names those bytes."""
     call, index, names = hang.root.call, index_of(graph.recording), {waiter.name for waiter in waiters_of(hang)}
     if any(root.call and root.call.name == "Write" for root in hang.roots) or (call and call.is_asking):
         return []
@@ -278,7 +278,7 @@ def how_words(branch: Branch) -> str:
 
 
 def of_sockets(waiters: list[Waiter]) -> str:
-    """The sockets at which calls wait."""
+    """Text that names the sockets on which calls wait."""
     numbers = sorted({waiter.call.socket for waiter in waiters if waiter.call})
     if len(numbers) == 1:
         return f"socket {numbers[0]}"

@@ -80,8 +80,8 @@ def came_since(index: Index, server: Name, socket: int, position: int) -> list[s
 
 
 def flushed_in_vain(recording: Recording, stack: Stack) -> str:
-    """The line that flushes, before the goroutine's line and outside loops, in a function of the stack that has a
-    ResponseWriter; empty if no such line exists."""
+    """The last line with a Flush before the goroutine's line, in a function on the stack that uses a ResponseWriter;
+    empty if no such line exists. A Flush in a loop counts only if the goroutine's line is in the same loop."""
     for call in stack.calls:
         lines = source_of(recording, call.file) if call.of == OF_THE_PROGRAM else None
         within = range_of(lines, call) if lines else None

@@ -117,8 +117,8 @@ class Index:
         return sum(one.moved or 0 for one in calls if one.name == name and 0 < one.last <= until)
 
     def under_its_deadline(self, call: Call) -> list[Call]:
-        """The calls on the same side of the socket that ended after a call's deadline was set and before the call
-        began, in the order of first steps. The function doesn't scan all calls, because a side may have as many
+        """The calls on the same side of the socket that ended after this call's deadline was set and before this call
+        began, in the order of their first steps. The function doesn't scan all calls, because a side may have as many
         timeouts as calls."""
         side = call.socket, call.name
         if side not in self._ended:

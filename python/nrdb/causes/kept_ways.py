@@ -1,5 +1,5 @@
-"""Paths in the program's source on which a call keeps what it took. The call took a value from a pool or a semaphore
-and didn't give it back, or it got a net/http response and doesn't close its body."""
+"""Paths in the program's source on which a call takes a value from a pool or a semaphore and doesn't give it back, or
+gets a net/http response and doesn't close its body."""
 
 import re
 from operator import attrgetter
@@ -128,7 +128,8 @@ def value_of(text: str, form: str) -> Test:
 
 
 def ways_of(recording: Recording, line: Call, text: str, ends: Test, keeps: Test) -> list[Way]:
-    """The paths of a line's function that skip the statements which `ends` finds."""
+    """The paths in the function of `line` that begin at the statement `text` and skip the statements matched by
+    `ends`."""
     lines, within = function_of(recording, line) if line.of == OF_THE_PROGRAM else ((), range(0))
     is_whole = text[-1:] not in ("(", "{", ",")
     begins = is_text(text) if is_whole else has(re.escape(text))

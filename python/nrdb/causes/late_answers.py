@@ -8,7 +8,7 @@ from ..waits import Name, Waiting, waits_of
 from .index import Cause, Index
 from .words import duration, is_of_go, told, waits_words
 
-READS_A_REQUEST = "net/http.(*conn).readRequest"  # sets the deadline for the answer when it returns
+READS_A_REQUEST = "net/http.(*conn).readRequest"  # on return, this function sets the deadline for the answer
 
 
 def is_of_write_timeout(index: Index, call: Call) -> bool:

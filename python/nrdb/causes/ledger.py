@@ -21,7 +21,7 @@ class Given(NamedTuple):
     name: Name
     what: str
     stack: Stack
-    last: int  # the step after which the goroutine last did it
+    last: int  # the step after which the goroutine last did this operation
 
 
 class Ledger:
@@ -53,7 +53,7 @@ class Ledger:
         return {found[0] for wait in self._locked[number] if (found := wait.stack.own())}
 
     def last_holder(self, number: int) -> Optional[Waiting]:
-        """The wait for a mutex that ended last, and whose goroutine then got the mutex; None if no wait has ended."""
+        """The last wait for a mutex to end; its goroutine then got the mutex. None if no wait has ended."""
         ended = [wait for wait in self._locked[number] if wait.last is not None]
         last = max(ended, key=attrgetter("last", "begin"), default=None)
         return last

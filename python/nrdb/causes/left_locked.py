@@ -69,7 +69,7 @@ def returns_locked(recording: Recording, lock: Call) -> list[str]:
 
 
 def functions_of(lines: Lines, near: Call) -> Iterator[Function]:
-    """The functions of the file of a call."""
+    """The functions in a call's file."""
     for number, text in enumerate(lines, 1):
         method, function = METHOD.match(text), FUNCTION.match(text)
         within = range_of(lines, near._replace(function="", line=number)) if method or function else None

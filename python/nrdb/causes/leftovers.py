@@ -114,8 +114,8 @@ def left_open(index: Index) -> Iterator[Cause]:
 
 
 def serves_on(recording: Recording, last: Call) -> list[str]:
-    """A sentence with the place at which the last handler that used a net/http server's socket still waits, although
-    the client has gone."""
+    """A sentence that says where a net/http handler still waits although its client has gone. The handler's goroutine
+    made `last`, the last call on the socket."""
     wait = waits_of(recording).at(Name(last.goroutine), recording.length)
     if wait is None or not has(wait.stack, SERVE) or not wait.stack.own():
         return []
@@ -126,7 +126,7 @@ def serves_on(recording: Recording, last: Call) -> list[str]:
 
 
 def early_ends(index: Index) -> Iterator[Cause]:
-    """Reads of the program that met the end of a stream instead of an answer, because the other end closed."""
+    """The program's Reads that reached the end of a stream instead of an answer, because the other end was closed."""
     for call in index.book.calls:
         other = index.other_end(call.socket)
         if call.outcome is not Outcome.EOF or other is None or is_of_go(index.recording, call):

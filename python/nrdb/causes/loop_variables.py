@@ -60,7 +60,7 @@ def shared_at(lines: Lines, made: Call) -> Iterator[tuple[int, str]]:
 
 @lru_cache(maxsize=64)
 def language_of(folder: str) -> "int | None":
-    """The language version of a folder's module, as 21 for Go 1.21; None if the folder belongs to no module."""
+    """The language version of a folder's module, such as 21 for Go 1.21; None if the folder belongs to no module."""
     for _ in range(MOST_FOLDERS):
         try:
             with open(os.path.join(folder, "go.mod"), encoding="utf-8") as file:

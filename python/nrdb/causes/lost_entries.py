@@ -22,8 +22,8 @@ class Place(NamedTuple):
 
 
 def entry_says(recording: Recording, line: Call) -> list[str]:
-    """Sentences about a goroutine that passes answers on at a line. The sentences name the table in which the goroutine
-    looks up the receiver, and the lines that add entries and remove them."""
+    """Sentences about the line at which a goroutine passes answers to other goroutines. The sentences name the table in
+    which the goroutine looks up the receiver, and the lines that add entries and remove them."""
     lines = source_of(recording, line.file)
     within = range_of(lines, line) if lines else None
     found = [

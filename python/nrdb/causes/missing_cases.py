@@ -98,7 +98,7 @@ def closed_by(recording: Recording, name: Name) -> dict[int, Use]:
 
 
 def lacking_says(recording: Recording, lacking: Lacking) -> str:
-    """The sentence about the lacking case."""
+    """The sentence about the missing case."""
     lines, closed, wait = recording.lines, lacking.closed, lacking.wait
     by = f"{name_of_goid(lines, closed.goid)}, step {closed.last}"
     return (

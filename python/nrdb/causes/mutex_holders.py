@@ -59,12 +59,12 @@ class MutexHolders:
 
     @property
     def are_known(self) -> bool:
-        """Whether the recording has the holders of mutexes at this position. A recording has the holders only for its
+        """Whether the recording says which goroutines hold mutexes at this position. A recording says so only for its
         end."""
         return self._recording.lines.held is not None and self._position == self._recording.length
 
     def need(self, wait: Waiting) -> Need:
-        """The need of a goroutine that waits for a mutex."""
+        """What a goroutine needs while it waits for a mutex."""
         holders = list(self._holders(wait))
         mine = [one for one in holders if one.name == wait.name]
         if mine and not self._is_pending(wait, mine[0]):
@@ -97,13 +97,13 @@ class MutexHolders:
         return not holder.is_reader and not is_in_mutex and any(WRITES in one for one in inside)
 
     def _of_itself(self, wait: Waiting, holder: Holder) -> Need:
-        """The need of a goroutine that has already locked the mutex itself."""
+        """What a waiting goroutine needs if it has already locked the mutex itself."""
         if left := self._left_locked(holder, wait.stack):
             return left
         return Need([f"It {holder.how} itself{holder.locked}: Lock waits for its own goroutine."], is_odd=True)
 
     def _of_holder(self, wait: Waiting, holder: Holder, more: list[Holder]) -> Need:
-        """The need of a goroutine that waits for a mutex which another goroutine holds."""
+        """What a waiting goroutine needs if another goroutine holds the mutex."""
         call, does = holder.call, self._does(holder.name)
         if does.startswith("ended"):
             left = returns_locked(self._recording, call) if call else []
@@ -127,8 +127,8 @@ class MutexHolders:
         return Need([f"{str(holder.name).capitalize()} {holder.how}{holder.locked}{others}{doing}."], is_odd=True)
 
     def _left_locked(self, holder: Holder, now: Stack) -> Optional[Need]:
-        """The need, if the holder's current line shows that the holder has left the function that locked the mutex. On
-        its other paths, that function unlocks the mutex. Else None."""
+        """What a waiting goroutine needs if the holder's stack shows that the holder has left the function that locked
+        the mutex. On other paths, that function unlocks the mutex. Else None."""
         call = holder.call
         if call is None or not now.calls or any(one.function == call.function for one in now.calls):
             return None

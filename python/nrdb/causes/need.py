@@ -1,4 +1,4 @@
-"""The need of a goroutine that waits."""
+"""What a waiting goroutine needs."""
 
 from enum import IntEnum
 from typing import NamedTuple, Optional
@@ -18,14 +18,15 @@ class Certainty(IntEnum):
 
 
 class Need(NamedTuple):
-    """A waiter's need. `says` has sentences about the need. `by` is the goroutine that could end the wait, `how` is a
-    sentence about that goroutine (with `{by}` for its name), and `certainty` is the strength of the evidence. `stopped`
-    concerns a goroutine that could have gone on but is in no call: it is a step of that goroutine's last call. `more`
-    has sentences that are also shown for a deadlock. If `is_plain`, these sentences give no reason, but say what the
-    Read looks for. `is_odd` means that something is wrong here, such as goroutines of one `go` statement that differ in
-    what they did. `gone` is the ended goroutine that did what is needed before, `ended` are the goroutines that ended
-    without doing it, and `others` are further candidates for `by`. `is_kept` means that finished calls have kept what
-    is needed, so no waiter has it. `beside` has sentences to add if `by` itself waits for another goroutine."""
+    """What a waiting goroutine needs. `says` has sentences about this need. `by` is the goroutine that could end the
+    wait, `how` is a sentence about that goroutine (with `{by}` for its name), and `certainty` is the strength of the
+    evidence. `stopped` concerns a goroutine that could have gone on but is in no call: it is a step of that goroutine's
+    last call. `more` has sentences that are also shown for a deadlock. If `is_plain`, these sentences give no reason,
+    but say what the Read looks for. `is_odd` means that something is wrong here, such as goroutines of one `go`
+    statement that differ in what they did. `gone` is an ended goroutine that once did what is needed now, `ended` are
+    goroutines that ended without doing it, and `others` are further candidates for `by`. `is_kept` means that finished
+    calls have kept what is needed, so no waiter has it. `beside` has sentences to add if `by` itself waits for another
+    goroutine."""
 
     says: list[str]
     by: Optional[Name] = None

@@ -33,7 +33,7 @@ DID = {"Write": "wrote to", "Read": "read at"}
 
 
 class Needs:
-    """The needs of the goroutines that wait at a position."""
+    """Finds what each waiting goroutine needs at a position."""
 
     def __init__(self, index: Index, waiters: dict[Name, Waiter], position: int) -> None:
         self._index, self._recording, self._position = index, index.recording, position
@@ -41,13 +41,13 @@ class Needs:
         self._elsewhere = NeedsElsewhere(index, self._waits, waiters, position)
 
     def of(self, waiter: Waiter) -> Need:
-        """The need of a waiter."""
+        """What a waiting goroutine needs."""
         if waiter.call:
             return self.of_call(waiter.call)
         return self._elsewhere.of(waiter, waiter.wait) if waiter.wait else Need([])
 
     def of_call(self, call: Call) -> Need:
-        """The need of a call that waits."""
+        """What a waiting call needs."""
         if call.is_asking:
             return self._of_lock(call)
         index, is_reading = self._index, call.name in READING
@@ -75,7 +75,7 @@ class Needs:
         return need._replace(more=more or ends, beside=tuple(lost), is_plain=bool(ends))
 
     def _of_exchange(self, call: Call, other: int) -> list[str]:
-        """Sentences about the need of a waiting Read. The sentences are derived from the earlier Writes of the Read's
+        """Sentences about what a waiting Read needs. The sentences are derived from the earlier Writes of the Read's
         goroutine, the Reads at the other end, and the counts of bytes."""
         index = self._index
         found = lacking(index, call, other)
@@ -89,7 +89,7 @@ class Needs:
         return found
 
     def _of_lock(self, call: Call) -> Need:
-        """The need of a call that waits for the lock of a socket's side: the call that holds the lock."""
+        """What a call needs while it waits for the lock of a socket's side: the end of the call that holds the lock."""
         holders = [
             one for one in self._index.by_socket[call.socket]
             if one.side == call.side and not one.is_asking and one.first <= self._position and self._is_under_way(one)
@@ -105,7 +105,7 @@ class Needs:
         return not call.last or call.last > self._position
 
     def _of_other_end(self, call: Call, other: int, is_reading: bool) -> Need:
-        """The need of a read for bytes, or of a write for room: the goroutine that last used the other end."""
+        """What a Read or a Write needs: bytes or room, from the goroutine that last used the other end."""
         index, wanted = self._index, "Write" if is_reading else "Read"
         did = index.last_use(other, self._position, (wanted,))
         last = did or index.last_use(other, self._position)
@@ -173,9 +173,9 @@ class Needs:
         return first.name if first else None
 
     def _relay_back(self, last: Call) -> Optional[Name]:
-        """The goroutine that should perhaps write what a Read waits for, if nothing has been written at the other end
-        and the other end's reader passes on what it reads. That goroutine is the other half of a relay: it waits to
-        read from the socket to which that reader writes."""
+        """The goroutine that should perhaps write what a Read waits for, if it is one half of a relay. The other half
+        made `last`, a Read at the Read's other end, where nothing has been written, and writes to a second socket. The
+        goroutine waits to read from that second socket."""
         if last.name != "Read" or Name(last.goroutine) in self._waiters:
             return None
         wrote = {
@@ -217,8 +217,8 @@ class Needs:
         return 0 if is_busy else last.first
 
     def _since_then(self, last: Call) -> list[str]:
-        """A sentence about the goroutine that last used the other end. The sentence names that use, and says what the
-        goroutine does now."""
+        """A sentence about the goroutine that last used the other end. It names the goroutine's last call there, and
+        says what the goroutine does now."""
         recording, now = self._recording, self._index.inside(last.goroutine, self._position)
         if now is last:
             return [f"There {told(recording, last)} is itself under way since step {last.first}."]

@@ -33,7 +33,7 @@ from .words import told, waits_words
 
 
 class NeedsElsewhere:
-    """Finds the needs of all goroutines that, at a given position, wait outside the poller."""
+    """Finds what each goroutine needs while it waits outside the poller at a given position."""
 
     def __init__(self, index: Index, waits: Waits, waiters: dict[Name, Waiter], position: int) -> None:
         self._index, self._recording, self._position = index, index.recording, position
@@ -56,7 +56,7 @@ class NeedsElsewhere:
                 yield wait.name, wait.stack
 
     def of(self, waiter: Waiter, wait: Waiting) -> Need:
-        """The need of a waiter."""
+        """What a waiting goroutine needs."""
         need = self._of(waiter, wait)
         if need.certainty == Certainty.PERHAPS or not (need.by or need.says):
             need = of_own_reader(self._index, wait, self._position) or need
@@ -126,8 +126,8 @@ class NeedsElsewhere:
         return next(readers, None)
 
     def _of_answer(self, wait: Waiting) -> Optional[Need]:
-        """The need of a goroutine that waits for an answer, if another goroutine read the answer and passed it to no
-        other goroutine."""
+        """What a goroutine needs while it waits for an answer. Another goroutine read the answer but didn't pass it on,
+        took the request but didn't answer it, or has ended."""
         if not is_for_values(wait):
             return None
         own = wait.stack.own()
@@ -137,8 +137,8 @@ class NeedsElsewhere:
         return found or dropped_request(self._recording, wait, self._waiters) or ended_hand(self._index, wait)
 
     def _closed_later(self, wait: Waiting) -> Optional[Need]:
-        """The need of a select that another goroutine ends later, as it closes a channel or cancels a context. It is
-        computed once for all selects of a line."""
+        """What a goroutine needs while it waits in a select: another goroutine that will later close a channel or
+        cancel a context. The result is computed once for all selects of a line."""
         key = "later", wait.stack.own()
         if key not in self._later:
             self._later[key] = closed_later(self._recording, wait._replace(name=NOBODY), self._stacks())
@@ -174,14 +174,16 @@ class NeedsElsewhere:
         return self._conditions[key]
 
     def _of_connection(self) -> Need:
-        """The need of a net/http request that waits for a connection: the goroutine that perhaps has the connection."""
+        """What a net/http request needs while it waits for a connection: the goroutine that perhaps has the
+        connection."""
         asking = (name for name, one in self._waiters.items() if one.wait and one.wait.kind == A_RESPONSE)
         by = next(asking, None)
         how = "perhaps {by} has the connection, and waits for the response"
         return Need([], by, how, Certainty.PERHAPS) if by else Need([])
 
     def _of_requests(self, waiter: Waiter) -> Need:
-        """The need of a Shutdown of net/http: its own goroutine serves a request, or another goroutine perhaps does."""
+        """What a Shutdown of net/http needs: the end of a request that its own goroutine serves, or that another
+        goroutine perhaps serves."""
         if has(waiter.stack, SERVE):
             return Need([], more=["It serves a request itself, for whose end Shutdown waits."])
         serving = [
@@ -199,8 +201,8 @@ class NeedsElsewhere:
         return Need(says)
 
     def _of_response(self, wait: Waiting) -> Optional[Need]:
-        """The need of a goroutine that waits for a net/http response: the goroutine that serves the request, if it is
-        in this recording."""
+        """What a goroutine needs while it waits for a net/http response: the goroutine that serves the request, if it
+        is in this recording."""
         socket = socket_of(self._index, wait, self._position)
         server = None if socket is None else server_of(self._index, socket, self._position)
         if socket is None or server is None or self._reads_on(server):

@@ -41,7 +41,7 @@ Rule = Callable[[Recording, Waiting, Iterable[tuple[Name, Stack]]], Optional[Nee
 
 
 class NeedsOfChannels:
-    """The needs of the goroutines that wait on channels. `stacks` has the stacks of all goroutines that wait or
+    """Finds what goroutines need while they wait on channels. `stacks` has the stacks of all goroutines that wait or
     sleep."""
 
     def __init__(
@@ -80,8 +80,8 @@ class NeedsOfChannels:
         return self._once((wait.stack.own(), wait.objects, "besides"), find)
 
     def of_balance(self, wait: Waiting) -> Optional[Need]:
-        """The need of a wait on a channel that is used like a pool. The sentences name calls that kept a value or gave
-        it back twice. `by` is a waiting goroutine that has a value. None if the channel isn't used this way."""
+        """What a goroutine needs from a channel that is used like a pool. The sentences name calls that kept a value or
+        gave it back twice. `by` is a waiting goroutine that has a value. None if the channel isn't used this way."""
         at, wanted = wait.objects[0], GIVES.get(wait.objects[0].use, "")
         balances = self._balances(at.object) if self.is_buffered(at) else []
         if not balances:
@@ -103,7 +103,7 @@ class NeedsOfChannels:
         )
 
     def _of_slots(self, wait: Waiting) -> Optional[Need]:
-        """The need of a wait for a semaphore's slot, if no slot has been given back yet: a goroutine that has one."""
+        """What a goroutine needs if no slot of a semaphore has been given back yet: a goroutine that has one."""
         key = "slots", wait.stack.own(), wait.objects
         need = self._once(
             key, lambda: of_slots(self._recording, wait._replace(name=NOBODY), self._stacks, self._waiters)
@@ -113,8 +113,8 @@ class NeedsOfChannels:
         return need
 
     def _of_nested(self, wait: Waiting) -> Optional[Need]:
-        """The need of a wait on a channel that was filled only once. Another goroutine took a value and, still in the
-        same call, waits for a second value."""
+        """What a goroutine needs while it waits on a channel that was filled only once. Another goroutine took a value
+        and, still in the same call, waits for a second value."""
         at = wait.objects[0]
         found = self._once(("nested", at), lambda: list(islice(self._nested(at), MOST_GIVEN)))
         return next((need for need in found if need.by != wait.name), None)
@@ -149,7 +149,7 @@ class NeedsOfChannels:
         return known is not None and known.room > 0
 
     def _is_holder(self, balance: Balance, wait: Waiting) -> bool:
-        """Whether a goroutine has a value that another goroutine waits for, and waits itself."""
+        """Whether the balance's goroutine has a value and waits, and isn't the goroutine of `wait`."""
         return balance.name in self._waiters and balance.name != wait.name and balance.has_one
 
     def is_new(self, wait: Waiting) -> bool:
@@ -163,7 +163,7 @@ class NeedsOfChannels:
         return self._once((wait.name, wait.objects, "made"), lambda: made_since(self._recording, wait))
 
     def of(self, wait: Waiting) -> Need:
-        """The need of a wait on channels: the last goroutine that did what the waiter waits for."""
+        """What a goroutine needs from channels: the last goroutine that did the awaited operation."""
         is_one = len(wait.objects) == 1
         since = self._made_since(wait)
         given = [one for at in wait.objects for one in self._given(at) if one.name != wait.name and one.last >= since]
@@ -195,7 +195,7 @@ class NeedsOfChannels:
         return self._of_the_past(wait, given[:1], closing)
 
     def _of_ended_takers(self, wait: Waiting) -> Need:
-        """The need of a select that would send on a channel from which only ended goroutines took values."""
+        """What a goroutine in a select needs: room in a channel from which only ended goroutines took values."""
         for at in wait.objects:
             given = self._given(at) if at.use == FOR_ROOM else []
             if given and all(has_ended(self._recording, one.name) for one in given):
@@ -206,7 +206,7 @@ class NeedsOfChannels:
         return ended_giver(index_of(self._recording), wait) or Need([])
 
     def _of_the_past(self, wait: Waiting, given: list[Given], closing: Optional[Need]) -> Need:
-        """The need of a wait if no waiting goroutine did the awaited operation: the last goroutine that did it."""
+        """What a goroutine needs if no waiting goroutine did the awaited operation: the last goroutine that did."""
         for one in given:
             loop = loop_words(self._recording, one.stack) if has_ended(self._recording, one.name) else ""
             did = f"{str(one.name).capitalize()} {GIVES_WORDS[one.what]}{place_in(one.stack)} (step {one.last}{loop})"
@@ -237,7 +237,7 @@ class NeedsOfChannels:
         return self._once(("given", at), find)
 
     def _closing(self, wait: Waiting) -> Optional[Need]:
-        """The need of a goroutine that waits until a channel is closed, from the source."""
+        """What a goroutine needs while it waits for a channel to be closed, found from the source."""
         return self._by_source("closing", unclosed, wait)
 
     def _by_source(self, key: str, rule: Rule, wait: Waiting) -> Optional[Need]:

@@ -47,7 +47,7 @@ def of_once(stack: Stack) -> str:
 
 
 class NeedsOfMutexes:
-    """The needs of the goroutines that wait for mutexes. `stacks` has the stacks of all goroutines that wait or
+    """Finds what goroutines need while they wait for mutexes. `stacks` has the stacks of all goroutines that wait or
     sleep."""
 
     def __init__(
@@ -60,7 +60,7 @@ class NeedsOfMutexes:
         self._locks: dict[tuple[Call, Call, frozenset[Call]], Optional[int]] = {}
 
     def of(self, waiter: Waiter, wait: Waiting) -> Optional[Need]:
-        """The need of a goroutine that waits for a mutex; None if no possible holder is found."""
+        """What a goroutine needs while it waits for a mutex; None if no possible holder is found."""
         found = waiter.stack.own()
         if not found or found[0].of != OF_THE_PROGRAM:
             return None
@@ -84,8 +84,8 @@ class NeedsOfMutexes:
         return Need([f"{held} {first.name}, which {self._does(first.name)}."])
 
     def _crossed(self, waiter: Waiter, wait: Waiting) -> Optional[Need]:
-        """The need, if two goroutines are in the same function, hold a mutex there, and wait for different mutexes.
-        This happens if they call the function with the same mutexes in different orders."""
+        """What a waiting goroutine needs if it and another goroutine are in the same function, hold a mutex there, and
+        wait for different mutexes. This happens if they call the function with the same mutexes in different orders."""
         objects = {at.object for at in wait.objects}
         mine = {call.function for call in waiter.stack.calls if self._held(call)}
         for name, other in self._waiters.items():
@@ -149,9 +149,9 @@ class NeedsOfMutexes:
         return {at.object for at in waiter.wait.objects} if waiter and waiter.wait else set()
 
     def _lock_of(self, call: Call, lock: Call, locks: set[Call]) -> Optional[int]:
-        """The line at which a goroutine in a call locked a mutex that may be the awaited one: goroutines wait for that
-        mutex in the call `lock` or in `locks`. The result is 0 if the line isn't certain, and None if the goroutine
-        holds no such mutex there."""
+        """The line at which a goroutine in the function of `call` locked a mutex that may be the awaited one.
+        Goroutines wait for the awaited mutex in the call `lock` or in `locks`. The result is 0 if the line isn't
+        certain, and None if the goroutine holds no such mutex there."""
         key = call, lock, frozenset(locks)
         if key not in self._locks:
             self._locks[key] = self._look_for_lock(call, lock, locks)

@@ -14,8 +14,8 @@ from .words import place_in, short, told
 
 
 def of_own_reader(index: Index, wait: Waiting, position: int) -> Optional[Need]:
-    """The need of a goroutine that waits in a function that reads a connection. The result is None if other goroutines
-    read from the connection too, or if it has no unread bytes."""
+    """What a waiting goroutine needs if it is itself in the function that reads a connection. The result is None if
+    other goroutines read from the connection too, or if the connection has no unread bytes."""
     inside = {call.function for call in wait.stack.calls if call.of == OF_THE_PROGRAM}
     if wait.name.is_goid:
         return None

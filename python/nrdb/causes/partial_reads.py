@@ -1,5 +1,5 @@
-"""Reads whose count the program perhaps ignores, found in the program's source. A goroutine waits to read, and lines of
-its function read once into a slice of exactly the wanted length, although a Read returns whatever has arrived."""
+"""Reads whose count the program perhaps ignores, found in the program's source. A goroutine waits to read. Lines of its
+function call Read only once for a slice of exactly the wanted length, although a Read returns whatever has arrived."""
 
 import re
 from typing import Optional
@@ -22,8 +22,9 @@ MOST = 2
 
 
 def partial_reads(index: Index, call: Call) -> list[str]:
-    """Sentences about a waiting Read. The sentences name the lines of the Read's functions that have read from the
-    socket before, or that name the length."""
+    """Sentences about a waiting Read. The sentences name lines of the functions on the Read's stack that call Read only
+    once. Such a line has read from the socket before, or it reads into a slice whose length the line names or the
+    program computed."""
     passed = {
         (one.function, one.line)
         for read in index.by_socket[call.socket]

@@ -1,4 +1,4 @@
-"""The goroutine that serves a net/http request for whose response another goroutine waits, if both are in the
+"""The goroutine that serves a net/http request while another goroutine waits for the response, if both are in the
 recording."""
 
 from typing import Optional

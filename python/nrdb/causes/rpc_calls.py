@@ -18,7 +18,7 @@ DONE = "net/rpc.(*Call).done"
 
 
 def dropped_by_rpc(recording: Recording, wait: Waiting) -> list[str]:
-    """Sentences about a goroutine that waits for a call of net/rpc, if its channel was perhaps full."""
+    """Sentences about a goroutine that waits for a net/rpc call whose channel may have been full."""
     if len(wait.objects) != 1 or wait.objects[0].use != FOR_VALUE:
         return []
     at, lines, own = wait.objects[0], recording.lines, wait.stack.own()

@@ -25,8 +25,8 @@ class Giving(NamedTuple):
 
 
 def later_giver(recording: Recording, wait: Waiting, stacks: Iterable[tuple[Name, Stack]]) -> Optional[Need]:
-    """The need, if another goroutine may do the awaited operation later. If no line of the file does the operation, the
-    need says so. The result is None if the source isn't available."""
+    """What a waiting goroutine needs: another goroutine that may do the awaited operation later. If no line of the file
+    does the operation, a sentence says so. The result is None if the source isn't available."""
     own = wait.stack.own()
     if not own or own[0].of != OF_THE_PROGRAM or len(wait.objects) != 1 or wait.objects[0].use not in WORDS:
         return None

@@ -14,8 +14,8 @@ DID = {PUT: "put a value into", TOOK: "took one from", CLOSED: "closed"}
 
 
 def giver_at_siblings(recording: Recording, wait: Waiting, waiters: Container[Name]) -> Optional[Need]:
-    """The need of a wait on a channel on which no goroutine has yet done the awaited operation. `by` is another waiting
-    goroutine. It did the operation on an earlier channel, which was made at the same line."""
+    """What a goroutine needs while it waits on a channel, if no goroutine has yet done the awaited operation there.
+    `by` is another waiting goroutine, which did the operation on an earlier channel from the same line."""
     for use in given_at_siblings(recording, wait):
         name, place = name_of_goid(recording.lines, use.goid), place_in(recording.lines.stacks[use.stack])
         if name != wait.name and name in waiters and place:

@@ -1,5 +1,5 @@
-"""Goroutines of the same `go` statement, if only some of them did something. The module finds the lines of the program
-that only these goroutines, or only the other goroutines, passed."""
+"""Differences between goroutines of the same `go` statement. For some of these goroutines, the module finds the lines
+of the program that only they passed, or that only the other goroutines passed."""
 
 from collections import Counter, defaultdict
 from functools import cached_property, lru_cache

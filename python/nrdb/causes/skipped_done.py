@@ -149,7 +149,7 @@ def rounds_say(recording: Recording, every: list[Rounds], took: list[Use], done:
 
 
 def words_of_ways(recording: Recording, every: list[Rounds], has_left: bool) -> str:
-    """Text for the paths of a loop, and of the function that it calls, that skip Done; empty if no path does."""
+    """Text for the paths that skip Done, in a loop and in the function that the loop calls; empty if no path does."""
     rounds = every[-1]
     lines, inner = source_of(recording, rounds.line.file), source_of(recording, rounds.done.file)
     within = range_of(lines, rounds.line) if lines else None

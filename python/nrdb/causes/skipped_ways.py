@@ -69,8 +69,8 @@ BEFORE, OPEN, DONE = State(), State(is_open=True), State(is_done=True)
 
 class Walk(NamedTuple):
     """A walk through a function from statements that take something to statements that give it back. `keeps` finds
-    statements that pass on what was taken, so that other code must give it back. The walk fills `ways`, and fills
-    `given` with the statements that give back on a path that took something."""
+    statements that pass on what was taken, so that other code must give it back. The walk fills `ways` and `given`. The
+    statements in `given` give back what their path has taken."""
 
     begins: Test
     ends: Test
@@ -169,7 +169,7 @@ class Walk(NamedTuple):
         return joined(behind, one.number), exits
 
     def leave(self, exit: Exit) -> None:
-        """Records a path, if something is taken at its exit and not given back."""
+        """Records a path if it exits without giving back what it took."""
         if exit.state.is_open and exit.state.block:
             self.ways.append(Way(exit.state.block, PASSES))
         elif exit.state.is_open:
@@ -183,7 +183,7 @@ def name_of(text: str) -> str:
 
 
 def is_missing(head: str, now: State) -> bool:
-    """Whether the test in a block's head skips the block only if nothing was taken."""
+    """Whether a path has taken something, and a block runs only if something was taken, as in `if c != nil`."""
     return now.is_open and IS_THERE.match(head) is not None
 
 
@@ -199,8 +199,9 @@ def joined(states: list[State], number: int) -> Optional[State]:
 
 
 def skipped_ways(lines: Lines, within: range, begins: Optional[Test], ends: Test, keeps: Test = nothing) -> list[Way]:
-    """The paths of a function that lead from a statement that `begins` finds (None: from the beginning of the function)
-    past the statements that `ends` finds. The list is empty if no path leads from the former to the latter."""
+    """The paths of a function that skip the statements matched by `ends`. They begin at a statement matched by
+    `begins`, or at the beginning of the function if `begins` is None. The list is empty if no path leads from such a
+    beginning to a statement matched by `ends`."""
     if any(lines[number - 1].count("`") % 2 for number in within):
         return []
     walk = Walk(begins or nothing, ends, keeps, [], [])
@@ -229,7 +230,7 @@ def ways_words(file: str, ways: list[Way]) -> str:
 
 
 def kind_words(does: str, places: list[str]) -> str:
-    """The text for paths of a kind."""
+    """Text for paths that all do the same, such as `a.go:3 and a.go:7 return`."""
     is_past, lines = does == PASSES, " and ".join(places)
     if len(places) == 1:
         return f"the way past {lines} goes on" if is_past else f"{lines} {does}"

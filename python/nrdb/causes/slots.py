@@ -94,7 +94,7 @@ def leaving_line(lines: Lines, call: Call, leavings: list[Giving]) -> int:
 def of_slots(
     recording: Recording, wait: Waiting, stacks: Mapping[Name, Stack], waiters: Mapping[Name, object]
 ) -> Optional[Need]:
-    """The need of a goroutine that waits for a slot; None if no goroutine is known to hold a slot."""
+    """What a goroutine needs while it waits for a slot; None if no goroutine is known to hold a slot."""
     slots = [slot for slot in slot_holders(recording, wait, stacks.items()) if slot.name != wait.name]
     slot = next((slot for slot in slots if slot.name in waiters), None)
     if slot is None:

@@ -35,7 +35,7 @@ def function_of(recording: Recording, call: Call) -> tuple[Lines, range]:
 
 
 def range_of(lines: Lines, call: Call) -> Optional[range]:
-    """The line numbers of the function of a call. For a function literal, only the literal's own lines."""
+    """The line numbers of a call's function. For a function literal, only the literal's own lines."""
     if not 0 < call.line <= len(lines):
         return None
     if LITERAL.search(call.function) and is_literal_of_one_line(lines[call.line - 1]):
@@ -116,7 +116,7 @@ def text_at(recording: Recording, call: Call) -> str:
 
 
 def is_same_variable(one: str, other: str, is_near: bool) -> bool:
-    """Whether two expressions may name the same variable. `r.sessions` and `s.sessions` may, and so may equal
-    expressions in one function and its literals."""
+    """Whether two expressions may name the same variable. They may if they differ only before the first dot, like
+    `r.sessions` and `s.sessions`. Two equal expressions may too, if they are in the same function or its literals."""
     dot, other_dot = one.partition(".")[1:], other.partition(".")[1:]
     return bool(dot[1]) and dot == other_dot or (is_near and one == other)

@@ -71,7 +71,7 @@ def silent_says(recording: Recording, silent: Silent) -> str:
 
 
 def of_timers(recording: Recording, wait: Waiting) -> Optional[Need]:
-    """The need of a goroutine that waits only for a timer that will send nothing more."""
+    """What a goroutine needs while it waits only for a timer that will send nothing more."""
     own = wait.stack.own()
     silent = silent_at(recording, wait.objects[0].object, wait.begin) if len(wait.objects) == 1 else None
     if not silent or not own or own[0].of != OF_THE_PROGRAM:

@@ -57,9 +57,9 @@ def error_rows(recording: Recording, call: Call, row: Row) -> list[Row]:
 
 
 def hangs_table(recording: Recording, position: int) -> Table:
-    """The roots of the waits at a position that don't end in the recording. Each has the reason, the goroutines that
-    wait for the root, and the line to type next. At position 0, where a session opens, the table shows the waits at the
-    end."""
+    """The roots of the waits that are in progress at a position and don't end in the recording. Each has the reason,
+    the goroutines that wait for the root, and the line to type next. At position 0, where a session opens, the table
+    shows the waits at the end."""
     graph = graph_at(recording, position or recording.length)
     at = f"at position {position}" if position else "at the end"
     rest = [] if graph.shown else [f"no call hangs {at}, but for those that wait for connections"]

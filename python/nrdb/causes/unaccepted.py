@@ -24,8 +24,9 @@ class Listener(NamedTuple):
 
 
 def unaccepted(index: Index, call: Call, position: int) -> Optional[Need]:
-    """The need of a call on a connection whose other end isn't known: what the goroutine that should accept the
-    connection does instead. The result is None if the connection may have been accepted."""
+    """What a call needs if its connection's other end isn't known: the goroutine that should accept the connection,
+    with a sentence about what that goroutine does instead. The result is None if the connection may have been
+    accepted."""
     if not is_dialed(index, call.socket):
         return None
     listener = listener_of(index, call.socket, position)

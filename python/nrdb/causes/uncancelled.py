@@ -35,7 +35,7 @@ class Cancelling(NamedTuple):
 
 
 def uncancelled(recording: Recording, wait: Waiting, stacks: Iterable[tuple[Name, Stack]]) -> Optional[Need]:
-    """The need of a goroutine that waits only on a context's Done. The result is None if the goroutine waits on
+    """What a goroutine needs while it waits only on a context's Done. The result is None if the goroutine waits on
     anything else, or if the source doesn't show the context."""
     own, lines = wait.stack.own(), recording.lines
     done = DONE.search(text_at(recording, own[0])) if own and own[0].of == OF_THE_PROGRAM else None
@@ -58,8 +58,8 @@ def uncancelled(recording: Recording, wait: Waiting, stacks: Iterable[tuple[Name
 
 
 def cancels_of(source: Lines, call: Call, context: str) -> list[Cancelling]:
-    """The lines that cancel a context that the file makes. If the context is a variable of a call's function, the
-    result has only the lines of that function."""
+    """The lines that cancel a context, if the same file makes the context. If the context is a variable of a call's
+    function, the result has only the lines of that function."""
     whole = range_of(source, call._replace(function=LITERAL.sub("", call.function))) or range(0)
     head = source[whole.start - 1] if whole else ""
     is_local = "." not in context and re.search(rf"\b{re.escape(context)}\b", head) is None

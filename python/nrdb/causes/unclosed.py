@@ -29,8 +29,8 @@ class Closing(NamedTuple):
 
 
 def unclosed(recording: Recording, wait: Waiting, stacks: Iterable[tuple[Name, Stack]]) -> Optional[Need]:
-    """The need of a goroutine that ranges over a channel, or that waits for a value from a channel into which no value
-    was ever put. The need says what should close the channel. The result is None if the source isn't available."""
+    """What should close a channel. A goroutine ranges over the channel, or it waits for a value although no value was
+    ever put into the channel. The result is None if the source isn't available."""
     own, lines = wait.stack.own(), recording.lines
     if not own or own[0].of != OF_THE_PROGRAM or len(wait.objects) != 1 or wait.objects[0].use != FOR_VALUE:
         return None
@@ -67,8 +67,8 @@ def unclosed(recording: Recording, wait: Waiting, stacks: Iterable[tuple[Name, S
 
 
 def ways_without(source: Lines, closing: Closing, name: str) -> list[Way]:
-    """The paths of a function on which it doesn't close a channel that it makes, although another path closes the
-    channel."""
+    """The paths on which a function makes a channel but doesn't close it, although another path of the function
+    does."""
     field = re.escape(name.rpartition(".")[2])
     makes, closes = rf"\b{field}\b(?::| :?=) *make\(chan\b", rf"\bclose\((?:[\w.]+\.)?{field}\)"
     if not any(re.search(makes, source[number - 1]) for number in closing.within if number < closing.number):
@@ -114,8 +114,8 @@ def closes_in_its_loop(source: Lines, stack: Stack, file: str, closings: list[Cl
 
 
 def ended_in(recording: Recording, file: str, closing: Closing) -> str:
-    """Words for the last line that a goroutine passed in a function before the line that closes a channel; empty if
-    none did."""
+    """Text that names the last line before a close that any goroutine passed in the closing function; empty if no
+    goroutine passed one."""
     passed = {
         call
         for stack in recording.lines.stacks.values()

@@ -20,7 +20,7 @@ class Sent(NamedTuple):
 
 
 def unheard(index: Index, call: Call, position: int) -> Optional[Need]:
-    """The need of a Read on a connected socket, if a datagram came to it from another address; else None."""
+    """What a Read on a connected socket needs, if a datagram came to the socket from another address; else None."""
     own, peer = index.recording.lines.addresses.get(call.socket, ("", ""))
     if not peer:
         return None

@@ -1,6 +1,6 @@
-"""What a failed call had waited for in vain, in addition to the cause of its error. The module covers calls whose
-descriptor was closed, Reads and Writes whose deadline was set while they waited or applied to earlier calls too, and
-Reads that didn't get the end of the stream."""
+"""What a failed call had waited for in vain, in addition to the cause of its error. The module covers three kinds of
+calls: calls whose descriptor was closed; Reads and Writes whose deadline was set while they waited, or also covered
+earlier calls; and Reads that didn't get the end of the stream."""
 
 import re
 from typing import Optional

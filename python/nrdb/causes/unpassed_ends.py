@@ -1,6 +1,6 @@
 """An end of a stream that a relay didn't pass on. The relay is a goroutine that only read from one socket and only
-wrote to another. The relay met the end, had written everything, and never closed the other socket for writing, so the
-reader at that socket's other end hangs."""
+wrote to another. The relay reached the end of its input, had written everything, and never closed the other socket for
+writing, so the reader at that socket's other end hangs."""
 
 from typing import Iterator, NamedTuple, Optional
 
@@ -12,12 +12,12 @@ from .index import MOVING, Index
 from .waiters import is_waiting
 from .words import is_of_go, told
 
-SETTLED = 16  # steps after the end of the stream within which a relay would have closed the other socket
+SETTLED = 16  # a relay would have closed the other socket within this many steps after the end of the stream
 
 
 class UnpassedEnd(NamedTuple):
-    """A relay's Read that met the end of a stream, the relay's last Write, and the Read that hangs at the other end of
-    that Write's socket."""
+    """A relay's Read that reached the end of a stream, the relay's last Write, and the Read that hangs at the other end
+    of that Write's socket."""
 
     met: Call
     wrote: Call

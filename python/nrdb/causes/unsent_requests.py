@@ -61,7 +61,7 @@ def reading_line(recording: Recording, call: LineCall) -> int:
 
 
 def unsent_requests(index: Index) -> Iterator[Unsent]:
-    """The requests of the program that weren't written."""
+    """The program's requests that were never written."""
     lines, cancelled = index.recording.lines, {one.closed.first for one in cancelled_requests(index)}
     for calls in index.by_socket.values():
         for call in calls:

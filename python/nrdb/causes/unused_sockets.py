@@ -37,8 +37,8 @@ def is_used(index: Index, socket: int) -> bool:
 
 
 def untaken_results(index: Index) -> Iterator[Cause]:
-    """Causes for channels that still have values from goroutines whose sockets are open. The function that made the
-    channel has returned."""
+    """Possible causes: channels with values that no goroutine took. The goroutines that put the values there left
+    sockets open, and the function that made the channel has returned."""
     lines, found = index.recording.lines, dict[LineCall, list[Call]]()
     for number, made in lines.made.items():
         own = lines.stacks[made.stack].own()
@@ -62,6 +62,6 @@ def untaken_results(index: Index) -> Iterator[Cause]:
 
 
 def opened_by(index: Index, goid: int) -> list[Call]:
-    """The Opens of a goroutine whose sockets no goroutine has closed."""
+    """A goroutine's Opens of dialed sockets that no goroutine has closed."""
     opened = [one for one in index.by_goid(goid) if one.name == OPEN and is_dialed(index, one.socket)]
     return [one for one in opened if not any(other.name == CLOSE for other in index.by_socket[one.socket])]

@@ -1,6 +1,5 @@
 """The wait-for graph at the end of a recording: each waiting goroutine, the goroutine for which it waits, and the
-roots, for which all of them finally wait. If several goroutines could give what a goroutine needs, the graph has only
-one of these."""
+roots, for which all of them finally wait. If several goroutines could end a wait, the graph has only one of them."""
 
 from collections import defaultdict
 from functools import lru_cache
@@ -21,7 +20,7 @@ from .words import name_of, place_in
 QUIET = ("a select", "a value from a channel", "a condition", "a select without cases")
 
 
-DEEP = 16  # the most levels of a tree
+DEEP = 16  # the maximum number of levels in a tree
 MAIN = 1  # Go's own number of the main goroutine
 
 
@@ -47,8 +46,8 @@ class Hang(NamedTuple):
     """A root of the graph: a goroutine for which others wait, or goroutines that wait for one another. `needs` has
     their needs, `waiting` is the number of goroutines that wait for the root, and `perhaps` is how many of these waits
     are uncertain. `alike` are similar roots, and `beside` are other roots that wait for the same ended goroutine.
-    `is_loose` means that it isn't known which root waits for which. `until` is a call of the roots whose deadline will
-    end the wait."""
+    `is_loose` means that it isn't known which root waits for which. If a root's call has a deadline that will end the
+    wait, `until` is that call."""
 
     roots: list[Waiter]
     needs: list[Need]
@@ -84,7 +83,8 @@ class Hang(NamedTuple):
     @property
     def has_reason(self) -> bool:
         """Whether the reason for the hang is known: the roots hold mutexes, or it is known why they don't get what they
-        need. An unclosed channel isn't a reason, because a goroutine that takes values may have nothing to do."""
+        need. A channel that isn't closed doesn't count, because a goroutine that takes values may just have nothing to
+        do."""
         need, wait = self.needs[0], self.root.wait
         if self.is_deadlock:
             return self.is_of_mutexes or any(one.more and not one.is_plain for one in self.needs)
@@ -108,7 +108,7 @@ class Hang(NamedTuple):
 
 
 class WaitGraph:
-    """The graph at a position: the waiters, their needs, the edges, and the hangs in their order."""
+    """The graph at a position: the waiters, their needs, the edges, and the hangs in order."""
 
     def __init__(self, recording: Recording, position: int) -> None:
         index = index_of(recording)
@@ -174,16 +174,17 @@ class WaitGraph:
         return sorted(found, key=order)
 
     def _cause_of_root(self, waiter: Waiter) -> Hashable:
-        """The key of a root; roots with the same key form one hang. It is the ended goroutine for which the root waits,
-        else the line and what the root waits for."""
+        """The key of a root; roots with the same key form one hang. If the root waits for an ended goroutine, the key
+        is that goroutine. Otherwise it is the line, what the root waits for, and the need's `how`; or the root itself
+        if its stack is unknown."""
         need = self.needs[waiter.name]
         if need.gone:
             return need.gone
         return (kind_of(self.recording, waiter), need.how) if waiter.stack.calls else waiter.name
 
     def _ring(self, ring: list[Name]) -> Hang:
-        """The hang in which goroutines wait for one another. If all of them wait for mutexes, the hang has further
-        goroutines: each may hold a mutex that a member waits for, and waits for a member."""
+        """The hang in which goroutines wait for one another. If all of them wait for mutexes, the hang also includes
+        goroutines that wait for a member and perhaps hold a mutex that a member needs."""
         every = list(ring) if all(is_at_mutex(self.waiters[name]) for name in ring) else []
         for name in every:
             others = [other for other in self.needs[name].others if other not in every and other in self.edges]

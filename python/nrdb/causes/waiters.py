@@ -37,8 +37,8 @@ def is_waiting(index: Index, call: Call) -> bool:
 
 
 def waiters_at(index: Index, position: int) -> dict[Name, Waiter]:
-    """The goroutines that wait at a position and don't go on in the recording. Listeners and sleepers are left out, and
-    goroutines outside the poller that run only Go's own code."""
+    """The goroutines that wait at a position and don't go on in the recording. Listeners, sleepers, and goroutines
+    outside the poller that run only Go's own code are left out."""
     recording, found = index.recording, dict[Name, Waiter]()
     for wait in waits_of(recording).left(position):
         if (
@@ -56,8 +56,8 @@ def waiters_at(index: Index, position: int) -> dict[Name, Waiter]:
 
 
 def waiters_during(index: Index, position: int) -> dict[Name, Waiter]:
-    """The goroutines that wait at a position, whether or not they go on later. Listeners and sleepers are left out, and
-    goroutines outside the poller that run only Go's own code."""
+    """The goroutines that wait at a position, whether or not they go on later. Listeners, sleepers, and goroutines
+    outside the poller that run only Go's own code are left out."""
     recording, found = index.recording, dict[Name, Waiter]()
     for wait in waits_of(recording).all_at(position):
         if is_of_the_program(wait.stack) and not is_of_a_lock(wait.stack) and not wait.is_asleep:

@@ -134,7 +134,7 @@ def since_begin(recording: Recording, opened: int = 0) -> str:
 
 
 def came_of(recording: Recording, call: Call) -> str:
-    """The result of a call, as `put at least 64 bytes` if the recording caps the counts of reads and writes."""
+    """The result of a call, such as `put at least 64 bytes` if the recording caps the counts of reads and writes."""
     most, words = recording.lines.bytes, call.came()
     is_cut = bool(most and call.moved and call.moved >= most)
     return (

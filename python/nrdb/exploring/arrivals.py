@@ -16,7 +16,8 @@ JUST_BEFORE = 0.4
 
 
 class Tries(NamedTuple):
-    """The steps of the tries at one side of a socket, and of the tries that found nothing, in ascending order."""
+    """The steps that tried to read or write on one side of a socket, and those of them that found nothing; both in
+    ascending order."""
 
     all: list[int]
     in_vain: list[int]

@@ -47,7 +47,7 @@ def next_number(operations: list[Operation], place: Place) -> float:
 
 
 class Stream:
-    """The bytes of a write, and the tries that began at each byte."""
+    """The bytes of a write, and for each offset, the data of the tries that began there."""
 
     def __init__(self, operation: Operation) -> None:
         self.tries: dict[int, list[bytes]] = {}
@@ -61,7 +61,7 @@ class Stream:
         self._starts = sorted(self.tries)
 
     def at(self, place: int, turn: int) -> bytes:
-        """The next try that begins at a byte."""
+        """The data of the next try at an offset. `turn` counts the waits since the first try there."""
         if tries := self.tries.get(place):
             return tries[min(turn, len(tries) - 1)]
         following = bisect_right(self._starts, place)

@@ -30,7 +30,7 @@ FAULTS: dict[str, dict[tuple[Any, ...], Why]] = {
 }
 OVER = ("rwunlock", "pollclose")  # steps with which a failed call ends
 
-# for a goroutine and each operation of a call, the operation at which that call begins
+# the key is a goroutine and an operation of a call, and the value is the call's first operation
 Watched = dict[tuple[int, int], int]
 
 

@@ -102,7 +102,7 @@ class Waiting:
 
 
 class Passing:
-    """The player's progress in the orders, and the goroutines and sockets that wait for each goroutine."""
+    """How many orders each goroutine has met so far, and the goroutines and sockets that wait for each goroutine."""
 
     def __init__(self, orders: Optional[list[list[Order]]], causes: list[Cause], places: list[Place]) -> None:
         self.orders, self.causes, self.places = orders, causes, places
@@ -136,8 +136,8 @@ class Passing:
         return None
 
     def has_still_to_cause(self, number: int) -> Optional[int]:
-        """The goroutine that must still make a step to which the network's next action may react; None if no goroutine
-        must."""
+        """The goroutine that must make a step before the network's next action, because the action may be a reaction to
+        that step. None if the action needn't wait for a goroutine."""
         while self.caused < len(self.causes):
             cause = self.causes[self.caused]
             place = self.places[cause.goroutine]

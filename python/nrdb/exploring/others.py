@@ -20,7 +20,7 @@ class Others:
         self.script = script
         self.places: dict[tuple[int, int], int] = defaultdict(int)
         self.told: set[int] = set()  # the events that have come, by their numbers in the recording
-        # for a socket's number and side, whether bytes or a close came that no event has reported yet
+        # for a socket's number and side, whether bytes, space or a close came that no event has reported yet
         self.fresh: dict[tuple[int, str], bool] = {}
         self.closed: set[int] = set()  # the numbers of sockets on which no goroutine can begin to wait any more
         self.tries: dict[int, int] = {}
@@ -60,14 +60,14 @@ class Others:
         return row[at] if at < len(row) else None
 
     def done(self, actor: int, which: int, item: Item) -> None:
-        """Records that an actor has done an action."""
+        """Records that an actor has performed an action."""
         if item.event.kind == "pollevent":
             self.told.add(item.event.number)
         self.places[actor, which] += 1
 
     def see(self, step: Step, board: Board) -> None:
-        """Records, after a step, at which sides bytes, space or a close came that no event has reported yet, and which
-        sockets are closed."""
+        """Updates the records after a step: the sides on which no event has yet reported new bytes, new space or a
+        close, and the closed sockets."""
         kind = step[0]
         if kind in ("arrive", "peerclose"):
             self.fresh[step[1], "r"] = True
@@ -151,7 +151,7 @@ class Others:
         return [("tick", max(due, board.clock)), *[("pop",)] * going, *[("fire", 0)] * going] if going else []
 
     def left(self, board: Board, numbers: Numbers) -> Iterator[Step]:
-        """The steps that remain when no goroutine continues: due timers, and events for bytes and closes that came."""
+        """The steps that remain when no goroutine continues: due timers, and events that report bytes or a close."""
         if board.firings:
             yield "fire", 0
         if board.timers and board.timers[0].when <= board.clock:

@@ -224,7 +224,7 @@ class Player(Standing):
                 self._push(self.now, NETWORK, s)
 
     def _look_again(self) -> None:
-        """Schedules the steps that lacked an object, since a step has made an object."""
+        """Schedules the steps that lacked an object, now that a step has made one."""
         lacking, self.lacking = self.lacking, []
         for actor, which in lacking:
             if actor == GOROUTINE:

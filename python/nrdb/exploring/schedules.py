@@ -12,10 +12,10 @@ from netrev_calls.flow import Sort
 from .runs import Delay
 from .scripts import Operation, Script
 
-NEAR = 4  # the most steps of other actors at the same part that a pause may wait for
-AROUND = 40  # the most steps between delays that are drawn together
+NEAR = 4  # a pause waits for at most this many steps of other actors on the same part
+AROUND = 40  # the maximum number of steps between delays that are drawn together
 IN_VAIN = 2_000  # the search ends after this many consecutive seeds without a new schedule
-LOCK, WAIT, BYTES = "lock", "wait", "bytes"  # the parts of a socket that a step may be about
+LOCK, WAIT, BYTES = "lock", "wait", "bytes"  # the parts of a socket that a step may concern
 OF_THING = {
     LOCK: ("rwlock", "rwunlock", "increfclose", "acquire", "release"),
     WAIT: (
@@ -49,7 +49,7 @@ class Schedule(NamedTuple):
 
 
 class Touched(NamedTuple):
-    """A recorded step at a part of a socket, and the step's goroutine (-1: the network or a timer)."""
+    """A recorded step on a part of a socket, and the step's goroutine (-1: the network or a timer)."""
 
     number: int
     who: int

@@ -23,7 +23,7 @@ class Operation:
     values: tuple[Any, ...] = ()  # the step's arguments other than the object and the side
     steps: list[int] = field(default_factory=list)
     kinds: list[str] = field(default_factory=list)
-    moved: list[int] = field(default_factory=list)  # for each try of a write, the number of bytes that the try moved
+    moved: list[int] = field(default_factory=list)  # for each attempt to write, the number of bytes that it moved
     on_failure: int = 0
     cause: Optional[int] = None  # for a wait without a read or write after it, the step of the event that ended it
     is_brief: bool = False  # whether the readiness for such a wait was already set
@@ -61,8 +61,8 @@ class Cause(NamedTuple):
 @dataclass
 class Script:
     """What all actors do: the operations of each goroutine, the network's actions at each socket, timers and the clock,
-    and the steps of unknown goroutines. Objects have their numbers in the recording, but uses stand in for
-    descriptors."""
+    and the steps of unknown goroutines. Objects have their numbers in the recording, except that each descriptor is
+    replaced by its use."""
 
     limits: Limits
     length: int

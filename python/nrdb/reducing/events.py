@@ -68,7 +68,7 @@ class Events:
         self.kept_for_ever = {hold.step for holds in notes.holds.values() for hold in holds}
 
     def use_at(self, descriptor: int, step: int) -> Optional[int]:
-        """The last use of a descriptor that was opened up to this step."""
+        """A descriptor's latest use that was opened at this step or before; None if none was."""
         found = [at for at, use in enumerate(self.uses) if use.descriptor == descriptor and use.opened <= step]
         return found[-1] if found else None
 

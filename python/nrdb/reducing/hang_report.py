@@ -23,7 +23,7 @@ from ..where import OF_THE_PROGRAM, stack_lines
 from .report import code, shell_words, shown
 from .writing import answered_by
 
-MOST_DRAWN = 2_000  # the most steps of a recording for which a picture is drawn
+MOST_DRAWN = 2_000  # a picture is drawn only for a recording with at most this many steps
 MOST_GOROUTINES, MOST_CALLS = 4, 5
 
 

@@ -13,7 +13,7 @@ from .events import NUMBERED, Event, Events, Timer
 from .units import Needs, Unit
 
 MADE = {"spawn": "g", "sockopen": "s", "pollopen": "d"}
-COPIES = 2_000  # the most copies of the world that are kept for going back
+COPIES = 2_000  # the maximum number of copies of the world that are kept for going back
 DONE = ("done",)
 
 Step = tuple[Any, ...]
@@ -72,7 +72,7 @@ class Player:
         return left
 
     def _common(self, wanted: list[int]) -> int:
-        """The number of events with which both the last replay and this replay begin."""
+        """The number of events at the start of this replay that are the same as in the last replay."""
         at = 0
         for one, other in zip(self.chosen, wanted):
             if one != other:

@@ -21,8 +21,8 @@ from .writing import answered_by, taken, write_recording
 
 
 class Wanted(NamedTuple):
-    """The target of a reduction: the suspect with this number, a cell with a value at a step, a goroutine that hangs
-    after steps that must stay, or only steps that must stay."""
+    """The target of a reduction: the suspect with this number, a cell with a value at a step, a goroutine that hangs,
+    or some steps. `behind` has the steps that must stay, for a hang as well."""
 
     suspect: int
     cell: str
@@ -59,7 +59,8 @@ class Reducing(NamedTuple):
 
 
 def reduced(session: Session, path: str, wanted: Wanted) -> Reduced:
-    """Writes the reduced recording to the path, with its NAME.where; raises Misused if the target doesn't show."""
+    """Writes the reduced recording to the path, with its NAME.where; raises Misused if a replay of the recording
+    doesn't show the target."""
     spare(path, session.path)
     return reduced_of(Reducing(session.text(), session.path, session.program, session.interrupts.check), path, wanted)
 

@@ -1,5 +1,6 @@
 """Removes units as long as a replay without them still shows the target: first all units except those near the target,
-then whole goroutines, sockets and runs of units. At first half of the candidates are removed at a time, then fewer."""
+then whole goroutines, sockets and runs of units. It tries to remove all candidates at once, then half of them at a
+time, then fewer."""
 
 from typing import Iterable, Iterator, Optional
 
@@ -8,12 +9,12 @@ from .playing import Player
 from .targets import Target
 from .units import Sort, Unit
 
-WINDOWS = (64, 512, 4_096)  # the numbers of steps around the target that are kept at first
+WINDOWS = (64, 512, 4_096)  # how many steps around the target are kept at first, smallest window first
 MOST_PLAYED = 600_000  # after this number of replayed steps, the best result so far is used
 
 
 class NotReproduced(Exception):
-    """Raised if the target doesn't show even when the whole recording is replayed."""
+    """Raised if even a replay of the whole recording doesn't show the target."""
 
 
 class Shrinking:
@@ -47,7 +48,7 @@ class Shrinking:
         return self.kept
 
     def _showing(self, candidate: Iterable[int]) -> Optional[set[int]]:
-        """The units that remain after a replay; None if the target no longer shows."""
+        """The units that remain after a replay; None if the replay doesn't show the target."""
         settled = self.player.settle(candidate)
         return settled if self.target.shows(self.player) else None
 
@@ -68,7 +69,7 @@ class Shrinking:
         return has_changed
 
     def _idle_ticks(self) -> list[int]:
-        """The ticks after which no timer starts and no deadline is set before the next tick."""
+        """The ticks that have no effect: before the next tick, no timer starts and no deadline is set."""
         found, is_needed = [], False
         for unit in sorted(self.kept, key=lambda unit: self.units[unit].events[0], reverse=True):
             kinds = {self.events.all[place].kind for place in self.units[unit].events}

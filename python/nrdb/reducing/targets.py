@@ -29,7 +29,7 @@ class Target(ABC):
 
     @abstractmethod
     def shows(self, player: Player) -> bool:
-        """Whether the target shows in the player's state."""
+        """Whether the player's state shows the target."""
 
 
 class SuspectTarget(Target):
@@ -97,7 +97,7 @@ class CellTarget(Target):
 
 
 class HangTarget(CellTarget):
-    """A goroutine that is parked at the end without a deadline, after some steps that must remain."""
+    """A goroutine that is parked without a deadline at the end. Some steps, such as its call's, must remain."""
 
     def __init__(self, events: Events, g: int, steps: Sequence[int], position: int) -> None:
         super().__init__(events, f"gor {g}", "parked *", position)

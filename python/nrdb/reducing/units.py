@@ -1,5 +1,5 @@
-"""Units, which are steps that are removed together: the steps of a goroutine's call, bytes that come or go with their
-event, and a timer that starts with the run of its function. Any other step is a unit by itself."""
+"""Units: steps that are removed together. A unit has the steps of a goroutine's call, or an event and the bytes that
+came or went before it, or a timer's `pop` and the `fire` that runs its function. Any other step is a unit by itself."""
 
 from enum import Enum
 from typing import Iterable, NamedTuple, Optional

@@ -21,8 +21,8 @@ def by_the_notes(notes: Notes) -> Listed:
 
 
 def lost_wake_ups(notes: Notes) -> Iterator[LostWakeUp]:
-    """Goroutines that are parked at a side although the side's last event was taken and no try has been answered EAGAIN
-    since."""
+    """Goroutines that are parked on a side although its last event was taken, and no try has returned EAGAIN since that
+    event."""
     for g, goroutine in notes.goroutines.items():
         if notes.status(g) == PARKED:
             side, use = goroutine.status.side, notes.use_of[goroutine.status.number]

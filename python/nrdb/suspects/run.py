@@ -66,7 +66,7 @@ class Run:
         return self.changes.value(f"gor {g}", position).split()
 
     def statuses(self, place: str) -> list[tuple[int, list[str]]]:
-        """The goroutines whose status names this place at the end, each with the other words of the status."""
+        """The goroutines whose status at the end begins with this place, each with the rest of its status."""
         found = ((g, one.status.split()) for g, one in self.notes.goroutines.items())
         return [(g, words) for g, (at, *words) in found if at == place]
 

@@ -31,10 +31,10 @@ def of_a_holder(run: Run, suspect: Suspect) -> Suspect:
 
 
 def is_in_a_system_call(run: Run, suspect: Suspect) -> bool:
-    """Whether the recording ended while the holder of a lock or a reference was in one of Go's own calls, which gives
-    it up after its system call. The program's lines must show that the holder took it in that call and hasn't left the
-    call since. If no lines are known, the holder's last step must be the `pollreset` that Go's own calls make before
-    they try."""
+    """Whether the recording ended while the holder of a lock or a reference was in one of Go's own calls. Such a call
+    releases the lock or the reference after its system call. The program's lines must show that the holder took it in
+    that call and hasn't left the call since. If no lines are known, the holder's last step must be the `pollreset` that
+    Go's own calls make before they try."""
     g, recording = suspect.goroutine, run.recording
     if g is None:
         return False
@@ -89,7 +89,7 @@ def of_a_goroutine(run: Run, suspect: Suspect) -> Suspect:
 
 
 def hangs(run: Run, g: int, d: int) -> str:
-    """Words for how a goroutine hangs in a wait on a descriptor; empty if it doesn't hang there."""
+    """Text that says how a goroutine hangs on a descriptor; empty if it doesn't hang there."""
     place, *at = run.notes.now[f"gor {g}"].split()
     if place != "parked" or at[0] != str(d):
         return ""
@@ -99,7 +99,7 @@ def hangs(run: Run, g: int, d: int) -> str:
 
 
 def of_a_deadline(run: Run, passed: OfDeadline, suspect: Suspect) -> Suspect:
-    """Weighs a deadline that passed by whether a call ended with a timeout because of it."""
+    """Weighs a suspect about a deadline that passed. It weighs more if a call timed out because of that deadline."""
     due = passed.descriptor, passed.side, passed.setting
     for timeout in run.facts.timeouts.values():
         if (timeout.descriptor, timeout.side, timeout.setting) == due:

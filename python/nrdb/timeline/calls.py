@@ -31,7 +31,7 @@ class Texts(dict[str, int]):
 
 
 def state_of(index: Index, call: Call) -> int:
-    """The state of a call. A call that Go's own code ended didn't fail for the program."""
+    """The state of a call. A call that Go's own code ended doesn't count as failed."""
     if call.last:
         return FAILED if call.outcome.is_error and not is_by_go(index.recording, call) else DONE
     if index.is_listening(call):
@@ -133,7 +133,7 @@ class Telling:
         return self._lines[stack]
 
     def _calls_of(self, stack: int) -> int:
-        """The index of the text with the program's calls of a stack."""
+        """The index of the text that lists the program's calls in a stack."""
         if stack not in self._stacks:
             self._stacks[stack] = self.texts[program_calls(self._recording.lines.stacks[stack])]
         return self._stacks[stack]

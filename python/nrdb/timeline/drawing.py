@@ -20,7 +20,7 @@ from .story import Connections
 # in pixels: the width of the picture, the width of the labels, the height of a row, and the margin at the right
 WIDE, LEFT, HIGH, EDGE = 1000, 190, 20, 24
 LETTER = 6.1  # the approximate width of a letter, in pixels
-LINE = 140  # the most letters of a line of the sentence
+LINE = 140  # the maximum number of letters in a line of the sentence
 CLASS = {DONE: "done", FAILED: "failed", HANGS: "hangs", OPEN: "open", LISTENS: "listens"}
 ENDS = {HANGS: "hangs", OPEN: "hasn't ended", LISTENS: "waits for connections"}
 STYLE = """
@@ -85,7 +85,7 @@ class Drawing:
         self._parts.append(f'<rect class="{kind}" x="{self._x(begin)}" y="{y}" width="{wide}" height="{high}"/>')
 
     def _ruler(self, y: int) -> None:
-        """Draws the ruler, with positions at round distances."""
+        """Draws the ruler, with positions at round intervals."""
         every = next(
             size
             for size in (1, 2, 5, 10, 20, 50, 100, 200, 500, 10**9)

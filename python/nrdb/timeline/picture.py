@@ -20,7 +20,7 @@ from .stories import stories_data
 from .story import MOST_TIMES, Connections, lines_data, marks_of, ticks_of, times_of, wakes_of
 from .waits import requests_data, waits_data
 
-MOST = 20_000  # the most steps of a part
+MOST = 20_000  # the maximum number of steps in a part
 AT_ONCE = 8_000  # the number of steps in the part of a longer recording, unless a part is named
 STAGES = (
     "netrev lists what each step changed",

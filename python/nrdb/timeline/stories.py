@@ -16,7 +16,7 @@ from ..suspects.ranking import all_suspects_of
 from ..suspects.table import shown_of, suspects_table
 from .calls import Data
 
-MOST_CAUSES = 6  # the most causes of each kind
+MOST_CAUSES = 6  # the maximum number of causes of each kind
 HANGS, FAILED = "hangs", "failed"
 
 

@@ -105,7 +105,7 @@ def marks_of(listed: list[Listed], recording: Recording, window: Window, runs: R
 
 def ticks_of(changes: RecordedChanges) -> list[list[int]]:
     """The steps at which the clock advanced, each with its time. If the clock advanced too often, the result has only
-    the last step, and some steps at regular distances."""
+    the last step, and some steps at regular intervals."""
     ticks = changes.changes_of("clock")
     every = -(-len(ticks) // MOST_TICKS) or 1
     shown = [*ticks[::every], *(ticks[-1:] if (len(ticks) - 1) % every else [])]
@@ -113,8 +113,8 @@ def ticks_of(changes: RecordedChanges) -> list[list[int]]:
 
 
 def times_of(recording: Recording, window: Window, most: int) -> Data:
-    """The recorder's times after the steps of a window; in a long window, only after steps at equal distances. `every`
-    is that distance, counted from the first position. `ns` has the differences between consecutive times. The result is
+    """The recorder's times after the steps of a window; in a long window, only after steps at equal intervals. `every`
+    is that interval, counted from the first position. `ns` has the differences between consecutive times. The result is
     empty if the recorder had no times."""
     times = recording.lines.times
     if not times:

@@ -6,7 +6,7 @@ from ..coming import waiting_for_what_came
 from ..found import Evidence, Suspect, Weight
 from ..run import Run
 
-JUST_NOW = 3  # an event may still follow what came in this many steps before the end
+JUST_NOW = 3  # bytes or a close that came within this many steps of the end may still get their event
 
 
 def rule(run: Run) -> Iterator[Suspect]:
