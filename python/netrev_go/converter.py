@@ -127,7 +127,7 @@ class Converter:
         }  # fmt: skip
 
     def made_of(self) -> dict[int, int]:
-        """The number of steps made for each socket; the key is the number of the socket's opening."""
+        """The number of steps made for each socket, by `Socket.opening`."""
         counts: dict[int, int] = defaultdict(int)
         for (_, socket), before, behind in zip(self.points, chain((0,), self.ended), self.ended):
             counts[socket.opening] += behind - before

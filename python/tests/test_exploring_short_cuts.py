@@ -24,7 +24,7 @@ from tests.test_exploring import EXAMPLES, answered, with_answers
 pytestmark = pytest.mark.long
 REAL = sorted((EXAMPLES / "real").glob("*.jsonl"))
 RACES = sorted((EXAMPLES / "races").glob("*.jsonl"))
-MOST, AT_ONCE = 200, 9  # how many schedules are made; every 9th is run
+MOST, AT_ONCE = 200, 9  # the greatest number of schedules; every ninth is run
 TRAFFIC, LENGTH = (720, 726), 400  # seeds, and the length of their recordings
 
 

@@ -11,7 +11,7 @@ from netrev_machine.steps import apply
 from netrev_words.recording import Answer, Step
 from netrev_words.vocabulary import KINDS, OF_A_GOROUTINE
 
-NOT_THERE = 2  # the number of the reason: the goroutine isn't at that place
+NOT_THERE = 2  # the number of the reason that the goroutine isn't at that place
 BEHIND = {  # the statuses that a goroutine may have after a step, by its answer
     Came.OVER: ("idle", "owing", "gone"),
     Came.FAILS: ("idle",),

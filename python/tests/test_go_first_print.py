@@ -19,7 +19,7 @@ exit 1
 
 
 class FirstPrint(Run):
-    """A program that hung and was ended: a stand-in for netrev checks its recording only after something was printed."""
+    """A run of a program that hung. A stand-in for netrev checks the recording only after netrev-go has printed something."""
 
     def setUp(self) -> None:
         super().setUp()

@@ -244,7 +244,7 @@ class Written(unittest.TestCase):
             3: (MUTEX, lock + 4, where.A_WRITE_LOCK), 4: (WRITE_LOCK, lock + 8, where.A_WRITE_LOCK),
             5: (WAIT_GROUP, 908, where.A_WAIT_GROUP), 6: (SEMAPHORE, 1_000, where.A_SEMAPHORE),
         }  # fmt: skip
-        for is_known in (True, False):  # by the reason, as since Go 1.20; and only by the stack
+        for is_known in (True, False):  # found by the reason, as since Go 1.20, or only by the stack
             points = Points()
             for stack, (what, address, _) in wanted.items():
                 points.add(Kind.PARKS, 10 + stack, address, what if is_known else SEMAPHORE, stack=stack)
@@ -302,7 +302,7 @@ class Limits(unittest.TestCase):
         self.assertEqual(read.left_out, [LeftOut(where.A_VALUE, 0, 0, 48)])
 
     def test_a_program_of_a_hundred_thousand_goroutines_has_room(self) -> None:
-        """Each of the goroutines waits at its own channel to the end, and some of them have slept before. One further
+        """Each of the goroutines waits on its own channel until the end, and some of them slept before that. One further
         goroutine has steps."""
         count, sleepers = 100_000, 1_000
         points = list(opened(1))

@@ -283,7 +283,7 @@ def test_the_results_for_which_the_machine_has_an_answer(
     [("a", 0), ("r", 1), ("t", 4), ("ra", 1), ("ar", 1), ("tr", 4), ("rt", 4), ("", 0)],
 )
 def test_the_status_of_recovered_runs(statuses: str, ends: int, monkeypatch: Patch, capsys: Output) -> None:
-    """Each run's recordings are all accepted (a), not all accepted (r), or can't be written (t). In each case its logs are left alike."""
+    """Each run's recordings are all accepted (a), not all accepted (r), or can't be written (t). In each case, --keep leaves the run's logs."""
     left: list[bool] = []
     looked: list[Path] = []
     runs = [Made(folder=Path(kind), command=kind, when=lambda: "today") for kind in statuses]

@@ -142,7 +142,7 @@ class StacksOfCalls(unittest.TestCase):
     """A point within a call needs no stack: its step has the stack with which the call began to use the socket."""
 
     def stacks(self, *points: tuple[Kind, int, int, int]) -> list[int]:
-        """The stacks of the steps for points after the opening of two sockets: each point is a kind, a goroutine, a socket, and a stack."""
+        """The stacks of the steps for these points, which follow the opening of two sockets. A point is a kind, a goroutine, a socket and a stack."""
         made = opened(2)
         for kind, g, socket, stack in points:
             at = made[2 * socket].at if kind != Kind.RESET else made[2 * socket + 1].at

@@ -31,7 +31,7 @@ Inside = tuple[int, int, int]  # side, goroutine and place
 
 
 class Noted:
-    """A log whose first points are lost and which then has notes."""
+    """A log that has lost its first points and begins with notes."""
 
     def __init__(self) -> None:
         self.points: list[Point] = []

@@ -14,7 +14,7 @@ PROGRAM = Path(__file__).resolve().parents[2] / "crates/nr_rev/src/kind.rt"
 OF_KINDS = re.compile(r"^// Kinds of points[^\n]*\nconst \((.*?)^\)", re.MULTILINE | re.DOTALL)
 CONSTANT = re.compile(r"^\tnetrev(\w+?)(?:Kind)? += (\d+)\b", re.MULTILINE)
 A_NUMBER = re.compile(r"netrev(?:Swap|Closed|Point|Poll|PollAlone|Order|Channel)\(\d")
-# points with another name in Go than in Python
+# points whose names in Go and in Python differ
 OTHERWISE = {
     "CheckAgain": Kind.CHECK,
     "EventCame": Kind.EVENT,

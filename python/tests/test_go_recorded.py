@@ -1,6 +1,6 @@
-"""What the recorder logs of go_recorded.go, a program of scenes on one processor, compared with go_recorded.txt: each
+"""Compares the recorder's log of the program go_recorded.go, which runs on one processor, with go_recorded.txt: each
 point of the program's goroutines, the mutexes that are locked at the end, and the notes of open descriptors. The
-recordings of the whole log and of its second half are checked too. It needs the Go 1.27 that netrev_go.fetching
+recordings of the whole log and of its second half are checked too. The test needs the Go 1.27 that netrev_go.fetching
 fetches.
 
     /usr/bin/python3 python tests.test_go_recorded    stores the new text"""

@@ -1,4 +1,4 @@
-"""The folder of the recorder's logs, and the messages if there is no room."""
+"""The folder of the recorder's logs, and the messages if no folder has room for them."""
 
 import os
 import pathlib

@@ -133,13 +133,15 @@ def test_under_nohup_sighup_stays_ignored(folder: Path) -> None:
 
 
 def killed(stand_in: StandIn) -> None:
-    """Makes a run whose netrev-go is killed, and whose program has ended."""
+    """Starts a run, kills its netrev-go, and then lets the run's program end."""
     running = stand_in.start("-o", "x", "run", "serve me")
     stand_in.wait_for("here")
     running.kill()
     running.wait(PATIENCE)
     (stand_in.folder / "end").touch()
-    running.communicate(timeout=PATIENCE)  # the program has its output too
+    running.communicate(
+        timeout=PATIENCE
+    )  # returns when the program has ended too, because the program has the same output
 
 
 def test_a_run_whose_netrev_go_is_killed_is_offered_and_recovered(folder: Path) -> None:

@@ -136,7 +136,7 @@ class Ranning(unittest.TestCase):
 
 class Cutting(unittest.TestCase):
     def kept(self, name: str) -> list[int]:
-        """For each socket of a test, the number of its opening."""
+        """The sockets of a test, numbered in the order in which the log opens them."""
         tests, log = tests_of(LINES), Log(POINTS.points)
         found = owned([point for point in log.points if point.kind != Kind.READY])
         return [socket.opening for socket in sockets_of(tests.by_name[name], log, found, tests.ran)]

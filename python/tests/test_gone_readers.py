@@ -1,5 +1,5 @@
 """A connection's only reader, a goroutine, has ended while bytes still arrive. An io.ReadFull waits for
-the rest of its bytes, and its next Read tells how many it has."""
+the rest of its bytes; its next Read asks for this rest, and so shows how many bytes have come."""
 
 import unittest
 from typing import Any

@@ -15,7 +15,7 @@ from netrev_words.recording import Limits
 from netrev_words.vocabulary import CELLS, KINDS
 
 SEEDS, STEPS = range(60), 150
-MOST_WILD = 0.3  # the fraction of random steps that an author proposes, most of which are refused
+MOST_WILD = 0.3  # the fraction of wild steps; the machine refuses most of these
 
 
 def shown(world: World) -> dict[str, object]:

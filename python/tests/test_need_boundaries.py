@@ -1,4 +1,4 @@
-"""The boundaries of the rules for what goroutines need, and of the texts about them. A table has a row for each side of a boundary, with
+"""Tests the rules that find what a goroutine needs, and their texts, at each boundary. A table has a row for each side of a boundary, with
 made-up calls and waits."""
 
 from types import SimpleNamespace as Made

@@ -142,14 +142,14 @@ class Exchanges(unittest.TestCase):
 
 
 def put(goroutine: int, text: str) -> list[Any]:
-    """A goroutine writes to the socket with its own number."""
+    """Goroutine g writes to socket g."""
     g = goroutine
     return [["rwlock", g, g, "w"], ["pollreset", g, g, "w"], ["syswrite", g, g, text], ["rwunlock", g, g, "w"]]
 
 
 class Connections(unittest.TestCase):
     def waiting(self, recording: Recording) -> Call:
-        """The Read at a connection whose other end isn't known."""
+        """The Read on a connection whose other end isn't known."""
         index = index_of(recording)
         calls = [one.call for one in waiters_at(index, recording.length).values() if one.call]
         (call,) = [call for call in calls if index.other_end(call.socket) is None]

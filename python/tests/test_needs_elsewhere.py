@@ -21,8 +21,8 @@ A_VALUE = "a value from a channel"
 
 
 def waiting(before: int, now: int, steps: Steps = TWO_ENDS) -> Recording:
-    """Two goroutines that wait for values. The first waits at channel `now`; at the same line it had waited at channel `before`, until the
-    second goroutine ended that wait."""
+    """Two goroutines that wait for values. The first waits on channel `now`. At the same line, it had waited on channel `before`, until
+    the second goroutine ended that wait."""
     recording = with_lines(steps)
     lines = recording.lines
     lines.stacks[2], lines.stacks[3] = (
@@ -74,7 +74,7 @@ class EndedBefore(unittest.TestCase):
 class EndedWithAFailure(unittest.TestCase):
     def said(self, ended: int) -> list[str]:
         """The text about the only call of goroutine 1, which is Go's goroutine 7. It was the last goroutine to send a
-        value to the channel at which another goroutine waits."""
+        value to the channel on which another goroutine waits."""
         recording = waiting(3, 4, [*TWO_ENDS, *GETS, *UNLOCKS])
         lines = recording.lines
         lines.uses[4] = [use(GONE, PUT, 3, number=4)]

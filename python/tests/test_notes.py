@@ -56,7 +56,7 @@ class Paused(unittest.TestCase):
 
 
 class Behind:
-    """For each goroutine, after each step: its place, the step at which it came there, and whether it has a
+    """For each goroutine, after each step: its place, the step that brought it there, and whether it has a
     reference."""
 
     def __init__(self) -> None:

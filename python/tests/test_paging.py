@@ -1,5 +1,5 @@
-"""The pager on a screen of a given size. It asks as soon as one more line would scroll the first line after its last
-question off the screen."""
+"""The pager on a screen of a given size. It asks when the lines since its last question fill the screen, before the
+first of them would scroll away."""
 
 import io
 import os

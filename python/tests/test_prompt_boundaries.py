@@ -223,7 +223,7 @@ def test_a_page_shows_only_so_many_steps(first: int, last: int, is_full: bool) -
     ],
 )  # fmt: skip
 def test_the_hits_of_a_mark_in_a_part(listed: Any, hits: list[int]) -> None:
-    """The steps before which a break stops, and those after which a watch stops; of positions 3 to 6."""
+    """Within positions 3 to 6: the steps before which a break stops, and the steps after which a watch stops."""
     recording = recording_of(OPEN + READ + [["tick", 7]])
     runs = cast(Any, {"gor 1": [(0, "absent"), (1, "idle"), (4, "a"), (5, "b"), (7, "c")]})
     (mark,) = marks_of([listed], recording, Window(3, 6), runs)

@@ -76,7 +76,10 @@ def test_a_damaged_file_of_proofs_says_nothing(package: Path) -> None:
 
 
 def test_what_a_package_carries_is_the_sum_and_the_logic(package: Path) -> None:
-    environment = {**os.environ, "PATH": "/usr/bin:/bin"}  # without the toolchain, README names the logic
+    environment = {
+        **os.environ,
+        "PATH": "/usr/bin:/bin",
+    }  # without the toolchain in PATH, proved.sh reads the logic from README.md
     run = subprocess.run(
         ["sh", str(ROOT / "scripts/proved.sh"), str(package)],
         env=environment,

@@ -35,8 +35,8 @@ from tests.test_suspects import COMES, OPEN, PARK, READ, Steps, recording_of
         ("g1 s5 s6", "g1 s5 s6"),
         ("s5 g1", "s5 g1"),  # goroutine 1 came after socket 5, so it checks after socket 5
         ("s5 g1 s6 g2", "s5 g1 s6 g2"),
-        ("g1 s5 g2 look", "g1 g2"),  # the network's check is due at its own time
-        ("g1 look s5", "g1 s5"),  # (no socket waited)
+        ("g1 s5 g2 look", "g1 g2"),  # socket 5 waits for the network's next check, so it isn't in the row
+        ("g1 look s5", "g1 s5"),  # no socket waited for that check, so socket 5 is in the row
         ("g1 s5 look g2 g3", "g1 g2 g3"),
         ("g1 s5 look s6 g2", "g1 s6 g2"),
         ("g1 s5 look before", "g1"),
@@ -368,7 +368,7 @@ def test_the_simplest_schedule_is_kept_with_the_first_place() -> None:
         (READS + [["incref", 0, 0], ["setdeadline", 0, 0, "w", -1], ["decref", 0, 0]], []),  # (the other side's)
         (READS + sets(-1) + sets(-1), [Delay(6, 10)]),
         (sets(5) + READS, []),
-        (sets(5) + READS + READS, [Delay(14, 17)]),  # until the deadline under which an earlier call ended has passed
+        (sets(5) + READS + READS, [Delay(14, 17)]),  # until the deadline that was set for an earlier call has passed
         (sets(5) + READS + sets(5) + READS, []),
         (sets(5) + READS + READS + CLOSES, [Delay(13, 17), Delay(14, 21), Delay(8, 17)]),
         (READS + CLOSES, [Delay(5, 9)]),

@@ -22,11 +22,13 @@ def test_a_netrev_that_was_lent_looks_first_and_is_given_back() -> None:
     lent = opens()
     scout, own = Scout(opens, lent), Scout(opens)
     assert scout.values(7, ["lock 0"]) == own.values(7, ["lock 0"])
-    assert len(opened) == 2  # (`own` started the second one, because it wasn't lent one)
+    assert len(opened) == 2  # (`own` had to start the second netrev)
     scout.drop()
     own.drop()
     assert [one.has_ended for one in opened] == [False, True]
-    assert scout.values(7, ["gor 0"]) and len(opened) == 3  # (the first scout has to start its own)
+    assert (
+        scout.values(7, ["gor 0"]) and len(opened) == 3
+    )  # (`scout` gave the lent netrev back, and had to start the third)
     scout.drop()
     assert [one.has_ended for one in opened] == [False, True, True]
 

@@ -1,5 +1,5 @@
-"""nrdb's facts about references, timers and calls in random recordings equal the facts that follow from the definitions
-over all states of the model, or the calls that were made."""
+"""Tests nrdb's facts about random recordings. Its facts about references and timers must equal those computed, by the
+definitions, from all states of the model. Its calls must be those that the random program made."""
 
 import random
 from typing import Any, Iterator
@@ -88,8 +88,8 @@ def test_holders_are_those_whose_steps_changed_the_count(seed: int) -> None:
 
 
 def timers(steps: Steps) -> dict[int, tuple[object, ...]]:
-    """The timer of a `pop` and of a `fire`: its sides, descriptor and socket, when it was due, the last step that set its side's deadline
-    when it was armed, and whether it is stale."""
+    """For each `pop` and `fire`, the timer: its sides, descriptor and socket, when it was due, the step that set its side's deadline and
+    thus armed it, that step's goroutine, and whether the timer is stale."""
     setters: dict[tuple[int, str], tuple[int, int]] = {}
     armed: dict[int, tuple[object, ...]] = {}
     found: dict[int, tuple[object, ...]] = {}

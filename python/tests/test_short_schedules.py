@@ -1,5 +1,5 @@
-"""A schedule of a small recording that continues from a copy of the recorded run, and reuses its turns and effects, has the same steps as
-one that is run from its beginning."""
+"""For small recordings, runs each schedule in two ways: from its beginning, and from a copy of the recorded run, whose turns and effects it
+reuses. Both runs must have the same steps."""
 
 import pytest
 

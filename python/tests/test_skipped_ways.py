@@ -194,7 +194,7 @@ def test_what_gives_something_back(text: str, pattern: str) -> None:
 
 
 def first_cause(recording: Recording) -> str:
-    """The first cause in a recording whose source exists and isn't newer than the recording."""
+    """The first cause that nrdb shows for a recording, if the program's source exists and isn't newer than the recording."""
     recording.lines.written = float("inf")
     with in_the_folder_of_the_source(SKIPS):
         return "\n".join(first_words(recording, "skips")).split("\ncause:")[0]

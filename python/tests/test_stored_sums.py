@@ -1,5 +1,5 @@
-"""What nrdb says about the recordings in `caused` at many positions, and without parts of
-NAME.where: checksums are stored, because the texts are long.
+"""nrdb's texts about the recordings in `caused`: at many positions, and with parts of NAME.where
+left out. The tests store checksums, because the texts are long.
 
     /usr/bin/python3 python tests.test_stored_sums                     stores new checksums
     /usr/bin/python3 python tests.test_stored_sums NAME VIEW ..        prints the text of a view, to compare it with an earlier text"""

@@ -1,5 +1,5 @@
-"""The rules of `info suspects` at their boundaries: for each limit, exactly what it allows, and one more; and the same steps by another
-goroutine, at another descriptor, with a deadline, or in another use of a descriptor."""
+"""The rules of `info suspects` at their boundaries: for each limit, the greatest allowed value and one more. Other tests make the same steps
+with another goroutine, on another descriptor, with a deadline, or in another use of a descriptor."""
 
 from typing import Any, NamedTuple
 

@@ -484,8 +484,8 @@ ALL: dict[str, Rows] = {
     TIMEOUT: ENDED,
     TAKEN_BACK: BACK,
 }
-# hunts whose rows also have lines of other hunts: a deadline passes before it is removed, and a lost wake-up may leave
-# bytes there
+# The rows of the first hunt may also have lines of the second: a deadline passes before it is taken back, and a
+# goroutine that missed a wake-up sleeps although bytes may have arrived.
 TOGETHER = {(TAKEN_BACK, PASSED_DEADLINE), (LOST_WAKE_UP, ASLEEP), (ASLEEP, LOST_WAKE_UP)}
 ROWS = [pytest.param(hunt, *row, id=f"{hunt}: {name}") for hunt, rows in ALL.items() for name, row in rows.items()]
 
@@ -510,7 +510,7 @@ def random_recording(dice: random.Random) -> Recording:
 
 
 def random_waits(dice: random.Random) -> Recording:
-    """A random recording with few goroutines, which wait at one descriptor while its deadlines are set and pass."""
+    """A random recording with few goroutines, which wait on one descriptor while its deadlines are set and pass."""
     world, steps, answers = World(LIMITS), [*OPEN, ("spawn",), ("spawn",)], []
     for step in steps:
         world, answer = apply(world, step)
@@ -554,7 +554,7 @@ def random_step(dice: random.Random, world: World) -> Step:
 
 @pytest.mark.parametrize("hunt, steps, lines", ROWS)
 def test_row(hunt: str, steps: Steps, lines: list[str]) -> None:
-    """The lines of a row's hunt. Checks that the only other lines are those of hunts that may come with it."""
+    """Checks the lines of a row's hunt. Other hunts must have no lines, except those in TOGETHER with this hunt."""
     end = f"ok {len(steps)} steps"
     assert suspects(text_of(steps), Observer(), [hunt]) == ([*lines, end], True)
     others = [other for other in HUNTS if other != hunt and (hunt, other) not in TOGETHER]

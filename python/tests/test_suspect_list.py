@@ -285,7 +285,7 @@ def test_planted_bugs_have_the_same_suspects(bug: Optional[Bug]) -> None:
 
 
 def test_random_recordings_have_the_same_facts_by_the_notes() -> None:
-    """The rules find the same facts from the notes as from the list, for candidates of searches and with an older netrev."""
+    """The rules find the same facts from nrdb's notes as from netrev's list. They use the notes for a search's candidates and with an older netrev."""
     lost = passed = ended = back = 0
     for seed in range(200):
         dice = random.Random(f"suspects {seed}")
@@ -301,7 +301,7 @@ def test_random_recordings_have_the_same_facts_by_the_notes() -> None:
 
 
 def without_lines(facts: Iterable[Union[LostWakeUp, OfDeadline]]) -> list[str]:
-    """Facts without netrev's lines, in one order."""
+    """Facts without netrev's lines, sorted."""
     return sorted(repr(one._replace(line="")) for one in facts)
 
 

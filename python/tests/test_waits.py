@@ -25,7 +25,7 @@ def waits(*points: Point) -> list[Wait]:
     return waits_of(goroutines_of(points, STEPS, 0), NUMBERS)
 
 
-NUMBERS = {17: 0, 18: 1}  # Go's numbers of the recording's goroutines
+NUMBERS = {17: 0, 18: 1}  # the recording's number for each goroutine, by Go's number
 STEPS = [(0, 17, 4), (3, 18, 5), (3, 18, 6)]
 
 

@@ -3,10 +3,10 @@
 The program is crates/nr_refused, or the program that NR_REFUSED names. It makes the given call, and
 then repeats it, with no request refused. scripts/refused.c, loaded before the C library, refuses requests. In the first
 run, the first request of the first call is refused; in the next run, the second request is refused; and so on until no
-request is left. Then each request is refused together with all later ones. The program compares the results of both calls with the right answer and, after a
-refusal, compares the values that must stay unchanged. A call whose request is refused must either report that or return
-the right result, and must return the right result when it is repeated. A call that gets no memory at all must report
-that, unless it needs none.
+request is left. Then each request is refused together with all later ones. The program compares the results of both
+calls with the right answer and, after a refusal, compares the values that must stay unchanged. A call whose request is
+refused must either report that or return the right result, and must return the right result when it is repeated. A call
+that gets no memory at all must report that, unless it needs none.
 
 Each test prints how many requests its call makes, and how many of them it could do without; `pytest -rP` shows this.
 """

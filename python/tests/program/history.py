@@ -8,9 +8,10 @@ gets the reply that says so.
 
 The search goes from the beginning, and decides at each point which front's line comes next. If a line is a query or got
 a fault, and its reply fits here, the search takes the line at once. This loses no history, because the line changes
-nothing and could come this early in any history. If several commands fit, the search first tries the commands whose replies show where they began (such as the reply to
-`stepi`). The search doesn't leave a position if remaining lines need the position and can't reach it again. It doesn't
-delete a mark that another line still shows. It doesn't enter the same state with the same remaining lines twice.
+nothing and could come this early in any history. If several commands fit, the search first tries the commands whose
+replies show where they began (such as the reply to `stepi`). The search doesn't leave a position if remaining lines need
+the position and can't reach it again. It doesn't delete a mark that another line still shows. It doesn't enter the same
+state with the same remaining lines twice.
 """
 
 from __future__ import annotations
