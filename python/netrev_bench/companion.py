@@ -1,8 +1,8 @@
 """Measures how long nrdb takes to answer, on recordings of the shape `mix`:  python3 python netrev_bench.companion [STEPS ..]
 
 Each line is sent when a session is at three quarters of the recording and has read the changes of all earlier steps;
-only the first `goto` waits for these changes. Each time begins when the line is sent and ends with its output. NETREV
-names the program.
+only the first `goto` waits for these changes. A line's time is measured from sending it to its output. NETREV names
+the program.
 """
 
 import json

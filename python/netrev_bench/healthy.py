@@ -50,7 +50,7 @@ class Healthy(NamedTuple):
 
 
 def drawn(go: Go, suite: Suite, count: int, out: Path) -> Iterator[Healthy]:
-    """This many tests of a package that passed, none of which is too short or too long."""
+    """`count` tests of a package. All of them passed, and none is too short or too long."""
     program = built(go, suite, out)
     folder = source_folder(go, suite)
     tests = tests_of(program, folder, suite) if program else []

@@ -60,7 +60,7 @@ def timed(program: str, recording: Recording) -> dict[str, float]:
     recording.expect_checked(program, checked.stdout)
     words = [program, "run", str(recording.file)]
     with subprocess.Popen(words, stdin=subprocess.PIPE, stdout=subprocess.PIPE, bufsize=0) as process:
-        clock = ~process.pid << 3 | 2  # the system's number for the clock of the process's processor time
+        clock = ~process.pid << 3 | 2  # the system's id for the process's CPU-time clock
         for part in recording.parts:
             began = time.clock_gettime(clock)
             replies = replies_to(process, recording.lines(part))

@@ -7,7 +7,8 @@ world of `nr_machine`, and the same machine in plain Rust without proofs (`basel
 runs. The last columns have the packed world's figures as multiples of the lists' and the baseline's.
 
 NETREV_PACE names the program to use instead of out/nr_pace, which is built from `bench/pace/crate`. NETREV_BASELINE names the program of
-`bench/baseline`; by default it is built, and if that fails, its columns are empty. SHAPES names the shapes to measure. No time is limited.
+`bench/baseline`; by default it is built, and if that fails, its columns are empty. SHAPES names the shapes to measure. The
+program prints the speeds and checks none of them.
 """
 
 import os

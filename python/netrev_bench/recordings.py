@@ -18,8 +18,8 @@ from .programs import write_recording
 AT_A_TIME = 100
 CHECKPOINTS = 64
 RESTARTS = 1_000
-BUFFER = 65_536  # bytes, as netrev-go writes it
-Asked = tuple[str, Optional[str]]  # a line and its reply; None to accept whatever the first program replies
+BUFFER = 65_536  # bytes, as in the headers that netrev-go writes
+Asked = tuple[str, Optional[str]]  # a line and its expected reply; None if the first program's reply is right
 LOOK: Asked = ("print lock 0", None)
 
 
@@ -49,8 +49,8 @@ def restarts(places: list[int], dice: random.Random) -> Iterator[Asked]:
 
 
 class Recording:
-    """A recording in a file, with the lines of each part and the expected replies. The first program's replies to
-    queries are expected from the other programs."""
+    """A recording in a file, with the lines of each part and the expected replies. The other programs must
+    give the same replies to queries as the first program."""
 
     def __init__(self, name: str, file: Path, steps: int) -> None:
         self.name, self.file, self.steps = name, file, steps

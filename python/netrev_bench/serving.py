@@ -37,7 +37,7 @@ def run_piped(recording, lines, replies):
 
 
 def stepped(count):
-    """The last reply to this many steps."""
+    """The last reply to `count` steps."""
     return [f"at {count}"] if count else []
 
 
@@ -47,12 +47,12 @@ def clocks(count):
 
 
 def stepped_with_clocks(count):
-    """The last replies to this many steps with a query after each."""
+    """The last two replies to `count` steps, each followed by a query of the clock."""
     return stepped(count) + clocks(count)
 
 
 def place(caller, count):
-    """Places this many commands, sent at once, and returns the seconds until the last reply."""
+    """Sends `count` commands without waiting for replies, and returns the seconds until the last reply."""
     lines = b"stepi\n" * count
     sender = threading.Thread(target=caller.sendall, args=(lines,))
     began = time.perf_counter()
@@ -78,7 +78,8 @@ def look(caller):
 
 
 def share(recording, fronts, each):
-    """The seconds until this many fronts have placed their commands at the same time, and the longest time until a front has caught up."""
+    """Callers at `fronts` fronts send `each` commands at the same time. Returns the seconds until all have their replies, and the longest
+    time, in seconds, in which a front then catches up."""
     with Server(recording, fronts, journal=1_000_000) as server:
         callers = [server.call(front) for front in range(fronts)]
         expect("the first replies", {f"at 0 of {STEPS} forward\n"}, {look(caller)[1] for caller in callers})

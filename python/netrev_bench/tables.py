@@ -133,7 +133,7 @@ def mean_table(measurements: Sequence[Measurement]) -> str:
 
 
 def cell(figures: Figures, name: str) -> str:
-    """One figure of all programs, as `before → now / baseline`, without programs that weren't measured."""
+    """A figure for each measured program, as `before → now / baseline`."""
     netrevs = " → ".join(written(figures[program][name]) for program in (BEFORE, NOW) if program in figures)
     return f"{netrevs} / {written(figures[BASELINE][name])}" if BASELINE in figures else netrevs
 
@@ -149,7 +149,7 @@ def ratio_cell(figures: Figures, name: str) -> str:
 
 
 def side_by_side(title: str, sorts: dict[str, Cases], has_mean: bool) -> str:
-    """A table with the ratios to the baseline by each kind of figures, such as instructions and times, side by side. It
+    """A table of the ratios to the baseline. Ratios of different kinds, such as instructions and times, are side by side. It
     has a row for each case and, if requested, a row of geometric means."""
     columns = [(name, sort) for name in NAMES for sort, cases in sorts.items() if has_figure(cases, name)]
     rows = [[case, *(ratio_cell(sorts[sort][case], name) for name, sort in columns)] for case in first_of(sorts)]
@@ -170,7 +170,7 @@ def first_of(sorts: dict[str, Cases]) -> Cases:
 
 
 def mean_cell(cases: Cases, name: str) -> str:
-    """The geometric means, over the cases, of the older and the current ratios to the baseline."""
+    """The geometric means of the cases' ratios to the baseline: the earlier program's and the current program's."""
     programs = [program for program in (BEFORE, NOW) if all(program in figures for figures in cases.values())]
     return arrow(
         geometric_mean(quotient(figures, name, program, BASELINE) for figures in cases.values()) for program in programs

@@ -32,8 +32,8 @@ class Sort(Enum):
 
 
 SORTS = {sort.value: sort for sort in Sort}  # by the kind of the first step
-ENDS = {Sort.UNLOCK: (Sort.LOCK,), Sort.GIVE_UP: (Sort.REFER, Sort.CLOSE)}  # each key ends one of these operations
-# the operations in between; they are skipped if an earlier operation failed
+ENDS = {Sort.UNLOCK: (Sort.LOCK,), Sort.GIVE_UP: (Sort.REFER, Sort.CLOSE)}  # for each key, the operations that it ends
+# the operations between the first and the last of a call; they are skipped if an earlier operation failed
 TRIES = (Sort.RESET, Sort.WAIT, Sort.READ, Sort.WRITE)
 
 # the step that a goroutine with this status makes, whatever its operation; a sleeping goroutine makes no step

@@ -34,7 +34,7 @@ from .randomsteps import Author
 from .slow import Slow
 from .views import Judge
 
-# the events at a point, with their relative frequencies, and how many times each event presses Ctrl-C
+# HAPPENS has the events that may happen at a point, with their relative frequencies. PRESSED says how often Ctrl-C is pressed.
 HAPPENS = {
     "ctrl-c": 8,
     "slow ctrl-c": 3,
@@ -81,14 +81,14 @@ def line_of(dice: random.Random, length: int) -> str:
 
 
 class Weather:
-    """The events at the points of a session's communication with netrev."""
+    """Chooses random events, which happen while a session communicates with netrev."""
 
     def __init__(self, dice: random.Random, chance: float) -> None:
         self.dice, self.chance = dice, chance
         self.met: Counter[str] = Counter()
 
     def blow(self, netrev: Slow) -> None:
-        """An event at a point."""
+        """Lets an event happen at this point, or none."""
         if self.dice.random() >= self.chance:
             return
         (name,) = self.dice.choices(list(HAPPENS), list(HAPPENS.values()))

@@ -78,7 +78,7 @@ def value(dice: random.Random, path: str, depth: int = 0) -> Any:
 
 
 def request(dice: random.Random, number: int, path: str) -> dict[str, Any]:
-    """A request, mostly with arguments that belong to it."""
+    """A request. Most of its arguments are those of its command."""
     command = dice.choice(REQUESTS)
     if command in ("disconnect", "terminate") and dice.random() < 0.9:
         command = "continue"

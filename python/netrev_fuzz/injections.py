@@ -18,7 +18,7 @@ from .little_go import Program, Turns
 
 LIMITS = Limits(gor=1500, sock=120, desc=10, buf=64)
 LETTERS = range(ord("a"), ord("z") + 1)
-BOTH, OWN_SIDE, RAW, CANCELS = range(4)  # what a connection does with deadlines; above these numbers, it sets none
+BOTH, OWN_SIDE, RAW, CANCELS = range(4)  # how a connection uses deadlines; with any greater number, it sets none
 
 
 class Bug(Enum):
@@ -90,7 +90,7 @@ class Traffic(Program):
         self.planted.append(Planted(socket, goroutine, descriptor))
 
     def run(self) -> "Traffic":
-        """Runs the program up to its length."""
+        """Runs the program until it has made `length` steps."""
         while len(self.steps) < self.length:
             chance, ready = self.dice.random(), self.ready()
             is_early = len(self.steps) < 0.9 * self.length
@@ -211,7 +211,7 @@ class Traffic(Program):
             self.go(lambda g: self.controller(g, s))
 
     def user(self, s: int, uses: Callable[[int, int, int], Turns], style: int) -> Callable[[int], Turns]:
-        """A goroutine that uses a connection; the connection counts as used until it is done."""
+        """A goroutine that uses a connection. The connection counts as used until the goroutine ends."""
 
         def body(g: int) -> Turns:
             self.busy[s] += 1

@@ -11,7 +11,7 @@ from netrev_machine.steps import apply
 from netrev_words.recording import Answer, Limits
 
 Turns = Generator[None, None, Any]  # a call: it yields after each of its steps, and returns the result of Go's function
-CLOSED, EOF = -1, 0  # a read may return these in place of a count, or a negated code of the poller
+CLOSED, EOF = -1, 0  # in place of a count, a read may return one of these, or a negated code of the poller
 
 
 class Program:

@@ -146,7 +146,7 @@ class Program:
         yield from turns
         called.last = self.runtime.newest[called.goroutine]
 
-    # calls of net.Conn, written after internal/poll/fd_unix.go
+    # calls of net.Conn, modelled on internal/poll/fd_unix.go
 
     def dial(self, g: int) -> Turns:
         runtime, dice = self.runtime, self.dice
@@ -281,7 +281,7 @@ class Program:
     # the network, the poller and the processors
 
     def happens(self) -> None:
-        """Makes an action of the network, the poller or a processor, which no goroutine takes."""
+        """Lets the network, the poller, the clock or a processor act. No goroutine takes part."""
         runtime, dice = self.runtime, self.dice
         what = dice.choices(("clock", "pop", "fire", "event", "network"), (3, 3, 1, 2, 2))[0]
         if what == "clock":
@@ -385,7 +385,8 @@ def wrong_with(program: Program, asked: Asked = lambda _: "") -> str:
 
 
 def wrong_by(seed: str, folder: Path, netrev: str) -> str:
-    """The fault in the recording of a seed's log according to the model and, for some seeds, also to netrev."""
+    """The fault in the recording made from a seed's log; empty if the recording is right. The model checks it. For some seeds, netrev
+    checks it too."""
 
     def asked(recording: Recording) -> str:
         path = folder / "made.jsonl"
@@ -444,7 +445,7 @@ def sockets_of(program: Program, log: Log, recording: Recording) -> dict[int, De
 
 
 def noted(program: Program, point: Point) -> Descriptor:
-    """The socket that a point of a note is about."""
+    """The socket whose state this point notes."""
     return next(fd for fd in program.all if fd.address == point.at and point.number in fd.notes)
 
 

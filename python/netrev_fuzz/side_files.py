@@ -100,8 +100,8 @@ def goroutines_of(dice: random.Random, ends: list[int], calls: int) -> list[Any]
 
 
 def file_of(dice: random.Random, steps: int) -> tuple[bytes, bool]:
-    """The file, which is well formed, has other values in some places, or has damaged bytes; and whether it is well
-    formed."""
+    """A file, and whether it is well formed. If it isn't, it has random values in some places, one strange line, or
+    damaged bytes."""
     lines = lines_of(dice, steps)
     sort = dice.randrange(4)
     for _ in range(dice.choice([1, 2, 5]) if sort == 1 else 0):

@@ -1,4 +1,4 @@
-"""A small runtime, written after internal/poll/fd_mutex.go and runtime/netpoll.go, that logs the recorder's points. It shares no code with
+"""A small runtime that logs the recorder's points, modelled on internal/poll/fd_mutex.go and runtime/netpoll.go. It shares no code with
 the model in Python: whether its log becomes a recording shows whether the two agree. A function that may be interrupted is a generator,
 which yields after each of its points."""
 

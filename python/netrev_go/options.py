@@ -101,7 +101,7 @@ def add_watch(group: argparse._ActionsContainer) -> None:
         "--stuck", metavar="TIME", type=seconds, default=5.0,
         help="make a recording when a call has waited so long, as 5s, 500ms or 2m (5s by default)",
     )  # fmt: skip
-    group.add_argument("--writes", action="store_true", help="don't count calls that read, as those that are idle do")
+    group.add_argument("--writes", action="store_true", help="ignore calls that read: idle goroutines wait in them")
 
 
 def add_tests(group: argparse._ArgumentGroup) -> None:

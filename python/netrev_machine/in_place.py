@@ -30,7 +30,7 @@ Changes = list[Change]  # the changes of one step, in order
 
 
 class Machine:
-    """The state, and the changes of at most this many last steps."""
+    """The state, and the changes of the last `remembers` steps (None: of all steps)."""
 
     __slots__ = (*STATE, "steps", "_changes", "_seats")
 
@@ -43,7 +43,7 @@ class Machine:
         self.free: tuple[int, ...] = ()
         self.timers: tuple[Timer, ...] = ()
         self.firings: tuple[Timer, ...] = ()
-        self.steps: deque[Changes] = deque(maxlen=remembers)  # the changes of the last steps; if None, of all
+        self.steps: deque[Changes] = deque(maxlen=remembers)  # the changes of the last `remembers` steps
         self._changes: Changes = []
         self._seats: dict[tuple[Any, ...], int] = {}  # the goroutine inside the wait of a descriptor and side
 

@@ -35,8 +35,8 @@ def with_word(world: World, d: int, side: str, word: Word) -> World:
 
 
 def unblock(world: World, d: int, side: str, readiness: bool) -> World:
-    """Unblocks the word of a side. If there is readiness, the word becomes ready; the goroutine that the word held
-    continues to the swap."""
+    """Unblocks the word of a side. The word becomes ready if `readiness` is true, else nil, unless it is ready already. If it
+    held a goroutine, the goroutine continues to the swap."""
     word = world.descs[d].words[at(side)]
     if word == "ready":
         return world

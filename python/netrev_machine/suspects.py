@@ -1,5 +1,5 @@
 """The output of `netrev suspects` for a recording, following the definitions in docs/reference/COMMANDS.md word for
-word: each question goes over all steps, with the states before and after each. This takes quadratic time, so it is
+word: each definition is checked against all steps, and the states before and after each step. This takes quadratic time, so it is
 meant for short recordings.
 
     passed deadline  a `fire` that lets the deadline of a side pass, and the `setdeadline` that set the deadline
@@ -135,8 +135,8 @@ def taken_back(replayed: Replayed, n: int) -> Iterator[str]:
 
 
 def woken(replayed: Replayed, until: int, d: int, side: str) -> Optional[int]:
-    """The goroutine that was parked at a side when the side's deadline last passed before a step. None if, since then,
-    the deadline was set, the descriptor was opened, or the goroutine checked."""
+    """The goroutine that was parked at a side when the side's deadline last passed before a step. None if, between the
+    two, the deadline was set, the descriptor was opened, or the goroutine checked."""
     passed = [n for n in replayed.between(0, until) if (d, side) in passings(replayed, n)]
     if (
         not passed
@@ -151,7 +151,7 @@ def woken(replayed: Replayed, until: int, d: int, side: str) -> Optional[int]:
 
 
 def looked(replayed: Replayed, n: int, g: int, d: int, side: str) -> bool:
-    """Whether goroutine g checked a side in step n, or took the side's readiness."""
+    """Whether goroutine g, in step n, checked a side or consumed the side's readiness."""
     if checked(replayed, n) == (g, d, side):
         return True
     return replayed.step(n)[0] in TAKES_READINESS and replayed.step(n)[1] == g and takes(replayed, n, d, side)
@@ -185,7 +185,8 @@ def is_setting(replayed: Replayed, n: int, d: int) -> bool:
 
 
 def lost_wake_ups(replayed: Replayed) -> Iterator[str]:
-    """Each goroutine that is parked when the recording ends although its side is owed a try."""
+    """Each goroutine that is parked when the recording ends although no try was answered `again` after its side's last
+    event."""
     for d, desc in enumerate(replayed.worlds[replayed.end].descs):
         for side in SIDES:
             parked, event = desc.words[at(side)], owed(replayed, d, side)
@@ -196,7 +197,7 @@ def lost_wake_ups(replayed: Replayed) -> Iterator[str]:
 
 
 def owed(replayed: Replayed, d: int, side: str) -> Optional[int]:
-    """The last event of a side. None if, since then, the descriptor was opened or a try at that side was answered
+    """The last event of a side. None if, after the event, the descriptor was opened or a try at that side was answered
     `again`."""
     events = [n for n in range(1, replayed.end + 1) if is_event(replayed, n, d, side)]
     opened = last_opening(replayed, d, replayed.end + 1)
@@ -220,7 +221,7 @@ def last_opening(replayed: Replayed, d: int, until: int) -> int:
 
 
 def last_taking(replayed: Replayed, d: int, side: str, event: int) -> int:
-    """The last step after an event that took the readiness of a side."""
+    """The last step that consumed a side's readiness after the given event."""
     taking = (n for n in replayed.between(event, replayed.end + 1) if replayed.step(n)[0] in TAKES_READINESS)
     return max(n for n in taking if takes(replayed, n, d, side))
 
@@ -231,7 +232,7 @@ def takes(replayed: Replayed, n: int, d: int, side: str) -> bool:
     return before == "ready" and after != "ready"
 
 
-# goroutines that sleep although their side must be answered
+# goroutines that sleep although a check would end their wait or their socket is ready
 
 
 def asleep(replayed: Replayed) -> Iterator[str]:

@@ -1,4 +1,4 @@
-"""The vocabulary and the text forms that all of netrev's Python code shares, written only from the pages.
+"""The vocabulary and the text forms that all of netrev's Python code shares. They follow the pages, and not crates/.
 
     vocabulary, commands             the tables of kinds, arguments, cells, limits and reasons, and of commands
     recording, reading, writing      recordings, read from bytes and written as text

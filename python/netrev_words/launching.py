@@ -13,7 +13,7 @@ FAILED = 3
 
 
 def main() -> int:
-    """Replaces this process by netrev; returns an exit status if netrev is missing."""
+    """Replaces this process with netrev. If netrev is missing or can't be started, returns an exit status."""
     program = netrev_program()
     if program is None:
         print(MISSING, file=sys.stderr)

@@ -329,7 +329,7 @@ class Sentences(Tool):
             (("run", "-overlay=x.json", "main.go"), {}, "remove yours"),
             (("run", "main.go"), {"GOFLAGS": "-overlay=x.json"}, "remove yours"),
             (("run", "main.go"), {"GOARCH": "arm64"}, "records only linux/amd64"),
-            (("run", "main.go"), nowhere, "XDG_CACHE_HOME names another folder"),
+            (("run", "main.go"), nowhere, "set XDG_CACHE_HOME to another folder"),
             (("--points", "5", "run", "main.go"), {}, "--points is from 16384 to 16777216"),
             (("--pid", "1", "convert"), {}, "process 1"),
             (("convert", "nothing.1"), {}, "it can't be read: No such file or directory"),

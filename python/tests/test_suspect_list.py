@@ -285,7 +285,7 @@ def test_planted_bugs_have_the_same_suspects(bug: Optional[Bug]) -> None:
 
 
 def test_random_recordings_have_the_same_facts_by_the_notes() -> None:
-    """The rules find the same facts from nrdb's notes as from netrev's list. They use the notes for a search's candidates and with an older netrev."""
+    """The rules find the same facts from nrdb's notes as from netrev's list. Searches and older netrevs have only the notes."""
     lost = passed = ended = back = 0
     for seed in range(200):
         dice = random.Random(f"suspects {seed}")
