@@ -45,7 +45,7 @@ def deadline_ahead(index: Index, call: Call, position: int) -> Optional[Setting]
 
 
 def until_words(index: Index, call: Call) -> str:
-    """Words for the end of a wait with a deadline: `until the deadline of the Read at a.go:3 passes`."""
+    """Text for the end of a wait with a deadline: `until the deadline of the Read at a.go:3 passes`."""
     place = index.recording.lines.of(call.first).place()
     at = f" at {place}" if place and not place.startswith("in ") else f" {place}".rstrip()
     return f"until the deadline of the {name_of(index.recording, call)}{at} passes"

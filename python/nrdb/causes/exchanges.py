@@ -156,7 +156,7 @@ def perhaps_why(index: Index, call: Call, now: Call) -> str:
 
 
 def skips_an_answer(index: Index, now: Call) -> str:
-    """Words for a path on which a goroutine perhaps reads on without an answer; empty if the source has no such
+    """Text for a path on which a goroutine perhaps reads on without an answer; empty if the source has no such
     path."""
     calls = (one for one in index.by_socket[now.socket] if one.goroutine == now.goroutine and one.name == "Write")
     stacks = {index.recording.lines.of(one.first) for one in calls}

@@ -175,8 +175,8 @@ class Groups:
         return [Member(name, at) for name, at in near or others]
 
     def _how(self, waiter: Waiter, member: Member) -> str:
-        """Words for the line at which a goroutine calls Done. If that line isn't known, the words say that the waiter
-        started the goroutine, or name the line that started it."""
+        """Text for the line at which a goroutine calls Done. If that line isn't known, the text says that the waiter
+        started the goroutine, or names the line that started it."""
         if member.number:
             return f"which calls Done at {member.line.file}:{member.number}{self._when(member)}"
         lines = self._recording.lines

@@ -39,7 +39,7 @@ class Holder(NamedTuple):
 
     @property
     def locked(self) -> str:
-        """Words for the line that locked the mutex: `, locked at a.go:12`; empty if no line of the program locked
+        """Text for the line that locked the mutex: `, locked at a.go:12`; empty if no line of the program locked
         it."""
         call = self.call
         return f", locked at {call.place()}" if call else ""
@@ -153,5 +153,5 @@ class MutexHolders:
 
 
 def locked_words(holder: Holder) -> str:
-    """Words for the goroutine that locked a mutex, and for the line at which it did so."""
+    """Text for the goroutine that locked a mutex, and for the line at which it did so."""
     return f"{str(holder.name).capitalize()} locked it{place_in(holder.stack)} (step {holder.step})"

@@ -173,9 +173,9 @@ class Needs:
         return first.name if first else None
 
     def _relay_back(self, last: Call) -> Optional[Name]:
-        """The goroutine that should perhaps write what a Read waits for, if it is one half of a relay. The other half
-        made `last`, a Read at the Read's other end, where nothing has been written, and writes to a second socket. The
-        goroutine waits to read from that second socket."""
+        """The goroutine that should perhaps write what a Read waits for, if nothing has been written at the other end.
+        The goroutine of `last` reads there and writes to a second socket, so it may be half of a relay. The result is
+        the other half, which waits to read from the second socket."""
         if last.name != "Read" or Name(last.goroutine) in self._waiters:
             return None
         wrote = {

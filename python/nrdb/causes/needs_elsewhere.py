@@ -235,7 +235,7 @@ class NeedsElsewhere:
         return next((by for by in same if by in self._waiters), None)
 
     def _does(self, name: Name, stack: Optional[Stack] = None) -> str:
-        """Words for what a goroutine does now. If the goroutine has ended, the words say so and name its last place,
+        """Text for what a goroutine does now. If the goroutine has ended, the text says so and names its last place,
         unless that place is the known stack. Empty if unknown."""
         if wait := self._waits.at(name, self._position):
             return f"{waits_words(wait)} since step {wait.first}"

@@ -163,7 +163,7 @@ class NeedsOfChannels:
         return self._once((wait.name, wait.objects, "made"), lambda: made_since(self._recording, wait))
 
     def of(self, wait: Waiting) -> Need:
-        """What a goroutine needs from channels: the last goroutine that did the awaited operation."""
+        """What a goroutine needs from its channels: the last goroutine that did the awaited operation."""
         is_one = len(wait.objects) == 1
         since = self._made_since(wait)
         given = [one for at in wait.objects for one in self._given(at) if one.name != wait.name and one.last >= since]

@@ -90,7 +90,7 @@ def odd_ones(recording: Recording, goids: list[int]) -> Optional[tuple[list[int]
 def lines_words(
     recording: Recording, odd: Iterable[int], others: Iterable[int], known: Collection[Call] = frozenset()
 ) -> str:
-    """Words for the lines that only the odd goroutines passed, and for the lines that only the others passed: `; only
+    """Text for the lines that only the odd goroutines passed, and for the lines that only the others passed: `; only
     they passed a.go:3 in ask`. Lines in `known` are left out. The result is empty if no such line exists."""
     passed = lines_of(recording)
     its, theirs = ([passed.of(goid) for goid in some] for some in (odd, others))

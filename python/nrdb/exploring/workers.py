@@ -16,7 +16,8 @@ from .finding import Exploring, Key
 from .schedules import Schedule, schedules
 from .scripts import Script
 
-# one process is used for fewer steps than this in total; each schedule counts as long as the recording
+# several processes are used only if all schedules together have at least this many steps; each schedule is counted
+# as long as the recording
 WORTH_IT = 100_000
 SECONDS = 0.2  # seconds between two messages
 LENGTH = 8  # the number of bytes that encode a message's length

@@ -22,7 +22,7 @@ from .writing import answered_by, taken, write_recording
 
 class Wanted(NamedTuple):
     """The target of a reduction: the suspect with this number, a cell with a value at a step, a goroutine that hangs,
-    or some steps. `behind` has the steps that must stay, for a hang as well."""
+    or only the steps in `behind`. These steps must also stay if a goroutine hangs."""
 
     suspect: int
     cell: str

@@ -97,7 +97,8 @@ class CellTarget(Target):
 
 
 class HangTarget(CellTarget):
-    """A goroutine that is parked without a deadline at the end. Some steps, such as its call's, must remain."""
+    """A goroutine that is parked without a deadline at the end. Some steps, such as the settings of its deadline, must
+    remain too."""
 
     def __init__(self, events: Events, g: int, steps: Sequence[int], position: int) -> None:
         super().__init__(events, f"gor {g}", "parked *", position)

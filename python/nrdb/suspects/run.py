@@ -83,13 +83,13 @@ class Run:
         return wait.goroutine if place in INSIDE and at == [str(use.descriptor), side] else None
 
     def unread(self, s: int) -> str:
-        """Words for a socket's unread bytes at the end, or for its peer's close; empty if the socket has neither."""
+        """Text for a socket's unread bytes at the end, or for its peer's close; empty if the socket has neither."""
         if number := int(self.notes.now[f"in {s}"]):
             return f"{counted(number, 'byte')} unread"
         return f"the peer closed at step {self.notes.peer[s]}" if s in self.notes.peer else ""
 
     def stalled(self, g: int) -> str:
-        """Words for how long a goroutine that could continue has paused, if that is too long compared with earlier
+        """Text for how long a goroutine that could continue has paused, if that is too long compared with earlier
         pauses in its status; else empty."""
         known = self.notes.pauses.get(self.notes.status(g))
         longest = known.longest if known and known.count >= MANY else None
