@@ -14,7 +14,7 @@ INSTALLED = $(shell sed -n 's/^include = \[\(.*\)\]/\1/p' pyproject.toml | tr -d
 .PHONY: ready help look run hunt test lint refused loopback hostile upgrades system fuzz fuzz-around mutants agree companion sizes netrev examples share bench pace real trials \
 	install install-files vsix package deb release try-deb clean
 
-# The program that NETREV names is taken as it is; else the one that is built here, once it is proved.
+# If NETREV names a program, it is used as is. Otherwise netrev is proved and built here.
 ifdef NETREV
 GIVEN := $(abspath $(NETREV))
 ready:
@@ -103,14 +103,14 @@ fuzz-around: ready
 mutants: ready
 	@python3 scripts/mutants.py around $(if $(SEED),--seed $(SEED)) --count $(if $(filter file,$(origin COUNT)),200,$(COUNT)) $(FILES)
 
-# Compares netrev with the same programs over lists, on the examples, bad recordings, the largest sizes, and random cases:
+# Compares netrev with netrev_plain, whose world consists of lists, on the examples, bad recordings, the largest sizes, and random cases:
 # `make agree COUNT=20000 SEED=1`.
 agree: ready
 	@sh scripts/prove.sh netrev_plain
 	@sh scripts/pytest.sh --beside python/tests/program/agree.py --random $(COUNT) --seed $(or $(SEED),1)
 
 # Proves netrev and leaves it at crates/netrev/out/netrev; what hasn't changed isn't proved again. `make netrev CPU=x86-64-v3` builds it for
-# processors that have AVX2, with the same proofs; `make bench CPU=x86-64-v3` measures that, and builds the baseline so too.
+# processors that have AVX2, with the same proofs; `make bench CPU=x86-64-v3` measures that build, and builds the baseline for AVX2 too.
 netrev:
 	@sh scripts/prove.sh
 
@@ -124,7 +124,7 @@ share: ready
 	@$(NETREV) serve examples/first.jsonl --port 47200 --fronts 2
 
 # Measures netrev on recordings of up to 1,000,000 steps, beside plain Rust without proofs: `make bench STEPS="10000 100000"` for fewer.
-# With NETREV_BEFORE=FILE each table also has an older netrev. Then it records a C program with GDB, shares sessions, searches with several
+# With NETREV_BEFORE=FILE each table also has columns for an older netrev. Then it records a C program with GDB, shares sessions, searches with several
 # workers, and asks nrdb.
 bench: ready
 	@python3 python netrev_bench.run $(STEPS)
@@ -206,7 +206,7 @@ trials: ready
 	@python3 python tests.go_untouched $(GO)
 	@python3 python tests.go_killed $(GO)
 
-# Removes all that was built and checked here. What `make test` keeps on this machine stays.
+# Removes what was built and checked in this folder, but not what `make test` stores elsewhere on this machine.
 clean:
 	rm -rf out crates/*/out
 	find . -name __pycache__ -prune -exec rm -rf {} +

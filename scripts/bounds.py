@@ -2,8 +2,8 @@
 """Finds the numbers that no proof needs:  scripts/bounds.py [--list] [CRATE ..]
 
 In a copy of the repository, reduces each constant and each loop bound by one; `rt ci` tries each change as an edit that
-must fail. If the change is refused, a contract fixes the number. If the crate is still proved, only the source fixes the
-number: with a smaller number netrev is slower, or gives up earlier, and no theorem excludes that.
+must fail. If the change is refused, a contract determines the number. If the crate is still proved, no contract
+does: a smaller number may make netrev slower, or make it give up earlier, and no theorem rules that out.
 
 Without names it tries netrev's crates. With --list it prints what it would change. A crate takes some minutes. The status is 0 if each
 change was tried, else 1.

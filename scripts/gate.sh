@@ -10,7 +10,7 @@
 # (scripts/tests.sh): the tests of the built program in python/tests/program, scripts/refused.sh, each example and
 # examples/shared.sh, the tests of nrdb, which include the hunts of examples/hunts, and the tests of the recorder and
 # the fuzzer. If a Go is installed, the samples and ten tests are recorded with it and compared; otherwise the gate says
-# that they were left out. netrev and netrev_plain, over a world of lists, must print the same
+# that they were left out. netrev must print the same as netrev_plain, whose world consists of lists
 # (python/tests/program/agree.py). The pages must agree with the tree (scripts/pages.py), and black and mypy, if
 # installed, must have no complaint about the Python code (scripts/lint.sh). The last line is that of `rt ci`, with one
 # more failure for each of these checks that failed, and with the number of tests that were skipped because a tool is

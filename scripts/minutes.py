@@ -27,7 +27,7 @@ CHECKS = ("check", "build")
 
 
 def processes():
-    """The running processes: for each number, the parent's number, and the ticks used by the process and its ended children."""
+    """The running processes, by PID: the parent's PID, and the ticks used by the process and its ended children."""
     found = {}
     for name in filter(str.isdigit, os.listdir("/proc")):
         try:

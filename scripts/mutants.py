@@ -10,9 +10,9 @@ functions into one copy of the repository, and checks only these functions, each
 function doesn't depend on the body of another function. So all edits of a crate are tried in minutes. This is a tool for
 developers, and not a part of the gate.
 
-An edit counts as refused if a function that it changes isn't proved because of a goal of its own. A goal doesn't count
-if it fails only because the function calls another function that isn't proved. An edit that changes more than bodies (a
-constant, a type, a definition) is named and left to `rt must-fail`, which tries it alone.
+An edit counts as refused if a goal of a function that it changes fails. A goal doesn't count if it fails only because
+the function calls another function that isn't proved. An edit that changes more than bodies (a constant, a type, a
+definition) is named and left to `rt must-fail`, which tries it alone.
 
 --plant FILE tries the mistakes in FILE instead of the crate's edits. FILE contains edits in the form of must-fail/, each after a
 line `name: NAME`. --list checks nothing, and prints which function each edit changes, and in which check it is tried.
@@ -90,7 +90,7 @@ def name_of_impl(head):
 
 
 def function_at(crate, file, text, place):
-    """The function whose body contains this place of a source: the end of the name that the prover prints for it. None
+    """The function whose body contains this place in a source file, as the end of the name that the prover prints. None
     if no body contains the place. A method is named after its type, wherever its block is."""
     if not file.startswith("src/"):
         return None

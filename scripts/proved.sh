@@ -1,7 +1,7 @@
 #!/bin/sh
 # Prints what `nrdb --version` shows about a package's program:  scripts/proved.sh PROGRAM > lib/netrev/proved.txt
 #
-# That is its SHA-256, and the output of `rt version`, or without the toolchain the version that README.md names.
+# That is its SHA-256, and the output of `rt version`. Without the toolchain, it is the version that README.md names.
 set -eu
 cd "$(dirname "$0")/.."
 sha256sum < "$1" | cut -d ' ' -f 1

@@ -82,15 +82,15 @@ is_right() {
 	[ "$status" = "$1" ] && cmp -s "$work/output" "$work/right" && cmp -s "$work/errors" "$2"
 }
 
-# Whether it ended with status 1 after the first lines of $work/right, and then reported that memory ran out.
+# Whether netrev printed the first lines of $work/right, then reported that memory ran out, and ended with status 1.
 is_begun() {
 	head -n "$(($(wc -l < "$work/output") - 1))" "$work/right" | cat - "$work/no-memory" > "$work/begun"
 	[ "$status" = 1 ] && cmp -s "$work/output" "$work/begun"
 }
 
 # Refuses each allocation of netrev, run with the words from $3 on, until none is left to refuse. Once nothing is
-# refused, it must end with status $1 and print $2 on standard error. It may also end so after a refusal, if it didn't
-# need the allocation, or if one line had to be sent again.
+# refused, it must end with status $1 and print $2 on standard error. It may also end in this way after a refusal, if it
+# didn't need the allocation, or if one line had to be sent again.
 refuse_each() {
 	ends=$1 says=$2
 	shift 2

@@ -18,7 +18,7 @@ TABLE = ROOT / "scripts" / "surface.txt"
 # the first line of a block of methods: an impl without a trait, or a trait
 OWNER = re.compile(r"(?:impl(?:<.*?>)? (?P<type>\w+)(?:<.*>)?(?: \{)?|pub trait (?P<trait>\w+).*)$")
 CALL = re.compile(r"(?P<public>pub )?fn (?P<name>\w+)")
-# the mark of an argument that a body doesn't use, which is no part of the call's form
+# the underscore that marks an argument as unused by the body; it isn't part of the signature
 UNUSED = re.compile(r"(?<=[(\s])_(?=\w+:)")
 # what follows a signature: clauses, bounds and the body
 BEHIND = re.compile(r"\s(?:where|requires|ensures|ghost|decreases)\b|\s?\{|;")

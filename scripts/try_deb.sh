@@ -2,7 +2,7 @@
 # Installs the Debian package in a temporary root, and does there what README shows:  scripts/try_deb.sh DEB [GO]
 #
 # GO is a folder with a Go release as Debian's packages unpack it (`python3 python netrev_go.fetching 1.27` prints the
-# folder of its commands). debootstrap (a Debian package) makes the root; it needs root's rights and Debian's mirror.
+# folder of its commands). debootstrap (a Debian package) makes the root; it needs root privileges and Debian's mirror.
 # The root has no Go of its own, and apt must not install one, so recommended packages are left out.
 set -eu
 deb=$(readlink -f -- "$1")

@@ -87,7 +87,7 @@ def note_process(folder: str) -> None:
 
 
 class Notes:
-    """What the tests call, and the file to which it is written."""
+    """Writes to a file which functions the tests call."""
 
     def __init__(self) -> None:
         self.root = f"{os.getcwd()}/"

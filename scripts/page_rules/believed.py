@@ -1,7 +1,7 @@
 """Finds the definitions in the crates' specs/ that a law rests on: the definitions that it names, the definitions that
 these name, and so on.
 
-It reads words, not types. A definition names each word in it that its file imports or defines. So the rule may count
+It reads words, not types. A definition counts as naming each of its words that its file imports or defines. So the rule may count
 too many definitions, but it doesn't miss a named definition. Definitions of the toolchain's libraries
 aren't followed.
 """
@@ -53,7 +53,7 @@ class Definition:
 
     @property
     def words(self) -> set[str]:
-        """All words and symbols in it, without comments and strings."""
+        """All words and symbols of the definition, except those in comments and strings."""
         code = " ".join(
             TEXT.sub("", COMMENT.sub("", line)) for line in self.lines if not line.lstrip().startswith("--")
         )
@@ -148,7 +148,7 @@ class Beliefs:
             yield Place(crate, module, name)
 
     def _named_by(self, place: Place, word: str) -> Iterator[Place]:
-        """The definitions that a word in the definition at this place may mean."""
+        """The definitions to which a word may refer. The word occurs in the definition at this place."""
         module = self.module(place)
         owner, dot, members = word.partition(".")
         member = members.partition(".")[0]

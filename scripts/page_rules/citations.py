@@ -83,7 +83,7 @@ def _wrong_in(part: str, cited: Cited, before: list[str]) -> Iterator[str]:
 
 
 def promises(tree: Tree) -> Iterator[Finding]:
-    """The citations in the right column of PROMISES that don't exist."""
+    """Citations of names that don't exist, in the right column of PROMISES."""
     if not tree.has(PROMISES):
         return
     crates, before, cell = crates_of(tree), [], Block(0, "text", "")  # type: dict[str, Crate], list[str], Block

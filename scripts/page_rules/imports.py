@@ -33,7 +33,7 @@ class Row:
         return self.places[0]
 
     def fits(self, path: str) -> int:
-        """The length of the longest of the row's places that contains the module at this path below python/; 0 if no place does."""
+        """The length of the row's longest place that contains the module; 0 if no place does. `path` is relative to python/."""
         return max((len(place) for place in self.places if f"{path}/".startswith(f"{place}/")), default=0)
 
 
@@ -118,8 +118,8 @@ def imports(tree: Tree) -> Iterator[Finding]:
 
 def written(tree: Tree) -> str:
     """The page with a new column of imports in its table: the imports in the tree, in the order of the rows. The
-    packages, their descriptions and the row that imports everything above it stay; an import from a lower row isn't
-    written, because it is a fault of the tree."""
+    packages, their descriptions and the row that imports everything above it don't change. An import from a lower row
+    is left out, because it is an error in the code."""
     rows, lines = rows_of(tree), tree.text(PAGE).split("\n")
     met: dict[str, set[str]] = {row.name: set() for row in rows}
     for _, _, own, _, other in uses(tree, rows):
@@ -135,6 +135,6 @@ def written(tree: Tree) -> str:
 
 
 def _row_of(rows: list[Row], path: str) -> Row | None:
-    """The row of a module: the row with the longest matching place."""
+    """The row of a module: the one with the longest place that contains the module."""
     longest = max(rows, key=lambda row: row.fits(path))
     return longest if longest.fits(path) else None

@@ -39,7 +39,7 @@ class Vocabulary:
     files: tuple[str, ...]  # the endings of the files to examine
 
     def counted_in(self, text: str) -> int:
-        """The number of the names that occur in a text."""
+        """How many of the names occur in a text."""
         return sum(any(_has(spelling, text) for spelling in spellings) for spellings in self.names)
 
 

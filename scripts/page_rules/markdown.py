@@ -13,7 +13,7 @@ CELLS = re.compile(r"(?<!\\)\|")
 
 @dataclass(frozen=True)
 class Block:
-    """A part of a page, and its first line. The cell of a table is a part, named by its column."""
+    """A part of a page, and its first line. Each cell of a table is a part of its own, with its column."""
 
     line: int
     kind: str  # "heading", "text", "cell" or "code"

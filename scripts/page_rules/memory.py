@@ -36,7 +36,7 @@ SAID = re.compile(r"\b(?:\w+::OutOfMemory|Category::Memory)\b.*=>")
 # the line that reports a refusal
 PRINTED = re.compile(r'"fault 108 memory')
 MESSAGE = re.compile(r"\s*#\[error\(")
-# the file with the type that carries a refusal, and the file with the faults that contain a refusal and print this line
+# CARRIES defines the type that carries a refusal; PRINTS defines the faults that contain a refusal and print the line above
 CARRIES = "crates/nr_rev/src/memory.rt"
 PRINTS = "crates/nr_recording/src/fault.rt"
 

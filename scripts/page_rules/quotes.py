@@ -1,6 +1,6 @@
 """Checks that the quotes in docs/proof/THEOREM.md and the computed sessions equal their sources, character by character.
 
-    quotes  each block of code of the page is in the file that the line above the block names
+    quotes  each code block of the page occurs in the file that is named on the line above it
     texts   each file of examples/ equals its bytes in crates/nr_programs/specs/Examples.antt
     runs    each recording of examples/ and scripts/recordings/ equals its run there or in ShortRuns.antt, step by step
 """

@@ -52,7 +52,7 @@ CALLS: dict[str, dict[str, int]] = {
     ".forever(": {},
 }
 
-# the functions above whose entries a contract checks; the other functions are read by eye
+# a contract checks the log entries of these functions; people must check the other functions above by reading them
 HELD = {
     "Buffered::into_inner",
     "LoggedCallers::give_up",

@@ -89,7 +89,7 @@ HUNTS = (
 
 @dataclass(frozen=True)
 class Count:
-    """The numbers of definitions that some laws rest on, and of their lines and files."""
+    """How many definitions some laws rest on, and how many lines and files these have."""
 
     definitions: int
     lines: int  # lines that aren't comments
@@ -240,7 +240,7 @@ def tables(tree: Tree) -> list[str]:
 
 
 def _in_words(tree: Tree, counted: set[tuple[str, str]]) -> Iterator[Finding]:
-    """Sentences whose numbers of definitions and lines differ from the counted numbers."""
+    """Sentences that give wrong numbers of definitions and lines."""
     for page in filter(tree.has, PAGES):
         for block in prose(tree.text(page)):
             for numbers in IN_WORDS.findall(block.text):

@@ -18,7 +18,7 @@ KEPT = "out/verdicts.json"
 PROGRAM = "netrev"
 # by crate, functions that take `Wait` and that no program calls
 WRAPPERS = {"nr_lines": 1}
-# the number of a crate's functions doesn't concern trust
+# a crate's number of functions says nothing about what must be trusted
 NOT_OF_TRUST = {"functions"}
 
 SECTION = re.compile(r"^== (\w+)$")

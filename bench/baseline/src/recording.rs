@@ -65,8 +65,8 @@ const MUL: u64 = {
     }
 };
 
-/// A slot: the name with its closing quotation mark as a number, a mask of its bytes, the
-/// length with the mark, the kind (0: none).
+/// A slot: a number made of the name and its closing quotation mark, a mask of their bytes,
+/// their length, and the kind (0: none).
 #[derive(Clone, Copy)]
 struct Slot {
     name: u128,
@@ -123,7 +123,7 @@ impl Scan<'_> {
     fn kind(&mut self) -> Option<u8> {
         let w = u128::from_le_bytes(self.b.get(self.p..self.p + 16)?.try_into().ok()?);
         let head = w as u64;
-        // all below the first quotation mark among the first eight bytes
+        // `low` masks the bytes before the first quotation mark among the first eight bytes
         let x = head ^ 0x2222_2222_2222_2222;
         let z = x.wrapping_sub(0x0101_0101_0101_0101) & !x & 0x8080_8080_8080_8080;
         let low = (z & z.wrapping_neg()).wrapping_sub(1) >> 7;
@@ -256,7 +256,7 @@ impl Scan<'_> {
         Some((off as u64, n as u32))
     }
 
-    /// A step's line in compact spelling, up to and with its `]`.
+    /// A step's line in compact spelling, up to and including its `]`.
     #[inline(always)]
     fn step(&mut self, data: &mut Vec<u8>) -> Option<Step> {
         self.eat(b'[')?;
@@ -343,7 +343,7 @@ fn header(line: &[u8]) -> Option<Limits> {
     })
 }
 
-/// The number of spaces after the text, because looking up a kind reads sixteen bytes.
+/// This many spaces follow the text, because looking up a kind reads sixteen bytes.
 pub const PADDING: usize = 16;
 
 /// Reads the header's line and the steps' lines; the padding comes last. If a line is neither, returns the first such line's number.

@@ -61,7 +61,7 @@ fn push_fault(out: &mut Vec<u8>, fault: Fault) {
     out.extend_from_slice(format!("fault {fault} {text}\n").as_bytes());
 }
 
-/// A debugger on a film: one break by number, one watch of a lock word, 64 checkpoints.
+/// A debugger for a loaded recording: one break by number, one watch of a lock word, 64 checkpoints.
 pub struct Session<'a> {
     film: &'a Film,
     finder: Finder<'a>,

@@ -352,7 +352,7 @@ pub struct World {
     gor: Vec<u64>,
     socks: Vec<Sock>,
     descs: Vec<Desc>,
-    /// free descriptors, the front of the list last
+    /// free descriptors; the last one is used next
     free: Vec<u16>,
     heap: Heap,
     firings: VecDeque<Firing>,
@@ -360,7 +360,7 @@ pub struct World {
     rings: Vec<u8>,
 }
 
-/// A compact copy of a world. Of the buffers it has only the bytes that they hold.
+/// A compact copy of a world. It has only the used bytes of each buffer.
 #[derive(Clone, PartialEq, Eq, Debug)]
 pub struct Snap {
     clock: i64,
@@ -877,7 +877,7 @@ impl World {
                 let (n, a, owed) = lock::rwunlock(*l, side as usize)?;
                 log.rec(Rec { op: op::LOCK_ROW, a: si as u8, c: g, w: *l, ..NOP });
                 *l = n;
-                // idle again where nothing is owed
+                // if no release is owed, the goroutine is idle again
                 let owe = row(OWING, 0, si) | 1 << (16 + 20 * side as u32);
                 self.gor[gi] = owe & (owed as u64).wrapping_neg();
                 Ok(a)

@@ -102,7 +102,7 @@ func probe(address string, isBad bool) error {
 	return nil
 }
 
-// probed: a probe leaves its connection open, and with it the server's last slot.
+// probed: a probe doesn't close its connection, which keeps the server's last slot.
 func probed(isBad bool) {
 	listener := listen()
 	go serveSlots(listener, 1)

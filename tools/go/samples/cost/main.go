@@ -93,7 +93,7 @@ func throughSelect(isOfFive bool) func() {
 	}
 }
 
-// byTurns lets two goroutines take turns with a condition.
+// byTurns lets two goroutines take turns by means of a sync.Cond.
 func byTurns() func() {
 	var lock sync.Mutex
 	condition, mine := sync.NewCond(&lock), true

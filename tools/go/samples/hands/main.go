@@ -299,7 +299,7 @@ func ask(end net.Conn, name string) error {
 	}
 }
 
-// mingled: two goroutines wait for answers at one socket, and each drops the other's answers.
+// mingled: two goroutines wait for answers on one socket, and each drops the other's answers.
 func mingled(isBad bool) {
 	server, err := net.ListenPacket("udp", "127.0.0.1:0")
 	must(err)

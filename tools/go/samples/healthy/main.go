@@ -1,4 +1,4 @@
-// Healthy programs: bytes move in each way that Go has, and the goroutines that still wait at the end may do so. They should have no suspects.
+// Healthy programs: they move bytes in every way that Go offers, and goroutines that still wait at the end are meant to. nrdb should report no suspects.
 //
 //	healthy NAME
 package main
@@ -38,7 +38,7 @@ func listen(network string) net.Listener {
 	return listener
 }
 
-// leftover are folders to be removed at the end.
+// leftover has the folders to be removed at the end.
 var leftover []string
 
 func dial(listener net.Listener) net.Conn {

@@ -1,10 +1,10 @@
 // A pool of connections to PostgreSQL, with Debian's golang-github-lib-pq-dev:  pool CONNECTIONS SECONDS BUG PAUSE
 //
 // PGHOST, PGPORT, PGUSER and PGDATABASE name the database, as for psql. All connections are opened first. The same number of goroutines each read an account,
-// book on it, and pause PAUSE milliseconds; one more audits an account that no other goroutine uses. After SECONDS seconds the program has a bug, or none:
+// update it, and pause PAUSE milliseconds; one more audits an account that no other goroutine uses. BUG decides what happens after SECONDS seconds:
 //
 //	none   the program ends
-//	mutex  an update that holds the mutex waits for the lock of a row, and the transaction that has it waits for the mutex
+//	mutex  an update that holds the mutex waits for a row's lock, and the transaction that holds that lock waits for the mutex
 package main
 
 import (
@@ -80,7 +80,7 @@ func (l *ledger) audit(account int) error {
 	return transaction.Commit()
 }
 
-// work books on an account repeatedly.
+// work reads and updates an account again and again.
 func (l *ledger) work(account int, pause time.Duration) {
 	for {
 		_, err := l.total(account)

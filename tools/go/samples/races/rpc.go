@@ -9,7 +9,7 @@ import (
 // Echo is the receiver of the calls.
 type Echo struct{}
 
-// Say answers with the question.
+// Say echoes its argument.
 func (Echo) Say(asked string, answer *string) error {
 	*answer = asked
 	return nil

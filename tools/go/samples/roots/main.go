@@ -123,7 +123,7 @@ func name(client *http.Client, address string, bad bool) error {
 	return nil
 }
 
-// bodies: a client doesn't close the bodies of answers that it doesn't need, until no connection is left.
+// bodies: a client doesn't close the response bodies that it doesn't need, and so runs out of connections.
 func bodies(bad bool) error {
 	server := httptest.NewServer(http.HandlerFunc(func(w http.ResponseWriter, r *http.Request) {
 		w.WriteHeader(http.StatusBadGateway)

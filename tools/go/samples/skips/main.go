@@ -310,7 +310,7 @@ func picture(end net.Conn, in io.Reader) {
 	fmt.Fprintln(end, "got it")
 }
 
-// swallowed: the head of a picture is read with a reader that also reads a part of the picture.
+// swallowed: the buffered reader of a picture's header also reads a part of the picture, which is lost.
 func swallowed(bad bool) error {
 	listener := listen()
 	go serve(listener, func(end net.Conn) {

@@ -87,7 +87,7 @@ func (b *board) closeFirst() {
 	b.server.Shutdown(context.Background())
 }
 
-// ordered: a Shutdown waits for handlers that wait for a channel that is closed only afterwards.
+// ordered: Shutdown waits for handlers. They wait for a channel that is closed only after Shutdown.
 func ordered(isBad bool) {
 	b := &board{stop: make(chan struct{})}
 	server, address := serveWeb(b.watch)

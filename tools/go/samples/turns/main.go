@@ -362,7 +362,7 @@ func (m *mailbox) close() {
 	m.lock.Unlock()
 }
 
-// unwoken: the state that a goroutine waits for changes, but nothing signals that.
+// unwoken: a goroutine waits for a change of state, but the code that makes the change signals nothing.
 func unwoken(bad bool) error {
 	listener := listen()
 	go serve(listener, echo)
