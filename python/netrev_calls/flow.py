@@ -1,4 +1,4 @@
-"""Go's control flow at a socket (internal/poll, runtime/netpoll): the next step of a goroutine, given its status and its operation, and
+"""Go's control flow for a socket (internal/poll, runtime/netpoll): the next step of a goroutine, given its status and its operation, and
 what follows each answer. A call is a list of operations; `Read` locks, resets, reads and unlocks."""
 
 from enum import Enum, auto

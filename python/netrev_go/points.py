@@ -71,7 +71,7 @@ class Kind(IntEnum):
 
 # Sets of plain numbers, as in points: comparing an enumeration's members is much slower.
 KINDS = frozenset(map(int, Kind))
-# Points at which the program itself puts goroutines in order; they aren't at a socket.
+# Points at which the program itself puts goroutines in order; they belong to no socket.
 ORDERING = frozenset(range(Kind.READY, Kind.FOUND_CLOSED + 1)) | {int(Kind.HANDED)}
 # Points at which a goroutine begins to wait outside the poller, continues, gets a value that it waits for, makes or stops
 # a timer, adds to a WaitGroup, makes a channel, fails to connect a socket, or ends.

@@ -31,7 +31,7 @@ def read_line(g: int, socket: int, asked: int, answer: str) -> str:
 
 
 def repeated_line(point: Point, g: int, socket: Socket) -> str:
-    """The line for such a point, logged by the goroutine with this number at its socket."""
+    """The line for such a point, logged by the goroutine with this number for its socket."""
     kind = point.kind
     if kind in LOCK_STEPS:
         side = (',"r"' if point.c & 1 else ',"w"') if kind in SIDED else ""

@@ -235,7 +235,7 @@ func netrevMade(gp *g) *g {
 	return gp
 }
 
-// netrevChannel logs a point at a channel whose lock is held, or which stays closed.
+// netrevChannel logs a point of a channel whose lock is held, or which stays closed.
 func netrevChannel(kind uint64, c *hchan) {
 	netrevOrder(kind, netrevGoroutine(), unsafe.Pointer(c), int64(c.qcount), int64(c.dataqsiz), 0)
 }
