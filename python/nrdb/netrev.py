@@ -246,7 +246,7 @@ class Own(Netrev):
 
 
 class Joined(Netrev):
-    """A connection to a session of `netrev serve`, at its address. `silent` is called if the first reply takes long."""
+    """A connection to a session of `netrev serve`, at its address. `silent` is called if the first reply takes a long time."""
 
     asks_ahead = False
 

@@ -60,7 +60,7 @@ def wake(notes: Notes, status: Status, step: int, number: str) -> None:
 
 
 def waking(notes: Notes, d: int) -> Note:
-    """Notes that the step may wake a goroutine that is parked at a descriptor."""
+    """Notes that the step may wake a goroutine that is parked on a descriptor."""
     if d not in notes.wakers:
         notes.wakers[d] = _waking(notes, d)
     return notes.wakers[d]

@@ -1,5 +1,5 @@
 """Decides which editors are served. Over the standard streams, only the editor that started nrdb can send requests. A
-port is open to every program on the machine, including web pages in a browser, so a launch at a port must carry the
+port is open to every program on the machine, including web pages in a browser, so a launch over a port must carry the
 token that nrdb printed."""
 
 import hmac
