@@ -5,7 +5,7 @@ In a copy of the repository, reduces each constant and each loop bound by one; `
 must fail. If the change is refused, a contract determines the number. If the crate is still proved, no contract
 does: a smaller number may make netrev slower, or make it give up earlier, and no theorem rules that out.
 
-Without names it tries netrev's crates. With --list it prints what it would change. A crate takes some minutes. The status is 0 if each
+Without names it tries netrev's crates. With --list it prints what it would change. Each crate takes a few minutes. The status is 0 if each
 change was tried, else 1.
 """
 

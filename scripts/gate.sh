@@ -23,8 +23,8 @@ log=out/gate.log sum=out/gate.sum
 rm -f "$sum"
 unset NETREV NETREV_PLAIN # (so that the program built here is tested)
 
-# One job for each check, because a check with four jobs uses a quarter more processor time than with one. There are as
-# many checks at once as processors, but at most one for each 5 GB of available memory. (If `rt ci` is given a number of
+# One job for each check, because a check with four jobs uses a quarter more processor time than with one. As
+# many checks run at once as the machine has processors, but at most one for each 5 GB of available memory. (If `rt ci` is given a number of
 # checks, it ignores the memory.)
 fit=$(awk '/^MemAvailable:/ { print int($2 / 5000000) }' /proc/meminfo)
 lanes=$(nproc)

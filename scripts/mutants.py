@@ -90,8 +90,8 @@ def name_of_impl(head):
 
 
 def function_at(crate, file, text, place):
-    """The function whose body contains this place in a source file, as the end of the name that the prover prints. None
-    if no body contains the place. A method is named after its type, wherever its block is."""
+    """The name of the function whose body contains this place in a source file: the last parts of the name that the
+    prover prints. None if no body contains the place. A method is named after its type, wherever its block is."""
     if not file.startswith("src/"):
         return None
     head = text[:place]
@@ -100,7 +100,7 @@ def function_at(crate, file, text, place):
         return None
     indent, name = found[-1][1], found[-1][2]
     body = head[found[-1].end() :]
-    # (the item has ended if a line with its indentation closes it; its body begins after its clauses)
+    # (a brace at the function's own indentation ends it; its body begins after its clauses)
     if re.search(rf"^{indent}}}$", body, re.M) or not re.search(rf"(?:^{indent}|\) |> |\w ){{$", body, re.M):
         return None
     module = [part for part in Path(file).with_suffix("").parts[1:] if part not in ("lib", "main", "mod")]

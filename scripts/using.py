@@ -2,7 +2,7 @@
 """Tries the programs of docs/reference/LIBRARY.md:  scripts/using.py [NAME ..]
 
 Makes a repository in a separate folder, from copies of the crates and of the page's programs, and runs each program, or those with these
-names, with `rt try` over examples/first.jsonl. The status is 1 if a program prints something other than the page shows. Nothing is proved,
+names, with `rt try` over examples/first.jsonl. The status is 1 if a program prints something other than what the page shows. Nothing is proved,
 and each program takes a minute of processor time to compile.
 """
 

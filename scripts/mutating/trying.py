@@ -97,7 +97,7 @@ def pytest_by(python: str) -> list[str]:
 
 
 class Server:
-    """A pytest that has loaded all tests, and runs some of them for each mutant."""
+    """A pytest process that loads all tests once, and then runs some of them for each mutant."""
 
     def __init__(self, room: Path, python: str, files: list[str]) -> None:
         requests, self._requests = os.pipe()

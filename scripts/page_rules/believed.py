@@ -1,8 +1,8 @@
 """Finds the definitions in the crates' specs/ that a law rests on: the definitions that it names, the definitions that
 these name, and so on.
 
-It reads words, not types. A definition counts as naming each of its words that its file imports or defines. So the rule may count
-too many definitions, but it doesn't miss a named definition. Definitions of the toolchain's libraries
+It reads words, not types. Each word in a definition that its file imports or defines counts as the name of a definition. So the rule may
+count too many definitions, but it doesn't miss one. Definitions of the toolchain's libraries
 aren't followed.
 """
 

@@ -33,7 +33,7 @@ class Row:
         return self.places[0]
 
     def fits(self, path: str) -> int:
-        """The length of the row's longest place that contains the module; 0 if no place does. `path` is relative to python/."""
+        """The length of the row's longest path that contains the module; 0 if none contains it. `path` is relative to python/."""
         return max((len(place) for place in self.places if f"{path}/".startswith(f"{place}/")), default=0)
 
 
@@ -135,6 +135,6 @@ def written(tree: Tree) -> str:
 
 
 def _row_of(rows: list[Row], path: str) -> Row | None:
-    """The row of a module: the one with the longest place that contains the module."""
+    """The row of a module: the row with the longest path that contains the module."""
     longest = max(rows, key=lambda row: row.fits(path))
     return longest if longest.fits(path) else None

@@ -42,8 +42,8 @@ PRINTS = "crates/nr_recording/src/fault.rt"
 
 
 def refused(tree: Tree) -> Iterator[Finding]:
-    """Places in the program that report refused memory without the library's refusal: they create a refusal, or print
-    the line themselves."""
+    """Places in the program that report a lack of memory on their own: they create the refusal themselves instead of
+    passing on the library's, or print the line themselves."""
     for crate in verdict.below(tree, verdict.PROGRAM):
         for path in tree.matching(f"crates/{crate}/src/*.rt"):
             for number, line in enumerate(without_comments(tree.text(path)).split("\n"), 1):

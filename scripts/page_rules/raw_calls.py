@@ -1,7 +1,7 @@
 """Checks that the calls that reach a stream, a caller or a log are made only in the places that docs/proof/TRUSTED.md lists.
 
-The laws are about logs. If a call bypassed the logs, for example on a reader taken out of its source, no log would have it; and a log could
-have an entry without a call. So each such call in the program's sources is listed here with the functions that make it. No contract checks
+The laws are about logs. If a call bypassed the logs, for example because the reader was taken out of its source, no log would have the call.
+A log could also have an entry without a call. So each such call in the program's sources is listed here with the functions that make it. No contract checks
 some of these functions; TRUSTED lists them in its table of code that is read by eye.
 """
 

@@ -2,8 +2,8 @@
 
 A file comes after the files that it depends on, and a crate after the crates that it imports. Only the lines of
 definitions are counted, and not imports. Comments count for a file, but not for a law. Some premises of a law are
-proved by another contract. A definition that a law uses only in such a premise counts, but the definitions that it uses
-don't, because the law only says what follows from the premise.
+proved by another contract. A definition that occurs only in such a premise counts, but not the definitions beneath it,
+because the law only says what follows from the premise.
 
 The definitions that the laws rest on are in separate files, and each crate lists these files under one heading.
 """

@@ -1,5 +1,5 @@
 // Programs in which the bytes that are read aren't the bytes that were sent: a datagram is longer than its buffer, a length
-// belongs to something else, an answer stays in its handler's buffer, or a request outlives the request for which it was made.
+// belongs to something else, an answer stays in its handler's buffer, or a request outlives the one that caused it.
 // The line marked BUG causes that, and netrev-go names it first. With the argument `good`, each program runs without its bug.
 //
 //	sizes NAME bad|good

@@ -1,7 +1,7 @@
 // A server with gRPC streams, with Debian's golang-google-grpc-dev, and its clients:  stream CONNECTIONS SECONDS BUG PAUSE
 //
 // Each client has a connection, and one stream on it for as long as the program runs: it sends a text, receives it again, and pauses
-// PAUSE milliseconds. One more client is a subscriber, which gets each text. After SECONDS seconds the program has a bug, or none:
+// PAUSE milliseconds. One more client is a subscriber, which gets each text. After SECONDS seconds the bug named BUG occurs:
 //
 //	none   the program ends
 //	mutex  a Send to the subscriber, which has stopped receiving, holds the mutex that each text needs
