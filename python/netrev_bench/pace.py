@@ -4,7 +4,7 @@ For recordings of each shape, with 1,000,000 steps or STEPS, prints the speed of
 thousands of steps a second. Four things are measured: replaying the steps, applying them so that they can be undone,
 undoing them, and searching for a watch that never hits. The representations are the lists of `nr_plain`, the packed
 world of `nr_machine`, and the same machine in plain Rust without proofs (`baseline`). Each figure is the best of three
-runs. The last columns have the packed world's figures as multiples of the lists' and the baseline's.
+runs. The last columns have the packed world's figures divided by those of the lists and of the baseline.
 
 NETREV_PACE names the program to use instead of out/nr_pace, which is built from `bench/pace/crate`. NETREV_BASELINE names the program of
 `bench/baseline`; by default it is built, and if that fails, its columns are empty. SHAPES names the shapes to measure. The

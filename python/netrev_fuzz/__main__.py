@@ -62,8 +62,8 @@ def case_of(seed: str) -> Case:
 
 
 def wanted_seeds(seed: str, cases: Optional[int], of: str) -> Iterator[str]:
-    """The seeds to run. They are for the chosen program, or for netrev if only a number of cases is given; otherwise
-    they are endless and for both programs, with the same time for each."""
+    """The seeds to run, for the chosen program. If no program is chosen, a number of cases means netrev; without a
+    number, the seeds never end, and both programs get the same time."""
     of_netrev, of_nrdb = seeds(seed, cases), seeds(f"{seed}{OF_NRDB}", cases)
     return of_nrdb if of == "nrdb" else of_netrev if of or cases else by_turns(of_netrev, of_nrdb)
 

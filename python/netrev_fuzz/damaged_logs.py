@@ -28,7 +28,7 @@ from .logs import STACKS, binary, from_text
 
 EXAMPLES = Path(__file__).resolve().parents[2] / "examples"
 MEMORY, SECONDS = 2 * 2**30, 40  # bytes of memory and seconds of processor time for a case
-ASKED = 0.05  # the fraction of the cases in which netrev runs too, which takes longest
+ASKED = 0.05  # netrev takes longest, so it runs in only this fraction of the cases
 GREATEST = 100 * 2**20  # bytes in a recording
 RING = HEADER_BYTES + STACKS * 256
 SIDES = (ord("r"), ord("w"), ord("r") + ord("w"))
@@ -258,7 +258,7 @@ def tests_wrong(log: Path, tests: Tests, folder: Path) -> str:
 
 
 def forms_wrong(told: list[Told]) -> str:
-    """The fault of the machine-readable outputs: a test that an output lacks or has twice."""
+    """What is wrong with the machine-readable outputs: an output lacks a test or has it twice, or an annotation has the wrong form."""
     if [json.loads(line)["test"] for line in forms.json_lines(told).splitlines()] != [one.test for one in told]:
         return "the lines of JSON aren't the tests"
     if sum(1 for _ in ElementTree.fromstring(forms.junit(told)).iter("testcase")) != len(told):

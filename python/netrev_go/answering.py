@@ -23,7 +23,7 @@ def parts(count: int, most: int) -> list[int]:
 
 
 def mode_of(point: Point) -> str:
-    """The side or the sides of a point at a descriptor."""
+    """Which side of its descriptor a point concerns, or both sides."""
     mode = MODES.get(point.a)
     if mode is None:
         raise Unconvertible(messages.BAD_MODE.format(point=point.number, mode=point.a))

@@ -347,8 +347,8 @@ class Converter:
 
     def noted(self, point: Point, socket: Socket) -> None:
         """Makes the steps that bring a socket into its noted state. At the first note, the clock advances to the note's time, but not past a
-        deadline that these steps will set. The steps of later notes advance the clock too. Until the last note, the clock is behind Go's
-        by the time that the remaining notes' steps take, so that deadlines set between the notes equal Go's."""
+        deadline that these steps will set. The steps of later notes advance the clock too. Until the last note, the clock lags behind Go's
+        by the time that the steps of the remaining notes will add. So deadlines set between the notes equal Go's."""
         if not self.clock:
             sockets = {socket for one, socket in self.points if one.kind == Kind.NOTED}
             dues = [due - 1 for socket in sockets if socket.note for due in socket.note.deadlines if due > 0]

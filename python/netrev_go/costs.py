@@ -3,8 +3,8 @@
 It builds samples/cost and samples/load of tools/go without and with the overlay. It prints the cost of calls, channels, locks, goroutines
 and timers, and the round trips a second, for each of six settings: without the overlay; with the overlay but no log; with a log; and with
 a log and the program's orders, lines, or both. With --requests it builds samples/served instead. It then prints the processor time of an
-HTTP request over 20 and over 200 keep-alive connections, and how many bytes a recording keeps of a request. It prints both for
-runtime/trace and its FlightRecorder too.
+HTTP request over 20 and over 200 keep-alive connections, and how many bytes a recording keeps of a request. It prints the same
+two figures for runtime/trace and for its FlightRecorder.
 
 RELEASE is one of Debian's (netrev_go.fetching), such as 1.27; the default is the `go` on the PATH. FOLDER is another clone of the
 repository, whose recorder is measured too. All are measured in turn, N times each, and the machine's load is printed.

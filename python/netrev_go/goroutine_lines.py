@@ -1,5 +1,5 @@
-"""The lines of NAME.where about all goroutines, and which waits, uses of channels and goroutines are kept if not all fit
-(docs/reference/RECORDING.md has the format)."""
+"""Makes the lines of NAME.where about all goroutines (docs/reference/RECORDING.md has the format). If not all waits, uses of channels
+and goroutines fit, it chooses which to keep."""
 
 from __future__ import annotations
 

@@ -34,7 +34,7 @@ OF_KIND = {SENT: PUT, RECEIVED: TOOK, CLOSED: CLOSES, FOUND_CLOSED: ENDED}
     OTHER, VALUE, ROOM, SELECT, CONDITION, SLEEP, MUTEX, READ_LOCK, WRITE_LOCK, WAIT_GROUP, SEMAPHORE, NIL_CHANNEL, NO_CASES,
 ) = range(13)  # fmt: skip
 UNENDED = -1
-GENERATION = 48  # the number of a channel's lowest key bit that counts the channels at the same address
+GENERATION = 48  # a channel's key counts earlier channels at the same address in its bits from this one on
 BEHIND = 2**64, 0, 0  # a step after the last point
 
 
@@ -82,7 +82,7 @@ class Timer(NamedTuple):
 
 
 class Used(NamedTuple):
-    """What a goroutine did, from one stack, with a channel or a WaitGroup's semaphore."""
+    """A goroutine's use of a channel or a WaitGroup's semaphore, from one stack."""
 
     address: int
     goroutine: int

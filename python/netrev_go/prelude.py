@@ -7,15 +7,15 @@ that side. Goroutines that wait for a lock are queued in the order in which they
 - Each stage of a wait; the wait word is nil, ready, wait or the goroutine. A woken goroutine first parks, and then an event, a past
 deadline or the close wakes it.
 - Future deadlines, deadlines that passed while their timers run, and deadlines set in the past; also one timer for both sides.
-- Go's sequences and tags may be in the millions, but the machine begins to count anew. So an event names the use of its descriptor,
-and a firing names its timer, and neither has Go's number.
+- Go's sequences and tags may be in the millions, but the machine's start from their first values. So an event names the use of its
+descriptor, and a firing names its timer, and neither has Go's number.
 - Bytes aren't known. The input is empty, because bytes arrive just before the read that gets them; the output is full if a goroutine waits
   to write there, or if a write finds it full later.
 
 A socket is left out, with the reason, if one of these holds:
 
 - A goroutine is about to pass one of the socket's locks to another goroutine.
-- A goroutine has one of the socket's locks or references, and the log doesn't show that it releases it.
+- A goroutine has one of the socket's locks or references, and the log doesn't show the release.
 - One of the socket's timers is due and hasn't run.
 - The steps don't lead to the noted state. The model in Python runs each socket's steps, and the resulting state is compared with the whole
 note.
@@ -151,7 +151,7 @@ class Leading:
                 self.fill(holder, stack)
 
     def fill(self, goroutine: int, stack: int = 0) -> None:
-        """Fills the output, because a later write finds it full."""
+        """Fills the output. It must be full: a goroutine waits to write, or a later write finds no room."""
         self.add("syswrite", goroutine, self.capacities[1], answer=("put", self.capacities[1]), stack=stack)
         if goroutine != NOBODY:
             self.add("syswrite", goroutine, 1, answer=("again",), stack=stack)

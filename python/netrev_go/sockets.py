@@ -68,7 +68,7 @@ class Socket:
     note: Note | None = None  # the note of its state, if its opening isn't in the log
     leads: list[Lead] = field(default_factory=list)  # the steps that lead to that state
     is_filled: bool = False  # a noted socket whose output a later write found full
-    # by point, the bytes that were moved, if the recording counts fewer
+    # by point, the number of bytes that were moved, if the recording counts fewer
     whole: dict[int, int] = field(default_factory=dict)
 
     def capacity(self) -> int:

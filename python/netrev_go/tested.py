@@ -170,7 +170,7 @@ class Recordings:
 
 
 def page_of(name: pathlib.Path) -> str | None:
-    """Writes the timeline of a recording as a page beside it; its name, or None if that fails."""
+    """Writes the timeline of a recording as a page beside it. Returns the page's name, or None if that fails."""
     page = name.with_suffix(".html")
     words = [sys.executable, str(PACKAGES), "nrdb", "--timeline", file_word(page), file_word(name)]
     run = subprocess.run(

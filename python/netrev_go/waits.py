@@ -24,9 +24,9 @@ class Wait(NamedTuple):
 
 
 def waits_of(found: Goroutines, numbers: dict[int, int], since: Mapping[int, int] = {}) -> list[Wait]:
-    """The waits in the order of their ends; those that don't end come last. `numbers` has the recording's numbers of goroutines, and
-    `since` the step after which a goroutine took another's number: the goroutine's earlier actions would be attributed to the other
-    one."""
+    """The waits in the order of their ends; those that don't end come last. `numbers` has the recording's numbers of goroutines. `since`
+    has the step after which a goroutine took over another goroutine's number. Waits before that step are left out, because they would be
+    attributed to the other goroutine."""
     waits = []
     for park in (
         *(found.parks[place] for place in found.finished),

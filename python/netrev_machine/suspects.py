@@ -124,8 +124,8 @@ def checked(replayed: Replayed, n: int) -> Optional[tuple[int, int, str]]:
 
 
 def taken_back(replayed: Replayed, n: int) -> Iterator[str]:
-    """Step n, if it sets a side's deadline although the previous deadline has passed and the goroutine that the
-    previous deadline woke hasn't checked yet."""
+    """A line for each side whose deadline is set by step n, if the side's previous deadline has passed and woken a
+    goroutine, and this goroutine hasn't checked yet."""
     if replayed.step(n)[0] == "setdeadline":
         _, _, d, mode, _ = replayed.step(n)
         for side in SIDES:
@@ -185,8 +185,8 @@ def is_setting(replayed: Replayed, n: int, d: int) -> bool:
 
 
 def lost_wake_ups(replayed: Replayed) -> Iterator[str]:
-    """Each goroutine that is parked when the recording ends although no try was answered `again` after its side's last
-    event."""
+    """A line for each goroutine that is parked at the end of the recording, if its side's last event came after the
+    last try there that was answered `again`."""
     for d, desc in enumerate(replayed.worlds[replayed.end].descs):
         for side in SIDES:
             parked, event = desc.words[at(side)], owed(replayed, d, side)

@@ -8,7 +8,7 @@ from pathlib import Path
 from typing import IO, Any, Iterator
 
 STREAMS = tuple(map(Path, ("/dev", "/dev/fd", "/proc/self/fd")))
-MOST_LINKS = 40  # the number of links that the kernel follows at most
+MOST_LINKS = 40  # the kernel follows at most this many links
 OF_LINES = b'{"where":'  # the beginning of a file of lines beside a recording (docs/reference/RECORDING.md)
 
 

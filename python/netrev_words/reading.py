@@ -66,7 +66,7 @@ def is_hexadecimal(text: str) -> bool:
 
 @lru_cache(maxsize=10_000)
 def value_of(line: bytes) -> Any:
-    """The value of a line that isn't too long. Callers must not change it, because equal lines share it."""
+    """The JSON value of a line, whose length the caller has checked. Callers must not change it, because equal lines share it."""
     try:
         return read_json(line)
     except NoJson as error:

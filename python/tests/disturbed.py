@@ -39,7 +39,7 @@ Action = Callable[["Weather[Of]", Of], None]
 
 
 class Weather(Generic[Of]):
-    """Counts the points that all netrevs of a session reach, and makes an action happen at the one where `left` falls below 0."""
+    """Counts the points that all netrevs of a session reach. When `left` falls below 0, the action runs at that point."""
 
     def __init__(self, interrupts: Interrupts):
         self.interrupts = interrupts
@@ -96,7 +96,7 @@ class Disturbances(unittest.TestCase, Generic[Of]):
             self.addCleanup(stack.pop_all().close)
 
     def opened(self, weather: Weather[Of]) -> Of:
-        """A netrev that runs on the example, and to which this event happens."""
+        """A netrev that runs on the example, disturbed by `weather`."""
         raise NotImplementedError
 
     def told_by(self, played: Played, command: str) -> Events:

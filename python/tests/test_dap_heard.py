@@ -216,7 +216,7 @@ def messages_in(data: bytes) -> list[dict[str, Any]]:
 
 
 def told_of_work(command: str, shows: bool, told: int, refuses: bool = False) -> list[dict[str, Any]]:
-    """The messages to an editor about work on a request that ends after this many messages. `shows` says whether the
+    """The messages that an editor gets about the work on a request. The work ends after `told` messages. `shows` says whether the
     editor shows progress."""
     written = io.BytesIO()
     with patch.object(working, "LATE", 0.05 if told else 60), patch.object(working, "AGAIN", 0.05):

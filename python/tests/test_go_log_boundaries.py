@@ -315,7 +315,7 @@ def test_the_status_of_recovered_runs(statuses: str, ends: int, monkeypatch: Pat
 def test_the_recordings_of_a_run_s_processes(
     outcomes: str, is_ok: bool, count: int, suspected: bool, says: str, monkeypatch: Patch, capsys: Output
 ) -> None:
-    """A log's recording is accepted (t), also with a suspect (s), refused (r), unwritten (w), or empty (e)."""
+    """A log's recording is accepted (t), accepted with a suspect (s), refused (r), unwritten (w) or empty (e)."""
 
     def convert(log: Path, name: Path, go: object, wish: object, hear: object) -> Made:
         if log.name == "w":

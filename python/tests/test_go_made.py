@@ -1,5 +1,5 @@
-"""Made-up logs become lines, which nrdb reads: the places where channels are made, also at a reused address, and dials that
-fail. Other tests are about the functions that belong to the recorder itself. No program is needed."""
+"""Tests the lines made from made-up logs, and that nrdb reads them: where channels are made, even if one reuses another's
+address, and which dials fail. Other tests are about the functions that belong to the recorder itself. No program is needed."""
 
 import errno
 import json

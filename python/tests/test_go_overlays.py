@@ -1,5 +1,5 @@
 """The recorder's rules still fit Go 1.19 and 1.27: each changed file has the stored checksum (this repository contains
-no source of Go). For changes planted into Go, the stored lines say what isn't recorded. It needs the Go that
+no source of Go). For each test change to Go's source, stored lines say what isn't recorded. It needs the Go that
 netrev_go.fetching fetches.
 
     /usr/bin/python3 python tests.test_go_overlays    stores new checksums and lines"""

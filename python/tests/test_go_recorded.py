@@ -84,7 +84,7 @@ def cell(point: Point, field: str, value: int, begin: int, names: Names) -> str:
 
 
 def lines_of(points: list[Point], log: Log, names: Names) -> Iterator[str]:
-    """A line for each point of a goroutine of the program, and of the notes."""
+    """A line for each point of one of the program's goroutines, each note, and each timer that fires."""
     for point in points:
         is_noted = Kind.NOTED <= point.kind <= Kind.NOTED_NAMED
         if point.goroutine or is_noted or point.kind == Kind.FIRE:

@@ -217,7 +217,7 @@ class Trials(unittest.TestCase):
         self.assertEqual(incomplete(log.made(), ""), "")
 
     def ready(self, version: str, came: Trial, without: list[str]) -> tuple[str, int]:
-        """The message about a Go if its trial has this result, and how many trials run if that Go is prepared twice."""
+        """The message about a Go whose trial has this result, and how many trials run if that Go is prepared twice."""
         go, said = Go("go", pathlib.Path("/nowhere"), version, "linux/amd64", ""), io.StringIO()
         keeps: list[Trial] = []
 

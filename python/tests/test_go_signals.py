@@ -141,7 +141,7 @@ def killed(stand_in: StandIn) -> None:
     (stand_in.folder / "end").touch()
     running.communicate(
         timeout=PATIENCE
-    )  # returns when the program has ended too, because the program has the same output
+    )  # returns only after the program has ended, because it writes to the same pipes
 
 
 def test_a_run_whose_netrev_go_is_killed_is_offered_and_recovered(folder: Path) -> None:

@@ -1,4 +1,4 @@
-"""`netrev-go test`: the tests that ran, their sockets, the recordings that are kept, and the output. A stand-in for Go leaves a made-up log
+"""`netrev-go test`: the tests that ran, their sockets, the recordings that are kept, and the output. A stand-in for Go writes a made-up log
 and its tests. Neither Go nor netrev is needed."""
 
 import contextlib

@@ -1,5 +1,5 @@
 """A connection's only reader, a goroutine, has ended while bytes still arrive. An io.ReadFull waits for
-the rest of its bytes; its next Read asks for this rest, and so shows how many bytes have come."""
+the rest of its bytes. Its next Read asks only for the missing bytes, and so shows how many have come."""
 
 import unittest
 from typing import Any

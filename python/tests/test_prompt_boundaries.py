@@ -131,7 +131,7 @@ def test_completions_of_a_line(words: str, found: list[str]) -> None:
 
 
 def test_a_terminal_completes_the_word_before_the_cursor(session: Session) -> None:
-    """readline asks for one candidate after the other, until none is left."""
+    """readline asks for the candidates one by one, until none is left."""
     rows: list[tuple[str, list[str]]] = [
         ("reverse-st", ["reverse-stepi "]), ("info sus", ["suspects "]), ("print gor ", ["0 "]), ("zzz", []), ("info zzz", []), ("goto main.go:46", ["main.go:46 "]),
     ]  # fmt: skip

@@ -28,7 +28,7 @@ def test_a_netrev_that_was_lent_looks_first_and_is_given_back() -> None:
     assert [one.has_ended for one in opened] == [False, True]
     assert (
         scout.values(7, ["gor 0"]) and len(opened) == 3
-    )  # (`scout` gave the lent netrev back, and had to start the third)
+    )  # (`scout` had returned the first netrev, `lent`, and had to start a third)
     scout.drop()
     assert [one.has_ended for one in opened] == [False, True, True]
 

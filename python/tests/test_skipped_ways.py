@@ -1,5 +1,5 @@
-"""Paths that skip what should be done: in functions of a few lines, and in the recordings of tools/go/samples/skips, where each rule names
-its line in the first cause, and says nothing if the recording doesn't agree."""
+"""Tests the rules about paths that skip a needed call, on functions of a few lines and on the recordings of tools/go/samples/skips. In each
+of these recordings, a rule names its line in the first cause. It says nothing if the recording doesn't agree."""
 
 import re
 from pathlib import Path
@@ -218,7 +218,7 @@ def test_no_way_is_named_without_the_source(name: str) -> None:
 
 
 def with_often(name: str, what: str, often: int) -> Recording:
-    """A recording in which each goroutine did this `often` more times."""
+    """A recording in which each goroutine did `what` more times: `often` is added to each count."""
     recording = stored(f"{name}-bad")
     for uses in recording.lines.uses.values():
         uses[:] = [one._replace(often=one.often + often) if one.what == what else one for one in uses]

@@ -554,7 +554,7 @@ def random_step(dice: random.Random, world: World) -> Step:
 
 @pytest.mark.parametrize("hunt, steps, lines", ROWS)
 def test_row(hunt: str, steps: Steps, lines: list[str]) -> None:
-    """Checks the lines of a row's hunt. Other hunts must have no lines, except those in TOGETHER with this hunt."""
+    """Checks the lines of a row's hunt. Other hunts must have no lines, unless TOGETHER pairs them with this hunt."""
     end = f"ok {len(steps)} steps"
     assert suspects(text_of(steps), Observer(), [hunt]) == ([*lines, end], True)
     others = [other for other in HUNTS if other != hunt and (hunt, other) not in TOGETHER]

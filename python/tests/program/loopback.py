@@ -464,8 +464,8 @@ def test_altered(parked, lives, dice):
 
 
 def expect_no_other(recording, exchanged, has_one_place):
-    """Checks that a history exists. Then alters replies, one at a time, to lines that can have only one place in a
-    history, and checks that no history exists."""
+    """Checks that a history exists. For each line that can have only one place in a history, then alters its
+    reply alone, and checks that no history exists."""
     history_of(recording, exchanged)
     for front, exchanges in enumerate(exchanged):
         for at, one in enumerate(exchanges):

@@ -2,14 +2,14 @@
 
 Two callers, each at its own front, send fixed lines one after the other, so the right replies are known: first over a
 short recording, which one worker searches, then over a recording of more than three thousand steps, which three workers
-search. In the second case, the allocations before callers are served aren't refused, because they are like those in the
-first case. The allocations come in the same order each time, except those of threads that are starting. Several
+search. The second case refuses only allocations that are made while callers are served, because the earlier ones are like
+those in the first case. The allocations come in the same order each time, except those of threads that are starting. Several
 sessions run at the same time. The tests refuse allocations with ever higher numbers. They stop when the last AT_A_TIME
 sessions had no allocation to refuse. A refused allocation must be reported once, and in one of these ways:
 
 - before a caller is served, as `fault 108 memory`, with status 1;
-- in place of a reply to a query, or to a line that first has to complete another front's search, as
-  `fault 301 memory`, after which the line is sent again;
+- as `fault 301 memory` in place of a reply, if the line is a query or first has to complete another front's search; the
+  line is then sent again;
 - in place of a reply to a search, as `fault 302 memory, placed N`; then only `resume` gives the reply;
 - at the end in place of `placed K`, as `fault 108 memory` with status 1.
 

@@ -150,7 +150,7 @@ class Server:
         return self.process.poll() is not None
 
     def call(self, front, **options):
-        """A socket connected to the front, as soon as the front listens; None if netrev has ended before."""
+        """Connects to the front as soon as it listens, and returns the socket, or None if netrev ends first."""
         limit = time.monotonic() + PATIENCE
         while time.monotonic() < limit:
             caller = socket.socket()

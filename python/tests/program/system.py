@@ -154,7 +154,7 @@ FULL = opened("/dev/full", os.O_WRONLY)
 class Case:
     """A call of netrev with `word` and FILE, and its expected end. `input` is bytes, one of the above states, or
     CLOSED. Standard output goes to `into`, and is read if that is None. `memory` limits the address space. `beside`
-    limits it too: to what loading the program takes, and this much more."""
+    limits the address space to this many bytes more than loading the program takes."""
 
     name: str
     word: str

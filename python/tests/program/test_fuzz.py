@@ -161,7 +161,7 @@ class Pressing(unittest.TestCase):
         self.came += 1
 
     def give_up(self, happens):
-        """Sends netrev a line while its session is being given up, and ends netrev."""
+        """Sends netrev a line, checks that this raises GivenUp, and ends netrev."""
         interrupts = Interrupts()
         with confined():
             netrev = Slow(NETREV, str(EXAMPLE), interrupts, happens)

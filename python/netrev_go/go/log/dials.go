@@ -1,4 +1,4 @@
-// This file has netrev's points at failed dials. In an overlaid Go, these functions are appended to net/sock_posix.go.
+// This file logs netrev's points for failed dials. In an overlaid Go, these functions are appended to net/sock_posix.go.
 
 package net
 

@@ -1,4 +1,4 @@
-// This file has netrev's points at a Mutex. In an overlaid Go, these functions are appended to Go's mutex.go. If there is a log, all
+// This file logs netrev's points for a Mutex. In an overlaid Go, these functions are appended to Go's mutex.go. If there is a log, all
 // calls take Go's slow paths, which have the points, so that the fast paths are inlined as before. None of these
 // functions is on the stack of a goroutine that waits.
 

@@ -37,7 +37,7 @@ const (
 	netrevDeadlineCallKind   = 142 // not a note: a is the mode, b the deadline, and c the lock word, to which the call had a reference
 )
 
-// How far a goroutine has come in a wait.
+// The stages of a goroutine's wait.
 const (
 	netrevIsOutside = iota
 	netrevIsEntering
@@ -145,7 +145,7 @@ func netrevRowOf(pd uintptr, isNew bool) *netrevRow {
 	return nil
 }
 
-// netrevInside records that a goroutine has reached a place in a wait. The wait begins there if `since` is a time.
+// netrevInside records that a goroutine has reached a stage of a wait. If `since` isn't 0, it is the time at which the wait begins.
 func netrevInside(pd *pollDesc, mode int32, place, goid, stack uint64, since int64) {
 	if netrevRows == 0 {
 		return

@@ -215,7 +215,7 @@ func netrevTimerStopped(c *hchan) {
 	}
 }
 
-// Logs that a goroutine adds to a WaitGroup, or calls Done.
+// Logs a goroutine's call of Add or Done on a WaitGroup.
 //
 //go:linkname sync_runtime_netrevGroup sync.runtime_netrevGroup
 func sync_runtime_netrevGroup(group unsafe.Pointer, delta, count int64) {

@@ -1,4 +1,4 @@
-// This file has netrev's points at an RWMutex that is locked for reading. (For writing, it has a Mutex as its first field.) In an
+// This file logs netrev's points for read locks of an RWMutex. (Write locks use the Mutex in the RWMutex's first field.) In an
 // overlaid Go, these functions are appended to sync/rwmutex.go.
 
 package sync

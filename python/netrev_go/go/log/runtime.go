@@ -86,7 +86,7 @@ const (
 	netrevTimedOthers   = 0x3f<<1 | 1<<8 | 0x1f<<11 | 1<<17
 )
 
-// Marks in arguments of the runtime's own functions: the semaphore is a lock word's, and it is the readers' one.
+// Marks in arguments of the runtime's own functions: the semaphore belongs to a lock word, and it is the one for readers.
 const (
 	netrevSema     = 1 << 20
 	netrevSemaRead = 1 << 21
@@ -484,7 +484,7 @@ func netrevPoll(kind uint64, pd *pollDesc, a, b, c int64) {
 	}
 }
 
-// netrevStep logs a point inside a wait. `place` says how far the goroutine has come in the wait after the point.
+// netrevStep logs a point inside a wait. `place` is the stage of the wait that the goroutine is in after the point.
 func netrevStep(kind uint64, pd *pollDesc, mode int32, seen int64, place uint64) {
 	goid, since := netrevGoroutine(), int64(0)
 	if kind == netrevWaitBegin {
@@ -774,7 +774,7 @@ func poll_runtime_netrevSwap(kind uint64, word *uint64, old, new uint64, bits in
 	return done
 }
 
-// Logs a lock word that was found closed; it is read again, because it stays closed.
+// Logs a lock word that was found closed. The word can be read again here, because a closed word stays closed.
 //
 //go:linkname poll_runtime_netrevClosed internal/poll.runtime_netrevClosed
 func poll_runtime_netrevClosed(kind uint64, word *uint64, bits int64) {

@@ -1,4 +1,4 @@
-// This file has netrev's points at tests: which test runs, ends, fails or is skipped. In an overlaid Go, these functions are appended
+// This file logs netrev's points for tests: which test runs, ends, fails or is skipped. In an overlaid Go, these functions are appended
 // to testing/testing.go. Each is a line of LOG.tests; the log itself has no points for them.
 
 package testing

@@ -158,9 +158,9 @@ var withOrders = map[string]bool{
 	ofObjects: true, ofEnds: true, ofSleeps: true, ofTimers: true, ofStops: true, ofGroups: true, ofMaking: true, ofDials: true, ofHolders: true,
 }
 
-// withoutElse removes three kinds of rules: a rule that doesn't fit, if another rule for the same way fits; the rules of
-// a group that is recorded completely or not at all, if one of them doesn't fit; and the rules of a group that is
-// recorded only with the orders, if the orders aren't recorded.
+// withoutElse removes a rule that doesn't fit if another rule for the same moves fits. If a rule of a group in `together`
+// doesn't fit, it removes the rules of that group that fit. If a rule of the orders doesn't fit, it removes all rules of the
+// groups in `withOrders`.
 func withoutElse(fittings []fitting) []fitting {
 	fits, unfit := map[string]bool{}, map[string]bool{}
 	for _, f := range fittings {

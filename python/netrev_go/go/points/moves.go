@@ -14,8 +14,8 @@ func moved(call, arguments string) []edit {
 	return []edit{one(behind, call, "if netrevOn != 0 { netrevBytes("+arguments+") }")}
 }
 
-// A way is the rule for a function besides FD.Read and FD.Write that moves bytes. If a way doesn't fit a release, that function isn't
-// recorded, but everything else is. If several ways have the same text in `moves`, one of them has to fit.
+// A way is the rule for a function that moves bytes, other than FD.Read and FD.Write. If the rule doesn't fit a release, that function
+// isn't recorded, but everything else is. If several of these rules have the same text in `moves`, one of them has to fit.
 type way struct {
 	rule
 	moves string

@@ -102,7 +102,7 @@ def first_of(said: Iterable[str]) -> str:
 
 
 def misfit_of_message(message: dict[str, Any]) -> str:
-    """The place at which a message of an adapter doesn't fit its form."""
+    """The part of an adapter's message that has the wrong form; empty if all parts are right."""
     head = {"seq": int, "type": str}
     if message.get("type") == "event":
         form = {**head, "event": str, "body?": EVENTS.get(message.get("event", ""), object())}

@@ -12,7 +12,7 @@ import (
 	"github.com/google/go-dap"
 )
 
-// lost returns the place of a value that is in sent but not in known, or an empty text. known may lack zero values.
+// lost returns the place of a value that is in sent but not in known, or an empty string. known may lack zero values.
 func lost(sent, known any, where string) string {
 	switch sent := sent.(type) {
 	case map[string]any:

@@ -61,7 +61,7 @@ class Port(unittest.TestCase):
         return Client(connection.makefile("rb"), connection.makefile("wb"))
 
     def said_to(self, data: bytes) -> bytes:
-        """Everything that nrdb sends to a connection that sends these data and then nothing more."""
+        """Sends these data to nrdb, closes the sending side, and returns everything that nrdb sends back."""
         with self.connect() as connection:
             connection.sendall(data)
             connection.shutdown(socket.SHUT_WR)

@@ -56,7 +56,7 @@ def refused_with(text: str) -> Iterator[bytes]:
 
 
 def where_with(text: str, steps: int) -> str:
-    """A file of source lines that has this text in each of its places."""
+    """A file of source lines with this text in a function's name, in a file's name, and in a value of `of`."""
     call: dict[str, Any] = {"call": 1, "function": f"main.{text}f", "file": f"m{text}.go", "line": 3, "of": "program"}
     library = call | {"call": 2, "of": f"li{text}brary"}
     lines: list[Any] = [{"where": 1, "steps": steps}, call, library, {"stack": 1, "calls": [1, 2], "made": 1}]
