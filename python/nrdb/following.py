@@ -125,7 +125,7 @@ class Stay(Exception):
 
 
 class Goal(NamedTuple):
-    """A destination, and the call that the move passes from beginning to end, if any."""
+    """The position at which a move ends. If the move covers a whole call, `call` is that call."""
 
     position: int
     call: Optional[Call] = None

@@ -25,7 +25,7 @@ class Reference:
 
 
 class Holding(NamedTuple):
-    """A reference during the count in `holders_of`. `number` is the number of the step that took the reference."""
+    """A reference that is held at the step that `holders_of` has reached. `number` is the number of the step that took the reference."""
 
     number: int
     goroutine: int

@@ -15,8 +15,8 @@ class LineStarts:
         self._data = data
         counts = (data.count(b"\n", begin, begin + BLOCK) for begin in range(0, len(data), BLOCK))
         self._before = list(accumulate(counts, initial=0))  # how many line feeds precede each block
-        # for the block used last: the number of line feeds before it, their number up to its end, and their places in
-        # it; then the places of a few blocks
+        # `_first` and `_last` count the line feeds before the block used last and up to its end, `_behind` has the places
+        # after that block's line feeds, and `_kept` has such places for a few blocks
         self._first = self._last = 0
         self._behind = [0]
         self._kept: dict[int, list[int]] = {}

@@ -119,7 +119,7 @@ class Netrev:
 
     def ask_ahead(self, queries: Sequence[str]) -> None:
         """Sends several queries at once. The queries change nothing, and each has a reply of one line. `ask` returns
-        the replies as long as no other line is sent. If a query failed, `ask` raises the error when that reply is
+        these replies, in the same order, until another line is sent. If a query failed, `ask` raises the error when that reply is
         requested."""
         self._begin(list(queries))
         for query in queries:

@@ -188,7 +188,8 @@ def _coming(notes: Notes, d: int, mode: str, error: int) -> Note:
 
 @lru_cache(maxsize=1_024)
 def cell_and_value(line: str) -> tuple[str, int, str]:
-    """The name of a cell, its number, and its value: `info 0 = 8`. (The changes of firings are similar.)"""
+    """The name of a cell, its number, and its value: `info 0 = 8`. The results are cached, because many `fire` steps
+    make the same changes."""
     cell, _, value = line.partition(" = ")
     name, _, which = cell.partition(" ")
     return name, int(which or -1), value

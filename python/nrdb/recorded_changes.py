@@ -134,8 +134,9 @@ class RecordedChanges:
     def nearest(
         self, cells: Sequence[str], are_wanted: Callable[[list[str]], bool], position: int, backwards: bool
     ) -> Optional[int]:
-        """The nearest later (or, with `backwards`, earlier) position just after a change of one of the cells at which
-        `are_wanted` accepts the cells' values; None if no such position exists."""
+        """The nearest later position just after a change of one of the cells; with `backwards`, the nearest earlier one.
+        Positions are skipped unless `are_wanted` accepts the cells' values there. The result is None if no position is
+        left."""
         steps = sorted({step for cell in cells for step in self.steps_of(cell, position if backwards else None)})
         ways = reversed(steps[: bisect_left(steps, position)]) if backwards else steps[bisect_right(steps, position) :]
         return next((step for step in ways if are_wanted(self.values(step, cells))), None)

@@ -141,7 +141,8 @@ def named_cells(step: Step) -> list[str]:
 
 
 def before(program: str, recording: Recording, step: Step) -> list[str]:
-    """The values of the cells that a step names, just before that step. They come from a run of the recording up to it."""
+    """The values of the cells that a step names, just before that step. netrev replays the earlier
+    steps and prints these values."""
     lines = [f"stepi {FAR}", *(f"print {cell}" for cell in named_cells(step))]
     with tempfile.TemporaryDirectory(prefix="nrdb-") as folder:
         cut = os.path.join(folder, "cut.jsonl")

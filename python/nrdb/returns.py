@@ -41,6 +41,7 @@ def frames_from_own(stack: Stack) -> tuple[Call, ...]:
 
 
 def is_within(stack: Stack, frames: tuple[Call, ...]) -> bool:
-    """Whether a stack is within the function of these frames, reached by the same calls."""
+    """Whether a goroutine with this stack is still in the function of `frames[0]`, called by the same callers. It may be in
+    a call that this function made."""
     outer = stack.calls[len(stack.calls) - len(frames) :] if len(stack.calls) >= len(frames) else ()
     return bool(outer) and outer[0].function == frames[0].function and outer[1:] == frames[1:]

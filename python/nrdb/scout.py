@@ -38,7 +38,7 @@ class Scout:
                 raise Lost(f"{error.filename}: {error.strerror}") from None
 
     def drop(self) -> None:
-        """Stops netrev, even in the middle of a query. A netrev that the session lent isn't stopped, only no longer used."""
+        """Stops netrev, even in the middle of a query. A netrev that the session lent keeps running."""
         dropped, self._netrev = self._netrev, None
         if dropped is not None and dropped is not self._lent:
             dropped.drop()

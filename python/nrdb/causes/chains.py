@@ -49,7 +49,8 @@ def is_still_so(index: Index, waiter: Waiter, position: int) -> bool:
 
 def link_says(index: Index, waiter: Waiter, need: Need, is_back: bool, told: list[str]) -> list[str]:
     """The sentences about one goroutine of the chain. `is_back` means that it waits for a goroutine that is already in
-    the chain. The sentences then leave out its need's `how`, and also its `says` if it waits in a call."""
+    the chain. The sentences then leave out `need.how`. If the goroutine waits in a call, they also leave out
+    `need.says`."""
     more = [*need.says, *need.more] if not (is_back and waiter.call) else need.more
     place = place_in(waiter.stack)
     is_told = bool(place) and any(place in line for line in told)

@@ -1,5 +1,5 @@
-"""Selects that another goroutine would end later: that goroutine is in a function, before a line that closes a case's
-channel or cancels a case's context. The lines come from the program's source."""
+"""Selects that another goroutine could end later. That goroutine is in a function that closes a case's channel or
+cancels a case's context, and hasn't done so yet. The lines come from the program's source."""
 
 import re
 from typing import Iterable, Iterator, Optional

@@ -36,7 +36,7 @@ class Waking(NamedTuple):
 
 
 def unsignalled(recording: Recording, wait: Waiting) -> list[str]:
-    """Sentences about functions that change what a Wait's loop tests and wake no goroutine."""
+    """Sentences about functions that change what a Wait's loop tests but call neither Signal nor Broadcast."""
     return [
         f"Perhaps {one.file}:{one.changes} in {one.function} should have woken it: it changes {one.field}, which the loop around the Wait "
         "tests, and that function calls neither Signal nor Broadcast."

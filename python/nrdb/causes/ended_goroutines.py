@@ -60,9 +60,9 @@ def time_of(recording: Recording, step: int) -> int:
 
 
 def ended_where(index: Index, name: Name, known: Optional[Stack] = None) -> str:
-    """Text for the last known place of a goroutine that ended, and for the lines that leave its loop: `, last known at
-    a.go:15 in parse, from whose loop only a.go:18 leads`. The text is empty if the place is unknown, and omits the
-    place if it is the known line."""
+    """Text for the last known place of a goroutine that ended, such as `, last known at a.go:15 in parse`, followed by
+    the text of `ways_out` for its loop. The text is empty if the place is unknown, and omits the place if it is the
+    known line."""
     stack = last_stack(index, name)
     own = [call for call in stack.calls if call.of == OF_THE_PROGRAM and WRAPPED not in call.function] if stack else []
     if not own:
@@ -79,14 +79,15 @@ def ended_where(index: Index, name: Name, known: Optional[Stack] = None) -> str:
 
 
 def loop_words(recording: Recording, stack: Stack) -> str:
-    """The lines that leave the loop in which a goroutine did something, in the form of `ended_where`; empty if the
+    """The lines that leave the loop in which a goroutine did something, in the form of `ways_out`; empty if the
     stack has only one function of the program."""
     own = [call for call in stack.calls if call.of == OF_THE_PROGRAM and WRAPPED not in call.function]
     return ways_out(recording, own[0]) if len(own) > 1 else ""
 
 
 def ways_out(recording: Recording, call: Call) -> str:
-    """The lines that leave the loop around a line, as text; empty if there are many."""
+    """The lines that leave the loop around a line, as text, such as `, from whose loop only a.go:18 leads`; empty if no
+    line or too many lines leave it."""
     leaves, over = leaves_of(recording, call), ranged_over(recording, call)
     ways = " and ".join(f"{call.file}:{number}" for number in leaves)
     lead = f"lead{'s' if len(leaves) == 1 else ''}"

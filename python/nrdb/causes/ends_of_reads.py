@@ -60,7 +60,7 @@ def is_served(index: Index, socket: int, position: int) -> bool:
 
 
 def bound_says(functions: set[str], other: int) -> str:
-    """Text for the bound up to which a Read's callers read: the length of a body, a number of bytes, or the end of the
+    """Text that says how far a Read's callers read: to the end of a body, up to a number of bytes, or to the end of the
     stream."""
     if functions.intersection(OF_A_BODY):
         return "It reads a body of net/http: perhaps fewer bytes came than the header says."

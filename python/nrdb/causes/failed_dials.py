@@ -38,7 +38,7 @@ def failed_dial(index: Index, goroutine: int) -> Optional[UnconnectedSocket]:
 
 
 def refused(recording: Recording, goid: int) -> Optional[FailedDial]:
-    """The last connect of a goroutine that failed: the system refused it, or the goroutine gave it up. The result is
+    """A goroutine's last failed connect: the system refused it, or the goroutine gave it up. The result is
     None if the steps show a later connect that succeeded."""
     failed = recording.lines.failed_dials.get(goid, ())
     number = recording.lines.goroutines[goid].number if goid in recording.lines.goroutines else -1

@@ -20,8 +20,8 @@ def untouched(recording: Recording, wait: Waiting) -> list[str]:
 
 
 def have_ended(recording: Recording, wait: Waiting) -> list[str]:
-    """A sentence which says that only goroutines that have ended did the awaited operation on a channel, and that no
-    goroutine closed the channel."""
+    """A sentence about a channel that no goroutine closed, if all goroutines that did the awaited operation on it have
+    ended."""
     at, lines = wait.objects[0], recording.lines
     uses, what = lines.uses.get(at.object, ()), GIVES.get(at.use, "")
     goids = {use.goid for use in uses if use.what == what}

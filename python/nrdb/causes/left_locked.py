@@ -103,9 +103,10 @@ def leaks_of(lines: Lines, functions: list[Function], field: str) -> list[Leak]:
 
 
 def leak_of(lines: Lines, function: Function, field: str) -> Optional[Leak]:
-    """The first path on which a function returns with the mutex locked. The result is None if unknown: the function
-    defers an unlock, calls another function that unlocks, unlocks first or in a block that doesn't return, or locks in
-    a block that returns."""
+    """The first path on which a function returns with the mutex locked; None if the source shows no such path for
+    certain. For example, the function defers an unlock, or calls another function that unlocks. Or it unlocks before it
+    locks, or in a block that doesn't return. Or it locks in an inner block, and the mutex is still locked after that
+    block."""
     locked, released, number = 0, 0, function.within.start + 1
     while number in function.within:
         text = lines[number - 1].partition("//")[0]

@@ -1,5 +1,5 @@
 """Connections that a function dialed or accepted and left open on one of its paths, so that the other end waits. The
-evidence is where the function's goroutine was later, and the program's source."""
+module infers this from the goroutine's later stack and from the program's source."""
 
 import re
 from typing import Optional
@@ -73,8 +73,8 @@ def left_by(index: Index, opened: Call, line: LineCall) -> list[str]:
 
 
 def without_users(recording: Recording, file: str, name: str, statement: str) -> str:
-    """A statement. If it passes a value to a function of the package that only uses the value, the arguments of that
-    call are removed."""
+    """A statement, without the arguments of calls that only use a value. Such a call passes the value to a function of
+    the package that doesn't close, keep or pass on the value."""
 
     def shortened(call: "re.Match[str]") -> str:
         arguments = [one.strip() for one in call[2].split(",")]

@@ -139,7 +139,7 @@ class MutexHolders:
         return Need([says, *returns_locked(self._recording, call)], is_odd=True, gone=holder.name)
 
     def _of_nobody(self, wait: Waiting) -> Need:
-        """The need, if no goroutine holds the mutex. If the waiter has waited for more than a moment, the mutex may be
+        """What a goroutine needs if no goroutine holds the mutex. If the waiter has waited for more than a moment, the mutex may be
         a copy of a locked mutex."""
         times = self._recording.lines.times
         if not times or times[-1] - wait.begin < A_MOMENT:

@@ -140,7 +140,7 @@ class Needs:
 
     def _sibling_of(self, wrote: Call) -> Optional[Name]:
         """A waiting goroutine that perhaps writes the answer. A goroutine that has ended wrote an earlier answer, and
-        the reader of the requests started both goroutines by the same `go` statement."""
+        the reader of the requests started both goroutines at the same `go` statement."""
         lines = self._recording.lines
         known = lines.goroutines.get(lines.goid_of(wrote.goroutine, wrote.first))
         if known is None or known.made is None or known.last < 0 or not known.maker:

@@ -103,7 +103,7 @@ class NeedsOfChannels:
         )
 
     def _of_slots(self, wait: Waiting) -> Optional[Need]:
-        """What a goroutine needs if no slot of a semaphore has been given back yet: a goroutine that has one."""
+        """What a goroutine needs while it waits for a slot of a semaphore. The need names a goroutine that holds a slot."""
         key = "slots", wait.stack.own(), wait.objects
         need = self._once(
             key, lambda: of_slots(self._recording, wait._replace(name=NOBODY), self._stacks, self._waiters)
@@ -159,11 +159,11 @@ class NeedsOfChannels:
         return bool(wait.objects) and all(at.use for at in wait.objects) and not any(one.last >= since for one in given)
 
     def _made_since(self, wait: Waiting) -> int:
-        """The earliest step after which the channel that a goroutine waits on was made."""
+        """A step before which a goroutine's channel was made; 0 if unknown. The results of `made_since` are cached here."""
         return self._once((wait.name, wait.objects, "made"), lambda: made_since(self._recording, wait))
 
     def of(self, wait: Waiting) -> Need:
-        """What a goroutine needs from its channels: the last goroutine that did the awaited operation."""
+        """What a goroutine needs from its channels, if possible from the last goroutine that did the awaited operation."""
         is_one = len(wait.objects) == 1
         since = self._made_since(wait)
         given = [one for at in wait.objects for one in self._given(at) if one.name != wait.name and one.last >= since]
@@ -206,7 +206,7 @@ class NeedsOfChannels:
         return ended_giver(index_of(self._recording), wait) or Need([])
 
     def _of_the_past(self, wait: Waiting, given: list[Given], closing: Optional[Need]) -> Need:
-        """What a goroutine needs if no waiting goroutine did the awaited operation: the last goroutine that did."""
+        """What a goroutine needs if no waiting goroutine did the awaited operation. The need says which other goroutine did it last, if any."""
         for one in given:
             loop = loop_words(self._recording, one.stack) if has_ended(self._recording, one.name) else ""
             did = f"{str(one.name).capitalize()} {GIVES_WORDS[one.what]}{place_in(one.stack)} (step {one.last}{loop})"

@@ -13,8 +13,9 @@ from .source_functions import range_of, source_of, text_at
 
 
 def made_since(recording: Recording, wait: Waiting) -> int:
-    """The step after which a goroutine's channel was made, if the waiting function makes the channel: the first step of
-    the function's next Write, unless that Write is in a loop; else 0."""
+    """A step before which a goroutine's channel was made; 0 if unknown. The waiting function makes the channel, then
+    calls Write, and then waits on the channel. The result is the first step of that Write. It is 0 if the Write or the
+    wait is in a loop that begins after the channel is made."""
     own = wait.stack.own()
     if recording.lines.made or not own or own[0].of != OF_THE_PROGRAM or len(wait.objects) != 1 or wait.name.is_goid:
         return 0  # (if the recorder saw channels being made, a channel at a reused address is a new object)

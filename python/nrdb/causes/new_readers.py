@@ -134,8 +134,8 @@ def is_buffered(stack: Stack) -> bool:
 
 
 def own_reader(index: Index, frame: LineCall) -> int:
-    """The line of a function that makes a reader for a variable of its own and doesn't pass the reader on; 0 if no line
-    does."""
+    """The line at which a function makes a reader, if the function assigns the reader to a variable and doesn't pass it
+    on; else 0."""
     source, made = source_of(index.recording, frame.file), maker_line(index, frame)
     within = range_of(source, frame) if source else None
     if not source or not made or not within:
@@ -146,7 +146,7 @@ def own_reader(index: Index, frame: LineCall) -> int:
 
 
 def maker_line(index: Index, own: LineCall) -> int:
-    """The first line of a function that makes a reader, no later than the line that reads; 0 if no line does."""
+    """The line at which a function first makes a reader; 0 if it makes none before or at the line that reads."""
     source = source_of(index.recording, own.file) if own.of == OF_THE_PROGRAM else None
     within = range_of(source, own) if source else None
     numbers = range(within.start, own.line + 1) if within else range(0)

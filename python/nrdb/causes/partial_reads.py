@@ -1,5 +1,6 @@
-"""Reads whose count the program perhaps ignores, found in the program's source. A goroutine waits to read. Lines of its
-function call Read only once for a slice of exactly the wanted length, although a Read returns whatever has arrived."""
+"""Reads whose count the program perhaps ignores, found in the program's source. A goroutine waits to read. Its
+function has a line that calls Read only once, with a slice of exactly the wanted length, although a Read returns
+whatever has arrived."""
 
 import re
 from typing import Optional
@@ -22,8 +23,8 @@ MOST = 2
 
 
 def partial_reads(index: Index, call: Call) -> list[str]:
-    """Sentences about a waiting Read. The sentences name lines of the functions on the Read's stack that call Read only
-    once. Such a line has read from the socket before, or it reads into a slice whose length the line names or the
+    """Sentences about a waiting Read. The sentences name lines that call Read only once, in functions on the Read's
+    stack. Such a line has read from the socket before, or it reads into a slice whose length the line names or the
     program computed."""
     passed = {
         (one.function, one.line)

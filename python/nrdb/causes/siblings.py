@@ -65,8 +65,8 @@ def lines_of(recording: Recording) -> Lines:
 
 
 def kinds_of(recording: Recording, did: Collection[int]) -> list[Kind]:
-    """The `go` statements whose goroutines differ: some did something, and others didn't. The statement with the most
-    goroutines that did it comes first."""
+    """The `go` statements whose goroutines differ: some are in `did`, and others aren't. The statement with the most
+    goroutines in `did` comes first."""
     found: dict[Call, Kind] = {}
     for goid, known in recording.lines.goroutines.items():
         if known.made and known.made.of == OF_THE_PROGRAM:

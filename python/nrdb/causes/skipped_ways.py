@@ -183,7 +183,8 @@ def name_of(text: str) -> str:
 
 
 def is_missing(head: str, now: State) -> bool:
-    """Whether a path has taken something, and a block runs only if something was taken, as in `if c != nil`."""
+    """Whether a path can't pass by a block: the path has taken something, and the block's condition tests for that, as
+    in `if c != nil`."""
     return now.is_open and IS_THERE.match(head) is not None
 
 

@@ -65,13 +65,13 @@ def is_last_line(recording: Recording, call: Call, number: int) -> bool:
 
 
 def is_of_one_line(text: str) -> bool:
-    """Whether a function begins and ends in one line."""
+    """Whether a function begins and ends on the same line."""
     code = text.partition("//")[0].rstrip()
     return code.startswith("func ") and code.endswith("}") and code.count("{") == code.count("}")
 
 
 def is_literal_of_one_line(text: str) -> bool:
-    """Whether a function literal begins and ends in one line."""
+    """Whether a function literal begins and ends on the same line."""
     code = text.partition("//")[0]
     return "func(" in code and code.count("{") == code.count("}") > 0
 

@@ -103,8 +103,8 @@ def inside(source: Lines, stack: Stack, file: str, closings: list[Closing]) -> O
 
 
 def closes_in_its_loop(source: Lines, stack: Stack, file: str, closings: list[Closing]) -> Optional[Closing]:
-    """The line in a loop at which a goroutine closes a channel later. The goroutine is in the line's function, and may
-    have passed the line already."""
+    """A line in a loop that closes a channel, and that a goroutine can still reach. The goroutine is in the line's
+    function, and may have passed the line already."""
     for call in stack.calls:
         for closing in closings:
             if call.file == file and call.line in closing.within and is_inside(source, call, closing.within):
@@ -114,8 +114,8 @@ def closes_in_its_loop(source: Lines, stack: Stack, file: str, closings: list[Cl
 
 
 def ended_in(recording: Recording, file: str, closing: Closing) -> str:
-    """Text that names the last line before a close that any goroutine passed in the closing function; empty if no
-    goroutine passed one."""
+    """Text that says how far goroutines got in a function toward the line that closes a channel. It names the last
+    line before the close that any of them passed, and is empty if none passed such a line."""
     passed = {
         call
         for stack in recording.lines.stacks.values()

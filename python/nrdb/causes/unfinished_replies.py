@@ -77,8 +77,8 @@ def parts_of(index: Index, wrote: Call, now: Call) -> Iterator[Part]:
 
 
 def loops_of(lines: Lines, call: LineCall) -> Iterator[Part]:
-    """The loops of a function, up to a line, that write only on some of their paths; none if a later line writes the
-    end of the reply."""
+    """The loops of a function that begin before a line and write only on some of their paths. A loop is left out if a
+    line after it writes, because that line may write the end of the reply."""
     within = range_of(lines, call) or range(0)
     for head in (number for number in within if number < call.line and LOOP.match(code(lines, number))):
         body = list(body_of(lines, head))

@@ -47,9 +47,9 @@ def unpassed_ends(index: Index) -> Iterator[UnpassedEnd]:
 
 
 def last_write_of_relay(index: Index, met: Call) -> Optional[Call]:
-    """The last Write of a relay after the last Read that got something. The relay's Reads are all on one socket, its
-    Writes are all on another, and its last call is this Read. The result is None if the goroutine isn't such a
-    relay."""
+    """A relay's last Write, if it came after the relay's last Read that got something. The relay's Reads are all on one
+    socket, its Writes are all on another, and its last call is this Read. The result is None if the goroutine isn't
+    such a relay."""
     calls = [one for one in index.by_goroutine[met.goroutine] if one.name in MOVING]
     reads, writes = ([one for one in calls if one.name == name] for name in MOVING)
     if not writes or calls[-1] is not met or len({one.socket for one in reads}) > 1 or not is_over(index, met):

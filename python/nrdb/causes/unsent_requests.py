@@ -93,8 +93,8 @@ def is_of_program(recording: Recording, use: Use) -> bool:
 
 
 def step_before(recording: Recording, last: Use) -> int:
-    """The step after which the same goroutine last handed over an earlier request from the same line; 0 if it never
-    did."""
+    """The step after which the same goroutine handed over its previous request from the same line; 0 if this request
+    is the first."""
     lines, own = recording.lines, recording.lines.stacks[last.stack].own()
     steps = [
         step

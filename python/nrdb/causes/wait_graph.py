@@ -1,5 +1,5 @@
 """The wait-for graph at the end of a recording: each waiting goroutine, the goroutine for which it waits, and the
-roots, for which all of them finally wait. If several goroutines could end a wait, the graph has only one of them."""
+roots at which the chains of waits end. If several goroutines could end a wait, the graph has only one of them."""
 
 from collections import defaultdict
 from functools import lru_cache
@@ -175,16 +175,17 @@ class WaitGraph:
 
     def _cause_of_root(self, waiter: Waiter) -> Hashable:
         """The key of a root; roots with the same key form one hang. If the root waits for an ended goroutine, the key
-        is that goroutine. Otherwise it is the line, what the root waits for, and the need's `how`; or the root itself
-        if its stack is unknown."""
+        is that goroutine. Otherwise the key consists of the root's line, what the root waits for, and `need.how`. If
+        the root's stack is unknown, the key is the root itself."""
         need = self.needs[waiter.name]
         if need.gone:
             return need.gone
         return (kind_of(self.recording, waiter), need.how) if waiter.stack.calls else waiter.name
 
     def _ring(self, ring: list[Name]) -> Hang:
-        """The hang in which goroutines wait for one another. If all of them wait for mutexes, the hang also includes
-        goroutines that wait for a member and perhaps hold a mutex that a member needs."""
+        """The hang in which goroutines wait for one another. If all of these goroutines wait for mutexes, others
+        may belong to the hang too: each of them perhaps holds a mutex that a goroutine of the hang needs, and itself
+        waits for a mutex that another goroutine of the hang holds."""
         every = list(ring) if all(is_at_mutex(self.waiters[name]) for name in ring) else []
         for name in every:
             others = [other for other in self.needs[name].others if other not in every and other in self.edges]

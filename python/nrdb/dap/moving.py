@@ -166,7 +166,7 @@ class Moves:
         return Stop("pause", f"at {position}")
 
     def _bound(self, forwards: bool, target: Optional[int]) -> Optional[int]:
-        """The position at which a move ends at the latest; None if only a mark or the end stops it."""
+        """The position at which a move stops if no mark stops it earlier; None if only a mark or the end stops it."""
         position = self._debuggee.position
         filtered = self._filters.nearest(position, forwards)
         places = self._go_lines.nearest(position, forwards), self._session.breaks.nearest(position, forwards)

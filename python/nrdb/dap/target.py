@@ -27,8 +27,8 @@ OF_ATTACH = ("program", "address", "source", "sourceRoot", "goRoot", TOKEN)
 @dataclass(frozen=True)
 class Launch:
     """The arguments of a launch: the recording, the position of the first stop, and the folders of the program's source
-    and of Go. If `goes_first`, the program's lines are shown before the recording's lines. An attach request gives the
-    address of a shared session, and no first stop."""
+    and of Go. If `goes_first`, the program's lines are shown before the recording's lines. For an attach request,
+    `address` is the address of a shared session, and `stop_at` is None."""
 
     recording: str
     stop_at: Optional[int | str]

@@ -131,8 +131,9 @@ def ends_of(script: Script) -> dict[tuple[int, str], set[int]]:
 
 
 def reason_of(script: Script, failed: Failed, steps: list[Made]) -> Optional[Reason]:
-    """The reason why a call failed in a schedule. The result is None if the failure isn't worth reporting: a future
-    deadline that was set for this call alone would pass in the recorded order too if the bytes came late."""
+    """The reason why a call failed in a schedule. The result is None if no step explains the failure, or if the
+    failure isn't worth reporting because a future deadline was set for this call alone. Such a deadline would pass in
+    the recorded order too if the bytes came late."""
     if failed.why is Why.BROKEN:
         return Reason(failed.step, 0)
     call = script.goroutines[failed.goroutine][failed.begins]

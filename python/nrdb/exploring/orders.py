@@ -44,8 +44,8 @@ def orders_of(goroutines: list[list[Operation]], pairs: Optional[Pairs]) -> Opti
 
 class Waiting:
     """The goroutines and sockets that wait for a goroutine. When that goroutine continues, the waiting goroutines check
-    again at once, and the network checks again for its sockets when its action is due. If all of them would only wait
-    again, the checks are skipped, and only their order is updated."""
+    again at once. The network checks again for the waiting sockets when the network's action is due. If all of them
+    would only wait again, the checks are skipped, and only their order is updated."""
 
     def __init__(self) -> None:
         self.first: list[int] = []  # goroutines
@@ -102,11 +102,11 @@ class Waiting:
 
 
 class Passing:
-    """How many orders each goroutine has met so far, and the goroutines and sockets that wait for each goroutine."""
+    """For each goroutine, how many of its orders have been satisfied so far, and which goroutines and sockets wait for it."""
 
     def __init__(self, orders: Optional[list[list[Order]]], causes: list[Cause], places: list[Place]) -> None:
         self.orders, self.causes, self.places = orders, causes, places
-        self.passed = [0] * len(places)  # for each goroutine, the number of its orders that are met
+        self.passed = [0] * len(places)  # for each goroutine, how many of its orders have been satisfied
         self.caused = 0  # the number of causes that have been made
         self.waiting: dict[int, Waiting] = {}
 

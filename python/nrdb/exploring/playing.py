@@ -1,6 +1,6 @@
 """Runs a script under a schedule. Time is counted in steps of the recording. A recorded step is due at the time at
-which it was made, or later if its goroutine is delayed; any other step is due at once. An action that isn't due waits,
-and so do a goroutine that sleeps and a step whose object doesn't exist yet."""
+which it was made, or later if its goroutine is delayed; any other step is due at once. An action waits until
+it is due. A goroutine waits while it sleeps, and a step waits until its object exists."""
 
 from heapq import heappop, heappush
 from typing import Optional
@@ -90,7 +90,7 @@ class Player(Standing):
         self.following[g], self.coming[g] = step, number
         due = float(number)
         if not number and g not in self.off and next_number(operations, place) == NEVER:
-            due = self.script.length + 1.0  # the recording ended, so it doesn't have what the goroutine did then
+            due = self.script.length + 1.0  # the recording ends before this step
         elif number in self.until:
             due = max(due, self.until[number])
             self.held[g] = due

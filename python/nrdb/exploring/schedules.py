@@ -85,7 +85,7 @@ def touched(script: Script) -> dict[Thing, list[Touched]]:
 
 
 def single_delays(script: Script) -> list[Delay]:
-    """All delays of a step until a step of another actor, nearest first."""
+    """All delays that make a step wait for a later step of another actor, nearest first."""
     by_distance: list[set[Delay]] = [set() for _ in range(NEAR)]
     for steps in touched(script).values():
         for at, one in enumerate(steps):

@@ -227,8 +227,9 @@ def _finish(operations: list[Operation], is_at_rest: bool) -> None:
 
 
 def _end(operations: list[Operation], open_ones: list[int], at: int) -> None:
-    """Sets where a goroutine continues after a failure. If an operation fails that the operation at `at` ends, the
-    goroutine continues after `at`. If a try between the two fails, it continues with `at`."""
+    """Sets where a goroutine continues after a failure. The operation at `at` ends an earlier operation. If that
+    earlier operation fails, the goroutine continues after `at`. If a try between these two operations fails, the
+    goroutine continues with `at`."""
     ending = operations[at]
     for begun in reversed(open_ones):
         one = operations[begun]

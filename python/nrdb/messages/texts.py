@@ -9,7 +9,7 @@ MAGIC = {  # formats by their first bytes
     b"\xd4\xc3\xb2\xa1": "this is a packet capture (pcap); a recording is text, one line of JSON a step",
     b"PK": "this is a zip archive: unzip it first",
 }
-GO_NAMES = {  # functions of Go that were given in place of a kind
+GO_NAMES = {  # names of Go functions that users write in place of a kind, each with a hint
     "netpollblock": "its steps are blockarm, blockcheck, parkcommit and blockswap",
     "netpollblockcommit": "did you mean parkcommit?",
     "netpollunblock": "it is part of pollevent, setdeadline, evict and fire",

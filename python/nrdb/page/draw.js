@@ -121,7 +121,7 @@ function drawHead(row, y, wide) {
   if (!row.isFolded) X.fillText(row.said, from, middle);
 }
 
-// Draws a row's calls. The row's connection is folded, so they are drawn in its head.
+// Draws a row's calls in the head of the row's connection, because that connection is folded.
 function drawFolded(row, y, wide) {
   let last = -1;
   for (const call of callsIn(row, V.from, V.from + V.span)) {

@@ -11,7 +11,7 @@ function drawStandAbove(x) {
   X.fillRect(x - 1, 2, 3, 34);
 }
 
-// Shows the session's new position. With `follows`, also chooses it.
+// Shows the session's new position. With `follows`, also chooses that position.
 function stand(position, follows) {
   D.position = position;
   if (follows) choose(position, true);

@@ -30,7 +30,7 @@ class Kept(NamedTuple):
         return not self.is_gone and is_of_close and bool(self.pause or self.age)
 
     def suspect(self, run: Run, how: str, open_and_closed: tuple[Weight, Weight]) -> Suspect:
-        """The suspect about the reference. `how` says how the reference is held, and the weights are for an open and
+        """A suspect that reports this reference. `how` says how the reference is held, and the weights are for an open and
         for a closed socket."""
         (g, step, kind, side), s, notes = self.hold, self.socket, run.notes
         lock = f" {NAMES[side]}" if side else ""

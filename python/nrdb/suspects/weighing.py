@@ -71,8 +71,8 @@ def call_of_poll(recording: Recording, step: int) -> str:
 
 
 def of_a_goroutine(run: Run, suspect: Suspect) -> Suspect:
-    """Weighs a suspect about a goroutine that was woken for nothing, or not woken at all, by whether the goroutine
-    hangs for that reason."""
+    """Adjusts the weight of a suspect whose goroutine was woken for nothing, or not woken at all. The weight depends on
+    whether the goroutine hangs for that reason."""
     g, d = suspect.goroutine, suspect.descriptor
     if g is None or d is None:
         return suspect
@@ -99,7 +99,7 @@ def hangs(run: Run, g: int, d: int) -> str:
 
 
 def of_a_deadline(run: Run, passed: OfDeadline, suspect: Suspect) -> Suspect:
-    """Weighs a suspect about a deadline that passed. It weighs more if a call timed out because of that deadline."""
+    """Raises the weight of a suspect if a call timed out because of the suspect's deadline, which has passed."""
     due = passed.descriptor, passed.side, passed.setting
     for timeout in run.facts.timeouts.values():
         if (timeout.descriptor, timeout.side, timeout.setting) == due:

@@ -9,8 +9,9 @@ from ..messages import browsers as texts
 from .requests import Request, Rejected
 
 LONGEST_HEAD = 8_192  # the maximum number of bytes before a body
-IN_TIME = 5.0  # the seconds for the arrival of a request, and for the acceptance of a part of the response
-TAKEN_STILL, STILL = 65_536, 0.3  # the maximum number of bytes read after a response, and the seconds for reading them
+IN_TIME = 5.0  # how many seconds a request may take to arrive, and a part of the response to be accepted
+# after a response: the maximum number of bytes read, and how many seconds this may take
+TAKEN_STILL, STILL = 65_536, 0.3
 PLAIN, JSON, EVENT_STREAM = "text/plain; charset=utf-8", "application/json", "text/event-stream"
 ALWAYS = {
     "Cache-Control": "no-store",

@@ -1,7 +1,8 @@
 """Close without evict: the goroutine that closed a socket hasn't evicted its descriptor, and has paused too long or
 held its reference too long."""
 
-# too long: more than twice the longest pause, or the longest such hold, that ended in this recording
+# A pause or a hold is too long if it lasts more than twice as long as the longest of its kind that ended in this
+# recording.
 
 from typing import Iterator
 

@@ -1,7 +1,8 @@
 """Leaked reference: the goroutine that holds a reference is gone, has paused too long, or has held it too long.
 References that Go's own calls hold over a system call are left out."""
 
-# too long: more than twice the longest pause, or the longest such hold, that ended in this recording
+# A pause or a hold is too long if it lasts more than twice as long as the longest of its kind that ended in this
+# recording.
 
 from typing import Iterator
 
