@@ -34,7 +34,7 @@ OF_KIND = {SENT: PUT, RECEIVED: TOOK, CLOSED: CLOSES, FOUND_CLOSED: ENDED}
     OTHER, VALUE, ROOM, SELECT, CONDITION, SLEEP, MUTEX, READ_LOCK, WRITE_LOCK, WAIT_GROUP, SEMAPHORE, NIL_CHANNEL, NO_CASES,
 ) = range(13)  # fmt: skip
 UNENDED = -1
-GENERATION = 48  # a channel's key counts earlier channels at the same address in its bits from this one on
+GENERATION = 48  # from this bit on, a channel's key counts the earlier channels at its address
 BEHIND = 2**64, 0, 0  # a step after the last point
 
 

@@ -7,7 +7,7 @@ that side. Goroutines that wait for a lock are queued in the order in which they
 - Each stage of a wait; the wait word is nil, ready, wait or the goroutine. A woken goroutine first parks, and then an event, a past
 deadline or the close wakes it.
 - Future deadlines, deadlines that passed while their timers run, and deadlines set in the past; also one timer for both sides.
-- Go's sequences and tags may be in the millions, but the machine's start from their first values. So an event names the use of its
+- Go's sequences and tags may be in the millions, but the machine counts its own from the beginning. So an event names the use of its
 descriptor, and a firing names its timer, and neither has Go's number.
 - Bytes aren't known. The input is empty, because bytes arrive just before the read that gets them; the output is full if a goroutine waits
   to write there, or if a write finds it full later.

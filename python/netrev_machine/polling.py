@@ -96,7 +96,7 @@ def followed(is_running: bool, place: int, before: Sequence[int], now: Sequence[
 
 
 def deadline_of(clock: int, time: int) -> int:
-    """The clock's value at a deadline, whose time is given from now. A time of 0 (no deadline) or below (a past deadline) is returned as it is."""
+    """The clock's value at a deadline that is `time` from now. A `time` of 0 (no deadline) or below (a past deadline) is returned as it is."""
     return min(clock + time, GREATEST_TIME) if time > 0 else time
 
 

@@ -185,8 +185,8 @@ def is_setting(replayed: Replayed, n: int, d: int) -> bool:
 
 
 def lost_wake_ups(replayed: Replayed) -> Iterator[str]:
-    """A line for each goroutine that is parked at the end of the recording, if its side's last event came after the
-    last try there that was answered `again`."""
+    """A line for each goroutine that is parked at the end of the recording, if no try at its side was answered
+    `again` after the side's last event."""
     for d, desc in enumerate(replayed.worlds[replayed.end].descs):
         for side in SIDES:
             parked, event = desc.words[at(side)], owed(replayed, d, side)

@@ -4,7 +4,7 @@
 // The program may run on a machine without netrev-go. A copy is LOG.snapshot, which replaces the previous one and gets
 // that name when it is complete. If no copy can be made, as on a full disk, the empty file LOG.snapshot.failed.ERROR is
 // left: `netrev-go convert` reports it. A handler of the program gets the signal too; without a handler, the signal
-// doesn't end the program. Making a copy takes a few milliseconds, and one more descriptor of the program.
+// doesn't end the program. A copy takes a few milliseconds, in which the program has one more descriptor.
 
 package runtime
 

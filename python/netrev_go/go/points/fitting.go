@@ -158,7 +158,7 @@ var withOrders = map[string]bool{
 	ofObjects: true, ofEnds: true, ofSleeps: true, ofTimers: true, ofStops: true, ofGroups: true, ofMaking: true, ofDials: true, ofHolders: true,
 }
 
-// withoutElse removes a rule that doesn't fit if another rule for the same moves fits. If a rule of a group in `together`
+// withoutElse removes a rule that doesn't fit if another rule with the same `without` fits. If a rule of a group in `together`
 // doesn't fit, it removes the rules of that group that fit. If a rule of the orders doesn't fit, it removes all rules of the
 // groups in `withOrders`.
 func withoutElse(fittings []fitting) []fitting {
