@@ -119,8 +119,8 @@ class Netrev:
 
     def ask_ahead(self, queries: Sequence[str]) -> None:
         """Sends several queries at once. The queries change nothing, and each has a reply of one line. `ask` returns
-        these replies, in the same order, until another line is sent. If a query failed, `ask` raises the error when that reply is
-        requested."""
+        these replies, in the same order, until another line is sent. If a query failed, `ask` raises the error when that
+        reply is requested."""
         self._begin(list(queries))
         for query in queries:
             try:

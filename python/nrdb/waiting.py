@@ -1,6 +1,6 @@
 """`info goroutines`: for each goroutine that is neither idle nor gone, what it does, and what it waits for in the
-poller or elsewhere. This is usually the first query when a program hangs, so a lock is read only once even if a thousand
-goroutines wait for it."""
+poller or elsewhere. This is usually the first query when a program hangs, so a lock is read only once even if a
+thousand goroutines wait for it."""
 
 from functools import cached_property
 from typing import Iterable, Mapping, Optional

@@ -25,8 +25,8 @@ class Need(NamedTuple):
     but say what the Read looks for. `is_odd` means that something is wrong here, such as goroutines of one `go`
     statement that differ in what they did. `gone` is an ended goroutine that once did what is needed now, `ended` are
     goroutines that ended without doing it, and `others` are further candidates for `by`. `is_kept` means that calls
-    took what is needed, ended, and never gave it back, so no waiter has it. `beside` has sentences to add if `by` itself waits for another
-    goroutine."""
+    took what is needed, ended, and never gave it back, so no waiter has it. `beside` has sentences to add if `by` itself
+    waits for another goroutine."""
 
     says: list[str]
     by: Optional[Name] = None

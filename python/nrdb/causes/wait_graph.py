@@ -185,7 +185,7 @@ class WaitGraph:
     def _ring(self, ring: list[Name]) -> Hang:
         """The hang in which goroutines wait for one another. If all of these goroutines wait for mutexes, others
         may belong to the hang too: each of them perhaps holds a mutex that a goroutine of the hang needs, and itself
-        waits for a mutex that another goroutine of the hang holds."""
+        waits, at a mutex, for another goroutine of the hang."""
         every = list(ring) if all(is_at_mutex(self.waiters[name]) for name in ring) else []
         for name in every:
             others = [other for other in self.needs[name].others if other not in every and other in self.edges]
