@@ -103,8 +103,8 @@ def lines(dice: random.Random) -> Made:
 
 
 def large_buffers(dice: random.Random) -> Made:
-    """Buffers of the largest size are filled and emptied in few steps: they have room for 65,536 bytes sixteen times,
-    but not seventeen times."""
+    """Buffers of the largest size are filled and emptied in few steps: they have room for exactly 16 times 65,536
+    bytes."""
     most = RANGES[2]["buf"]
     full = 16 - dice.choice([0, 0, 1])
     steps: list[Step] = [("sockopen", most, most), *[("arrive", 0, dice.randbytes(65_536))] * full]

@@ -18,7 +18,7 @@ def are_known(index: Index) -> bool:
 
 
 def moved_at(index: Index, socket: int, name: str, until: int) -> int:
-    """The number of bytes that calls of a name moved on a socket. Only calls that ended up to a step count."""
+    """The number of bytes that calls of a name moved on a socket. Calls that ended after the step `until` don't count."""
     calls = index.by_socket.get(socket, ())
     return sum(size_of(index, call) for call in calls if call.name == name and 0 < call.last <= until)
 

@@ -183,9 +183,9 @@ class WaitGraph:
         return (kind_of(self.recording, waiter), need.how) if waiter.stack.calls else waiter.name
 
     def _ring(self, ring: list[Name]) -> Hang:
-        """The hang in which goroutines wait for one another. If all of these goroutines wait for mutexes, others
-        may belong to the hang too: each of them perhaps holds a mutex that a goroutine of the hang needs, and itself
-        waits, at a mutex, for another goroutine of the hang."""
+        """The hang in which goroutines wait for one another. If all of these goroutines wait for mutexes, other
+        goroutines may belong to the hang too. Each of these waits at a mutex for a goroutine of the hang, and perhaps
+        holds a mutex that a goroutine of the hang needs."""
         every = list(ring) if all(is_at_mutex(self.waiters[name]) for name in ring) else []
         for name in every:
             others = [other for other in self.needs[name].others if other not in every and other in self.edges]

@@ -46,8 +46,8 @@ def left_behind(run: Run, passed: OfDeadline, moved: By) -> Optional[Suspect]:
 
 
 def before_the_recording(run: Run, passed: OfDeadline, use: Use) -> Optional[Suspect]:
-    """The suspect about a deadline that existed when the recording began, if only the other side's deadline was set
-    since then, and more than once."""
+    """The suspect for a deadline that was set before the recording begins. Since then, the other side's deadline must
+    have been set alone, and more than once."""
     prelude, other = run.recording.lines.prelude, "w" if passed.side == "r" else "r"
     since = [one for one in use.settings if prelude < one.step < passed.step]
     if len(since) < HABIT or any(one.mode != other for one in since):
