@@ -11,8 +11,7 @@ import pytest
 from nrdb.all_goroutines import CLOSED, PUT, TOOK, Use
 
 from nrdb.causes import (
-    deadlines_ahead, dropped_answers, dropped_requests, ended_contexts, exchanges, failed_dials, left_in_buffers, needs_elsewhere,
-    source_functions, unheard, words,
+    dropped_answers, dropped_requests, ended_contexts, exchanges, failed_dials, left_in_buffers, needs_elsewhere, source_functions, unheard,
 )  # fmt: skip
 from nrdb.one_call import CLOSE
 from nrdb.waits import Name
@@ -302,23 +301,3 @@ def test_the_last_dial_of_a_goroutine_that_failed(
     index = cast(Any, Made(recording=Made(lines=lines), by_goroutine={2: calls}))
     found = failed_dials.failed_dial(index, 2)
     assert (found.close.first if found else None) == expected
-
-
-@pytest.mark.parametrize(
-    "place, says",
-    [("a.go:3", "the Read at a.go:3"), ("in net.Dial", "the Read in net.Dial"), ("", "the Read")],
-)
-def test_the_call_whose_deadline_ends_a_wait(place: str, says: str, monkeypatch: Patch) -> None:
-    monkeypatch.setattr(deadlines_ahead, "name_of", lambda recording, call: call.name)
-    index = Made(recording=Made(lines=Made(of=lambda step: Made(place=lambda: place if step == 8 else "b.go:1"))))
-    found = deadlines_ahead.until_words(cast(Any, index), cast(Any, Made(first=8, name="Read")))
-    assert found == f"until the deadline of {says} passes"
-
-
-@pytest.mark.parametrize(
-    "functions, is_connecting",
-    [(("net.(*netFD).connect",), True), (("net.Dial", "net.(*netFD).connect", "main.ask"), True), (("net.Dial", "main.ask"), False), ((), False)],
-)  # fmt: skip
-def test_a_wait_in_a_connect(functions: tuple[str, ...], is_connecting: bool) -> None:
-    stack = Stack(tuple(Call(function, "a.go", 3, OF_GO) for function in functions), None)
-    assert words.is_connecting(stack) is is_connecting

@@ -3,7 +3,6 @@
 import argparse
 import contextlib
 import io
-import struct
 from collections.abc import Callable, Iterator
 from pathlib import Path
 from types import SimpleNamespace as Made
@@ -16,6 +15,7 @@ from netrev_go.goroutine_lines import Everybody
 from netrev_go.standing import Standing
 from netrev_go.tested import Recordings
 from netrev_go.toolchain import Trouble
+from tests.test_go_line_reader import elf
 
 Patch = pytest.MonkeyPatch
 Output = pytest.CaptureFixture[str]
@@ -254,17 +254,10 @@ def test_only_the_log_of_a_process_is_still_written(
     assert "".join("1" if is_written else "0" for is_written in written) == running
 
 
-def elf(size: int) -> bytes:
-    """The file of a program whose header says that each section's entry has this size; .text begins at 128."""
-    header = b"\x7fELF".ljust(40, b"\0") + struct.pack("<Q10xHHH", 64, size, 1, 0)
-    section = struct.pack("<I12xQQ", 0, 0x400, 128).ljust(64, b"\0")
-    return header.ljust(64, b"\0") + section + b".text\0"
-
-
 @pytest.mark.parametrize("size, moved", [(64, 0x1000 - 0x400), (63, None), (24, None)])
 def test_how_far_a_program_s_code_is_moved(tmp_path: Path, size: int, moved: int | None) -> None:
     program = tmp_path / "program"
-    program.write_bytes(elf(size))
+    program.write_bytes(elf(size, 0x400))
     assert lines.shift(program, 0x1000) == moved
 
 

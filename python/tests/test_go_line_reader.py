@@ -82,8 +82,8 @@ class LineReader(unittest.TestCase):
         self.assertEqual(doctor.reads_lines(self.go(BUILDS)), f"read by {kept(go)}")
 
 
-def elf() -> bytes:
-    """The file of a program with one section, .text."""
-    header = b"\x7fELF".ljust(40, b"\0") + struct.pack("<Q10xHHH", 64, 64, 1, 0)
-    section = struct.pack("<I12xQQ", 0, 0, 128).ljust(64, b"\0")
+def elf(entry: int = 64, address: int = 0) -> bytes:
+    """The file of a program with one section, .text, at an address. Its header says that a section's entry has `entry` bytes."""
+    header = b"\x7fELF".ljust(40, b"\0") + struct.pack("<Q10xHHH", 64, entry, 1, 0)
+    section = struct.pack("<I12xQQ", 0, address, 128).ljust(64, b"\0")
     return header.ljust(64, b"\0") + section + b".text\0"

@@ -255,6 +255,20 @@ def test_what_a_lock_that_failed_would_have_led_to(asked: dict[int, int], is_ope
     assert {(operation.socket, operation.side) for operation in supposed} == {(3, "r")}
 
 
+@pytest.mark.parametrize(
+    "steps, answers, is_well",
+    [
+        (([1], [2], [3]), "yes yes yes", True), (([], [2], [3]), "yes yes yes", False), (([1], [2], []), "yes yes yes", False), (([1], [], [3]), "yes yes yes", True),
+        (([1],), "yes", False), (([1], [2], [3]), "yes eof yes", False), (([1], [2], [3]), "no yes yes", False),
+    ],
+)  # fmt: skip
+def test_a_call_that_went_well(steps: tuple[list[int], ...], answers: str, is_well: bool) -> None:
+    kinds = ("rwlock", "sysread", "rwunlock")
+    call = [Operation(Sort.LOCK, 3, steps=some, kinds=[kind] * len(some)) for kind, some in zip(kinds, steps)]
+    script = cast(Any, Made(answers=[(word,) for word in answers.split()]))
+    assert failing.went_well(script, call) is is_well
+
+
 # smaller recordings
 
 
@@ -317,6 +331,30 @@ def test_a_held_reference_of_a_socket_that_another_step_closed(closer: Optional[
     )
     assert found.weight == 2 and any("can't be freed" in says for says in found.says) is is_told
     assert found.steps == ([5, closer.step] if closer else [5])
+
+
+@pytest.mark.parametrize(
+    "shown, number, found",
+    [
+        ("yes no yes", 1, "a"),
+        ("yes no yes", 2, "c"),
+        ("yes no yes", 3, ""),
+        ("no no no", 1, ""),
+        ("yes yes yes", 0, ""),
+    ],
+)
+def test_the_suspect_that_a_reduction_keeps(
+    shown: str, number: int, found: str, monkeypatch: pytest.MonkeyPatch
+) -> None:
+    suspects = [Made(rule=rule, is_shown=word == "yes") for rule, word in zip("abc", shown.split())]
+    monkeypatch.setattr(reduced, "suspects_of", lambda recording: Made(suspects=suspects))
+    monkeypatch.setattr(reduced, "SuspectTarget", lambda events, suspect, at: (suspect.rule, at))
+    wanted = cast(Any, Made(hangs=-1, behind=[], cell="", suspect=number))
+    if found:
+        assert reduced._target(cast(Any, None), cast(Any, None), wanted) == (found, number)
+    else:
+        with pytest.raises(Misused):
+            reduced._target(cast(Any, None), cast(Any, None), wanted)
 
 
 # drawings and traces
@@ -420,41 +458,3 @@ def test_when_what_came_is_due(told: list[int], every: list[int], in_vain: list[
     found = arrivals._due(cast(Any, item), cast(Any, events), cast(Any, Made(all=every, in_vain=in_vain)))
     assert found == (20 if due == 20 else due - arrivals.JUST_BEFORE)
     assert arrivals._due(cast(Any, item), cast(Any, events), None) == 20
-
-
-@pytest.mark.parametrize(
-    "steps, answers, is_well",
-    [
-        (([1], [2], [3]), "yes yes yes", True), (([], [2], [3]), "yes yes yes", False), (([1], [2], []), "yes yes yes", False), (([1], [], [3]), "yes yes yes", True),
-        (([1],), "yes", False), (([1], [2], [3]), "yes eof yes", False), (([1], [2], [3]), "no yes yes", False),
-    ],
-)  # fmt: skip
-def test_a_call_that_went_well(steps: tuple[list[int], ...], answers: str, is_well: bool) -> None:
-    kinds = ("rwlock", "sysread", "rwunlock")
-    call = [Operation(Sort.LOCK, 3, steps=some, kinds=[kind] * len(some)) for kind, some in zip(kinds, steps)]
-    script = cast(Any, Made(answers=[(word,) for word in answers.split()]))
-    assert failing.went_well(script, call) is is_well
-
-
-@pytest.mark.parametrize(
-    "shown, number, found",
-    [
-        ("yes no yes", 1, "a"),
-        ("yes no yes", 2, "c"),
-        ("yes no yes", 3, ""),
-        ("no no no", 1, ""),
-        ("yes yes yes", 0, ""),
-    ],
-)
-def test_the_suspect_that_a_reduction_keeps(
-    shown: str, number: int, found: str, monkeypatch: pytest.MonkeyPatch
-) -> None:
-    suspects = [Made(rule=rule, is_shown=word == "yes") for rule, word in zip("abc", shown.split())]
-    monkeypatch.setattr(reduced, "suspects_of", lambda recording: Made(suspects=suspects))
-    monkeypatch.setattr(reduced, "SuspectTarget", lambda events, suspect, at: (suspect.rule, at))
-    wanted = cast(Any, Made(hangs=-1, behind=[], cell="", suspect=number))
-    if found:
-        assert reduced._target(cast(Any, None), cast(Any, None), wanted) == (found, number)
-    else:
-        with pytest.raises(Misused):
-            reduced._target(cast(Any, None), cast(Any, None), wanted)
