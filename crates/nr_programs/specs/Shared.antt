@@ -28,8 +28,8 @@ own_word tag None (Ok (Run command)) enough = word_of tag command ∷ []
 own_word tag None (Ok (Run command)) no_memory_to_search = word_of tag command ∷ []
 own_word tag owed asked supply = []
 
--- The words that a front sees with a line: the words that other fronts placed before it, and then
--- the line's own word.
+-- The words that a front sees when it runs a line: those that other fronts placed before the line,
+-- and then the line's own word, if it has one.
 abbrev pub words_with : ℕ → Option Command → Result Line LineFault → Met → List ℕ
 words_with tag owed asked m = m.others ++ own_word tag owed asked m.supply
 
@@ -60,8 +60,8 @@ pub record EndsWithin (texts : List (List ℕ)) (sent : List ℕ) : Type 0 where
   pub within : n < length last
   pub sent_is : sent ≡ concat whole ++ take n last
 
--- One caller of a front was answered. What was sent is a prefix of the replies to what was
--- received, starting from the front's state, and is all of them unless a write failed. If a read
+-- One caller of a front was answered. What was sent is a prefix of the replies that a front in
+-- state `s` gives to what was received. If no write failed, all these replies were sent. If a read
 -- failed, an unfinished last line isn't a command. Before each read, all whole lines had been
 -- answered. If no read and no write failed, a read reached the end of the caller's input, or a line
 -- is `quit`. `ran` has the lines that were run: all lines, or only the first lines, if one is

@@ -28,9 +28,9 @@ use Rattle.nr_programs.specs.declared.run.ExitStatus.TheVariants.{Done, Refused,
 
 -- ---- memory and journal room for a line
 
--- Whether memory and journal room suffice for a line. `enough`: both suffice. `no_memory`: memory
--- runs out. `no_memory_to_search`: the line's command is placed and then runs out of memory while
--- it searches. `no_room`: the journal is full.
+-- Whether there is enough memory and journal room for a line. `enough`: there is enough of both.
+-- `no_memory`: memory runs out. `no_memory_to_search`: the line's command is placed and then runs
+-- out of memory while it searches. `no_room`: the journal is full.
 pub data Supply : Type 0 where
   enough : Supply
   no_memory : Supply
@@ -149,7 +149,7 @@ ResumeMayHave r command no_room s = ⊥
 -- True if this `Supply` is possible for a line, given the command whose reply is owed and the size
 -- of the journal. If no reply is owed, a command or a query can run out of memory, and a command
 -- can also find the journal full. If a reply is owed, `resume` can run out of memory. In all other
--- cases, memory and journal room suffice.
+-- cases, there is enough memory and journal room.
 abbrev pub MayHave : Recording → JournalSize → Option Command → Result Line LineFault → Supply
     → SessionState → Type 0
 MayHave r journal None (Ok (Run command)) supply s = CommandMayHave r journal command supply s
@@ -167,7 +167,7 @@ texts r s (line ∷ lines) supplies =
     let a = line_answer r s.owed asked (next_supply supplies) s in
     text_or_none a.0 ∷ (if is_quit asked then [] else texts r a.1 lines (drop 1 supplies))
 
--- a condition on the lines after a line; if that line is `quit`, the condition isn't required
+-- a condition on the lines after a line, or no condition if that line is `quit`
 abbrev pub UnlessQuit : Bool → Type 0 → Type 0
 UnlessQuit true later = ⊤
 UnlessQuit false later = later

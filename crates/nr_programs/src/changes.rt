@@ -29,7 +29,7 @@ pub(crate) struct ChangeLine {
     change: CellWithValue,
 }
 
-/// Prints as the step's number and the reply to `print`: `7 lock 0 = 18`.
+/// The text is the step's number and the reply to `print`, such as `7 lock 0 = 18`.
 impl Text for ChangeLine {
     ghost text = { change_text };
 

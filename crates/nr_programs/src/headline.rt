@@ -12,8 +12,8 @@ use nr_rev::{Cell, CellValue, Memory, Refusal, Reversible, Worlds};
 use nr_walker::Walker;
 
 /// Applies an operation to a machine whose operations can be undone, in any well-formed state, and undoes it.
-/// Afterwards the state is the same in every part, even if the operation doesn't apply. Returns the operation's answer,
-/// or why it doesn't apply.
+/// Afterwards every part of the state is as it was before, even if the operation doesn't apply. Returns the operation's
+/// answer, or why it doesn't apply.
 pub fn there_and_back<M: Reversible>(machine: &mut M, op: &M::Op) -> Result<M::Answer, Refusal>
     requires { M.is_well_formed machine.old }
     ensures same { machine.new ≡ machine.old }

@@ -37,10 +37,10 @@ pub fn a_calm_session_has_one_transcript()
 {}
 
 /// Each caller of a shared session gets the replies that the transcript has for the caller's lines,
-/// starting from the state of its front. All fronts share one history, whose length `placed K`
-/// prints. With each line that it runs, a front first sees the words that other fronts placed
-/// before the line. If the line places a command, the front then sees that command's word, once. So
-/// a front sees all of its own words in the history, and each word of the history belongs to one
+/// given the front's state before the first line. All fronts share one history, whose length
+/// `placed K` prints. Before a front runs a line, it sees the words that other fronts placed before
+/// the line. If the line places a command, the front then sees that command's word, once. So a
+/// front sees all of its own words in the history, and each word of the history belongs to one
 /// front. The callers are those of the ports, and no other conversations took place.
 pub fn callers_are_answered_in_one_history()
     ensures answered { (r : Recording) (room fronts depth workers : ℕ) (passed : List Passed) (history : List ℕ) (failed : Bool)
@@ -71,7 +71,7 @@ pub fn an_unread_caller_is_not_answered()
 {}
 
 /// `IsAnswered` doesn't hold if the front read again before it answered the caller's line, even if
-/// it sends the reply later.
+/// it sent the reply later.
 pub fn a_late_reply_is_no_answer()
     ensures { (r : Recording) (journal : JournalSize) (tag : ℕ) → ¬ (IsAnswered r journal tag (record {
       input = record {
@@ -87,7 +87,7 @@ pub fn a_late_reply_is_no_answer()
 {}
 
 /// `IsAnswered` doesn't hold if the front read again after the end of the caller's input, even if
-/// it sends the reply to the last line later.
+/// it sent the reply to the last line later.
 pub fn an_end_read_twice_is_no_answer()
     ensures { (r : Recording) (journal : JournalSize) (tag : ℕ) → ¬ (IsAnswered r journal tag (record {
       input = record {

@@ -20,7 +20,7 @@ pub const MOST_JOURNAL: u32 = 1_000_000;
 /// The parameters of a shared session.
 #[derive(Clone, Copy, Debug, PartialEq, Eq)]
 pub struct Sharing {
-    /// The port of the first front, from 1. The other fronts have the next ports, up to `MOST_PORT`.
+    /// The port of the first front, at least 1. The other fronts have the next ports, up to `MOST_PORT`.
     pub port: u32,
     /// The number of fronts, from 1 to `MOST_FRONTS`.
     pub fronts: u32,

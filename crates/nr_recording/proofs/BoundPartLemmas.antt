@@ -15,12 +15,12 @@ pub bind_ok : {A B E : Type 0} (r : Result A E) (f : A → Result B E) (y : B) �
 bind_ok (Ok x) f y e = (x, refl, e)
 bind_ok (Err d) f y e = absurd cc
 
--- if a test succeeds although its true branch fails, it took the false branch
+-- if a conditional is `Ok` and its true branch is an error, its condition is false
 pub guard_ok : {A E : Type 0} (b : Bool) (d : E) (r : Result A E) (y : A) → cond b (Err d) r ≡ Ok y → (b ≡ false) × (r ≡ Ok y)
 guard_ok true d r y e = absurd cc
 guard_ok false d r y e = (refl, e)
 
--- if a test succeeds although its false branch fails, it took the true branch
+-- if a conditional is `Ok` and its false branch is an error, its condition is true
 pub passed_ok : {A E : Type 0} (b : Bool) (d : E) (r : Result A E) (y : A) → cond b r (Err d) ≡ Ok y → (b ≡ true) × (r ≡ Ok y)
 passed_ok true d r y e = (refl, e)
 passed_ok false d r y e = absurd cc

@@ -16,8 +16,8 @@ items_behind text = punctuate after_value (lex between text)
 abbrev pub items_after_comma : List ℕ → List Token
 items_after_comma text = punctuate after_comma (lex between text)
 
--- true if the text has these tokens, followed by those of the rest, at any place where an item may
--- begin
+-- true if, at any place where an item may begin, the text has these tokens, followed by those of
+-- the rest
 abbrev pub Begins : List ℕ → List Token → List ℕ → Type 0
 Begins text ts left = (place : Place) → may_begin place ≡ true
     → punctuate place (lex between text) ≡ ts ++ items_behind left

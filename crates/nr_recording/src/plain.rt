@@ -173,8 +173,8 @@ fn closes_line(behind: &[u8]) -> bool
     behind == b"]".as_slice()
 }
 
-// Gathers the parts of an array, whose opening bracket has already been read, if its closing
-// bracket ends the line.
+// Gathers the parts of an array whose opening bracket has already been read. Returns `None` unless
+// the closing bracket ends the line.
 fn gather<'a>(inside: &'a [u8], parts: &mut PartList<'a>) -> Option<()>
     requires { parts.old.items ≡ [] }
     ensures { OnSome result (read (91 ∷ inside.now) ≡ Some (array (parts_data parts.new.items))) }

@@ -55,7 +55,7 @@ fn serve_into<H: Threads + Sync>(
     (status, all.saturating_sub(left))
 }
 
-// Returns the result of serving. If memory was refused, either no caller was served, or all callers
+// Returns the result of serving. If memory ran out, either no caller was served, or all callers
 // were served and only the words couldn't be collected.
 fn came_of_serving(status: ExitStatus, out: Option<&[u8]>, seen: &[Seen; 2]) -> Came {
     let are_right = seen[0].is_right(&PARTS[0]) && seen[1].is_right(&PARTS[1]);

@@ -125,7 +125,7 @@ fn are_first_lines(out: &[u8], text: &str) -> bool {
     matches!(out.last(), None | Some(b'\n')) && text.as_bytes().starts_with(out)
 }
 
-// Returns the result of writing. If memory was refused, the bytes written must be the first lines
+// Returns the result of writing. If memory ran out, the bytes written must be the first lines
 // of the text and end with a whole line.
 fn came_of_writing(outcome: Result<(), WriteFault>, out: Option<&[u8]>, text: &str) -> Came {
     let Some(out) = out else {
@@ -151,7 +151,7 @@ pub(crate) fn write_twice(rt: &HostRuntime) -> Option<Twice> {
     })
 }
 
-/// Tests checking the text.
+/// Tests a check of the text.
 pub(crate) fn check_twice(rt: &HostRuntime) -> Twice {
     let mut room = [0u8; ROOM];
     refuse(rt);
@@ -225,8 +225,8 @@ fn upgrade_into(alloc: Global, room: &mut [u8]) -> (ExitStatus, usize) {
     (status, all.saturating_sub(left))
 }
 
-// Returns the result of upgrading. If memory was refused, the output must be whole lines and then
-// the line of that fault.
+// Returns the result of upgrading. If memory ran out, the output must be whole lines and then the
+// line of that fault.
 fn came_of_upgrading(status: ExitStatus, out: Option<&[u8]>) -> Came {
     let Some(out) = out else {
         return Came::Wrong;
@@ -264,7 +264,7 @@ fn change_into(alloc: Global, room: &mut [u8]) -> (ExitStatus, usize) {
     (status, all.saturating_sub(left))
 }
 
-// Returns the result of printing changes. If memory was refused, the line of that fault must be the whole output.
+// Returns the result of printing changes. If memory ran out, the line of that fault must be the whole output.
 fn came_of_changing(status: ExitStatus, out: Option<&[u8]>) -> Came {
     match (status, out) {
         (ExitStatus::Done, Some(out)) => Came::of(out == CHANGED.as_bytes()),
@@ -326,7 +326,7 @@ fn suspect_into(alloc: Global, room: &mut [u8]) -> (ExitStatus, usize) {
     (status, all.saturating_sub(left))
 }
 
-// Returns the result of printing suspects. If memory was refused, the line of that fault must be the whole output.
+// Returns the result of printing suspects. If memory ran out, the line of that fault must be the whole output.
 fn came_of_suspecting(status: ExitStatus, out: Option<&[u8]>) -> Came {
     match (status, out) {
         (ExitStatus::Done, Some(out)) => Came::of(out == SUSPECTED.as_bytes()),

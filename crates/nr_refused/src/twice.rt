@@ -6,7 +6,7 @@
 pub(crate) enum Came {
     /// The expected result.
     Right,
-    /// Memory was refused, and the call changed nothing that it had to preserve.
+    /// Memory ran out, and the call left unchanged what it had to preserve.
     Refused,
     /// Anything else.
     Wrong,
@@ -59,8 +59,8 @@ impl Twice {
         }
     }
 
-    /// Returns whether the first call's result was expected or its memory was refused, and the
-    /// second call's result was expected.
+    /// Returns whether the first call's result was `Right` or `Refused`, and the second call's
+    /// result was `Right`.
     pub(crate) fn is_right(self) -> bool {
         self.first != Came::Wrong && self.again == Came::Right
     }

@@ -1,5 +1,5 @@
-//! The texts of faults. Each fault has a line and a message. The text of the line is proved; the
-//! code that writes the message is derived.
+//! The texts of faults. Each fault has a line and a message. The text of the line is proved
+//! correct; the code that writes the message is derived.
 
 use nr_recording::{Fault, MakeFault, ReadFault, WriteFault};
 use nr_rev::Refusal;
@@ -19,7 +19,7 @@ const FAULTS: [Fault; 6] = [
     Fault::TooManySteps,
 ];
 
-/// The machine's reasons, by number from 1.
+/// The machine's reasons in the order of their numbers, from 1.
 const REASONS: [Refusal; 21] = [
     Refusal::NoSuchGoroutine,
     Refusal::NotThere,

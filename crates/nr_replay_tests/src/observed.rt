@@ -48,7 +48,7 @@ impl Model for ObservedSnapshot {
     ghost view = { λ s. s.world };
 }
 
-// Returns another handle of the shared bits.
+// Returns another handle to the shared bits.
 fn share(refusals: &Arc<AtomicU32>) -> Result<Arc<AtomicU32>, Memory> {
     match Arc::try_clone(refusals) {
         Ok(shared) => Ok(shared),

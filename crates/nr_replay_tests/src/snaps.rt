@@ -103,8 +103,8 @@ fn another_answer_is_reported_where_its_step_applies(rt: HostRuntime) {
     );
 }
 
-/// Looks at the film's recording with its answers. Returns the version, the number of steps, the
-/// answer of step 65, which is the last, and the answer of step 66, which doesn't exist.
+/// Makes a recording of the film's steps and their answers. Returns its version, its number of
+/// steps, the answer of step 65, which is the last, and the answer of step 66, which doesn't exist.
 fn answered(film: &Film<World>) -> Option<(Version, usize, [Option<Answer>; 2])> {
     let recording = film.with_answers().ok()?;
     let answers = [recording.answer(64), recording.answer(65)];

@@ -82,6 +82,6 @@ cell_number (Cell.DescriptorSequence i) = 18
 cell_number (Cell.Info i) = 19
 cell_number (Cell.Shut i) = 20
 
--- The cell of the kind with this number. It has the given index, or no index if none is given.
+-- The cell whose kind has this number. It has the given index, or no index if none is given.
 abbrev pub cell_numbered : ℕ → Option ℕ → Option Cell
 cell_numbered number index = find (λ cell. cell_number cell == number) (cells_at index)

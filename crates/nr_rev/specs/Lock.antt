@@ -8,7 +8,7 @@ use Rattle.nr_rev.specs.Refusing.{◌>>=◌, ◌>>◌, refused_if, refused_unles
 use Rattle.nr_rev.specs.declared.lock.Lock.{Lock}
 use Rattle.nr_rev.specs.declared.lock.LockOutcome.{LockOutcome}
 
--- the lock of a new socket: open, free, without references and waiters
+-- the lock of a new socket: open, free, without references or waiters
 abbrev pub open_lock : Lock
 open_lock = record { closed = false; locked = twice false; references = 0; waiters = twice 0 }
 

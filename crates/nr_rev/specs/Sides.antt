@@ -20,7 +20,7 @@ with_side Write new both = record both { write = new }
 abbrev pub twice : {A : Type 0} → A → Sides A
 twice a = record { read = a; write = a }
 
--- true if the side is reading
+-- true if the side is the read side
 abbrev pub is_read : Side → Bool
 is_read Read = true
 is_read Write = false

@@ -1,5 +1,5 @@
--- The thirty-one steps. Each step tests its reasons in order, and then has an answer and a next
--- world.
+-- The thirty-one steps. Each step checks its reasons for refusal in order. If none holds, the step
+-- has an answer and a next world.
 use Rattle.std.specs.Prelude.{ℕ, ◌+◌, ◌-◌, ◌*◌, Bool, true, false, ◌&&◌, ◌||◌, not, ◌==◌, nat_lt, nat_le, min, ℤ, int_lt, int_le, if◌then◌else◌, List, [], ◌∷◌, ◌++◌, length, take, drop, remove, slice_get, slice_set, slice_index_or, Option, Some, None, Result, Ok, Err}
 use Rattle.nr_rev.specs.declared.sides.Side.{Side}
 use Rattle.nr_rev.specs.declared.sides.Side.TheVariants.{Read, Write}
@@ -437,7 +437,8 @@ armed_by g d side WaitWord.Ready row w = Ok (Code 0, with_wait g Idle d side Wai
 -- in a well-formed world, blockarm finds no other word
 armed_by g d side _ row w = Err DoubleWait
 
--- blockarm: the part of netpollblock where the word becomes wait
+-- blockarm: the first loop of netpollblock, in which a nil word becomes `wait` or a ready word is
+-- consumed
 abbrev pub blockarm : ℕ → World → Outcome
 blockarm g w = do
   status ← status_of g w
@@ -454,8 +455,8 @@ blockcheck g w = do
   let code : ℕ = check side row.descriptor
   Ok (Code code, with_status g (if code == 0 then Parking d side else Swapping d side) w)
 
--- The result of parkcommit, given the wait word that it finds. If the word is wait, it then holds
--- g, and g parks. If it is any other word, g goes on to consume it.
+-- The result of parkcommit, given the wait word that it finds. If the word is `wait`, parkcommit
+-- stores g in it, and g parks. If it is any other word, g goes on to consume it.
 abbrev pub committed_by : ℕ → ℕ → Side → WaitWord → DescriptorRow → World → Answer × World
 committed_by g d side WaitWord.Wait row w = (
   Yes,

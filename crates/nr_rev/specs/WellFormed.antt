@@ -30,8 +30,8 @@ abbrev pub parked_of : Status → Option (ℕ × Side)
 parked_of (Parked d side) = Some (d, side)
 parked_of _ = None
 
--- The descriptor and side of the goroutine's wait, if the status is one at which the side's wait
--- word may have the value wait.
+-- The descriptor and side at which the goroutine waits, if its status allows the side's wait word
+-- to be `wait`.
 abbrev pub awaiting_of : Status → Option (ℕ × Side)
 awaiting_of (Armed d side) = Some (d, side)
 awaiting_of (Parking d side) = Some (d, side)
@@ -154,7 +154,8 @@ IsCurrent descriptors e = option_map (λ (row : DescriptorRow). of_side e.side
     row.descriptor.sequences) (slice_get descriptors e.descriptor) ≡ Some e.timer.sequence
 
 -- goroutines: at most one is inside a wait on a descriptor's side, and that descriptor is open;
--- each socket that a status names was opened; releases owed fit in a field and are not zero
+-- each socket that a status names was opened; each number of owed releases fits in a field, and
+-- they aren't both zero
 pub record GoroutinesFit (goroutines : List Status) (sockets : List Socket)
     (descriptors : List DescriptorRow) (free : List ℕ) : Type 0 where
   pub one_inside : (g h d : ℕ) (side : Side) → IsInside goroutines g d side
@@ -165,9 +166,8 @@ pub record GoroutinesFit (goroutines : List Status) (sockets : List Socket)
   pub owed : (g reads writes : ℕ) → HasView owed_of goroutines g (reads, writes)
       → IsField reads × IsField writes × (0 < reads + writes)
 
--- Wait words: they hold exactly the parked goroutines. A word has the value wait only if a
--- goroutine is about to park or to consume the word. The number of waiters is the number of
--- goroutines that wait words hold.
+-- Wait words: they hold exactly the parked goroutines. A word is `wait` only if a goroutine is
+-- about to park or to consume the word. `waiters` is the number of goroutines held in wait words.
 pub record WaitWordsFit (goroutines : List Status) (descriptors : List DescriptorRow) (waiters : ℕ)
     : Type 0 where
   -- a word holds g if and only if g is parked there

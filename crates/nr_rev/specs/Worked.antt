@@ -37,7 +37,7 @@ first_refused k w [] = None
 first_refused k w (step ∷ steps) =
     elim (outcome w step) [ Ok a ↦ first_refused (k + 1) a.1 steps | Err reason ↦ Some (k, reason) ]
 
--- the number of the first refused step of a recording, from 1, and the reason
+-- the number of the first refused step of a recording, counted from 1, and the reason
 abbrev pub first_refused_of : Recording → Option (ℕ × Refusal)
 first_refused_of r = first_refused 1 (empty_world r.limits) r.steps
 

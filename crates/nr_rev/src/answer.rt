@@ -8,9 +8,9 @@ pub enum Answer {
     /// The result of a check of a descriptor, as `netpollcheckerr` of `runtime/netpoll.go` returns it: 0 no error, 1
     /// closing, 2 an expired deadline, 3 an error event, for reading only.
     Code(u32),
-    /// This many bytes were read, at least one.
+    /// The number of bytes that were read, at least one.
     Got(u32),
-    /// This many bytes were written, at least one.
+    /// The number of bytes that were written, at least one.
     Put(u32),
     /// The step is done and returns nothing.
     Done,

@@ -6,8 +6,8 @@ ghost use Rattle.nr_rev.specs.Refusing.{out_of_memory, refusal_number};
 use crate::Memory;
 
 /// The reason why a step does not apply. netrev prints its number. If several reasons hold, the step reports the one
-/// that its definition tests first. Reasons that mention a panic or a throw of Go are from `internal/poll/fd_mutex.go`
-/// and `runtime/netpoll.go`; the others are rules of this machine.
+/// that its definition tests first. Reasons that mention a Go panic or throw are from `internal/poll/fd_mutex.go` and
+/// `runtime/netpoll.go`; the others are rules of this machine.
 #[derive(Clone, Copy, Debug, PartialEq, Eq)]
 pub enum Refusal {
     /// Memory ran out. The machine's definition never refuses a step for this reason.

@@ -73,7 +73,7 @@ pub trait Reversible {
     ghost back_is_unique: { (delta : Self.Delta) (new a b : Self) → back delta new a
         → back delta new b → a ≡ b };
 
-    /// An operation that has a reason not to apply has no step.
+    /// A refused operation has no step.
     ghost refused_has_no_step: { (old : Self) (op : Self.Op) (e : Refusal) (answer : Self.Answer)
         (new : Self) → reason old op ≡ Some e → steps old op answer new → ⊥ };
 

@@ -72,8 +72,8 @@ pub enum Step {
         socket: u32,
         side: Side,
     },
-    /// `fdMutex.rwunlock`: drops the lock and its reference, and owes a release to a waiter. Answers `Last` or
-    /// `NotLast`.
+    /// `fdMutex.rwunlock`: drops the lock and its reference. If other goroutines wait for the lock, the goroutine then
+    /// owes one of them a release. Answers `Last` or `NotLast`.
     RwUnlock {
         goroutine: u32,
         socket: u32,
@@ -112,7 +112,7 @@ pub enum Step {
         descriptor: u32,
         side: Side,
     },
-    /// `netpollblock`, first loop: consumes a ready word, which ends the wait, or sets a nil word to wait. Answers
+    /// `netpollblock`, first loop: consumes a ready word, which ends the wait, or changes a nil word to `wait`. Answers
     /// `Code(0)` or `Wait`.
     BlockArm {
         goroutine: u32,
@@ -122,7 +122,8 @@ pub enum Step {
     BlockCheck {
         goroutine: u32,
     },
-    /// `netpollblockcommit`: the goroutine parks if the word is still wait. Answers `Yes` or `No`.
+    /// `netpollblockcommit`: the goroutine parks if the word is still `wait`. Answers `Yes` or
+    /// `No`.
     ParkCommit {
         goroutine: u32,
     },

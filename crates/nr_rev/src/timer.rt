@@ -73,7 +73,7 @@ impl Timer {
 pub struct Entry {
     /// The number of the descriptor.
     pub descriptor: u32,
-    /// The side; reading if the timer is for both.
+    /// The side, or the read side if the timer is for both.
     pub side: Side,
     /// The timer.
     pub timer: Timer,

@@ -23,10 +23,10 @@ where
     }
 }
 
-/// Applies all the operations in order, or none of them: if one doesn't apply, it undoes those
-/// before it. On success, `out` has a delta for each operation, in order, so that `undo_all` can
-/// undo them. Otherwise, returns the reason for the first refusal; the state is as it was before,
-/// and `out` is empty.
+/// Applies all the operations in order, or none of them: if one doesn't apply, those before it are
+/// undone. On success, `out` has a delta for each operation, in order, so that `undo_all` can undo
+/// them. Otherwise, returns the reason for the first refusal; the state is as it was before, and
+/// `out` is empty.
 pub fn transact<S: Reversible>(
     state: &mut S,
     ops: &[S::Op],

@@ -191,7 +191,7 @@ pub fn deadline_recording_holds()
 {}
 
 /// The greatest time replaces a later deadline. A descriptor that is opened again has new numbers, so an event with an
-/// earlier number is stale. No timer goes off while the number of waiting firings is twice the limit of descriptors.
+/// earlier number is stale. No timer goes off while the number of waiting firings is twice the limit on descriptors.
 pub fn deadline_limits_hold()
     ensures greatest_time { cell_after a_deadline_past_the_greatest_time 4 (Cell.ReadDeadline 0)
         ≡ CellValue.Time (pos 9223372036854775807) }

@@ -114,7 +114,7 @@ pub trait Worlds: Reversible<Op = Step, Answer = Answer> + Sized {
     ghost steps_are: { (old : Self) (step : Step) (answer : Answer) (new : Self)
         → Self.steps old step answer new → outcome (world old) step ≡ Ok (answer, world new) };
 
-    /// This type refuses a step for the same reason as the machine's definition.
+    /// `reason` gives the reason for which the machine's definition refuses the step, or `None`.
     ghost reasons_are: { (old : Self) (step : Step) → Self.reason old step
         ≡ refusal_of (outcome (world old) step) };
 

@@ -15,7 +15,7 @@ use Rattle.nr_search.proofs.SegmentLemmas.{nth-within}
 
 -- ---- what the first report says
 
--- a report that says nothing changes nothing
+-- an `Unknown` report leaves the slot unchanged
 first_known-none : (slot : Slot) → first_known slot Unknown ≡ slot
 first_known-none Unknown = refl
 first_known-none (Refused _) = refl

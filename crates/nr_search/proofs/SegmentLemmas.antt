@@ -22,14 +22,14 @@ some-between after last every first count s some begins enters needed low high =
 split : (a b : ℕ) → (a < b) ⊎ (b ≤ a)
 split a b = grind arith
 
--- The segment number at which the first k segments in search order end. Forwards, their numbers are
--- all lower. Backwards, their numbers are all at least this number.
+-- The segment number at which the first k segments in search order end. In a forward search, their
+-- numbers are all below it. In a backward search, none of their numbers is below it.
 abbrev pub border : Direction → ℕ → ℕ → ℕ → ℕ
 border Forward first count k = first + k
 border Backward first count k = first + (count - k)
 
--- true if no mark hits at the positions of the search that come before a copy in search order: up
--- to `copy` forwards, above `copy` backwards
+-- True if no mark hits at the positions of the search that come before a copy in search order. In a
+-- forward search, these are the positions up to `copy`; in a backward search, those above it.
 abbrev pub Passed : Direction → (ℕ → List ℕ) → ℕ → ℕ → ℕ → Type 0
 Passed Forward hits after last copy = (q : ℕ) → after < q → q ≤ last → q ≤ copy → hits q ≡ []
 Passed Backward hits after last copy = (q : ℕ) → after < q → q ≤ last → copy < q → hits q ≡ []

@@ -1,4 +1,4 @@
--- Finding the nearest hit of breaks from the steps alone.
+-- If all marks are breaks, a search finds the nearest hit from the recorded steps alone.
 use Rattle.std.proofs.Common.{◌≡◌, ◌⊎◌, inl, inr, ℕ, ◌+◌, ◌-◌, ◌<◌, ◌≤◌, Bool, true, false, ◌||◌, cond, List, [], ◌∷◌, length, map, filter, Option, refl, sym, ap, ◌∙◌, subst, arith}
 use Rattle.nr_rev.specs.World.{World}
 use Rattle.nr_rev.specs.declared.cell_value.CellValue.TheVariants.{Absent}
@@ -79,7 +79,7 @@ module _ (hits : ℕ → List ℕ) (direction : Direction) (low high : ℕ) wher
             ap (λ i. hits (nth_on_way direction low (high - low) i)) same ∙ ap hits (sym place) ∙ sym is ∙ none-more here none
       ]
 
-  -- no mark hits at any position if none hits at the first k, and k covers them all
+  -- if there are at most k positions, and no mark hits at the first k, no mark hits at any of them
   pub missed-all : (k : ℕ) → high - low ≤ k → AreMissed k → NoneHits hits low high
   missed-all k all missed = record { none = λ q a b. missed-at k q a b (omega (arith, (place-is direction low high q a b).0, all)) missed }
 

@@ -8,7 +8,7 @@ use Rattle.nr_marks.specs.Hit.{hits_at, hits_between, numbered}
 use Rattle.nr_marks.specs.Marks.{NumberedMark}
 use Rattle.nr_marks.specs.declared.mark.NextStep.{NextStep}
 
--- the numbers of some items and of another item, if that item is added
+-- the numbers of the items of a list, after one more item may have been added
 numbers-more : {X : Type 0} (number : X → ℕ) (ys : List X) (here : Bool) (x : X) → map number (ys ++ cond here (x ∷ []) []) ≡ map number ys ++ cond here (number x ∷ []) []
 numbers-more number [] true x = refl
 numbers-more number [] false x = refl

@@ -106,7 +106,7 @@ impl<F: Finder> Finder for &F {
     }
 }
 
-/// Returns the nearest position to n at which a mark hits, with the numbers of the marks that hit
+/// Returns the position nearest to n at which a mark hits, with the numbers of the marks that hit
 /// there. Forwards, it is the least such position above n, up to the end; backwards, it is the
 /// greatest below n. If a mark is a watch, the search allocates memory for copies of the film's
 /// worlds and for the reports of several workers, and fails if memory runs out. If all marks are

@@ -29,8 +29,8 @@ pub enum Found {
 }
 
 impl Found {
-    // Updates the result with position p, the next one forwards. If no mark hits there, leaves the
-    // result unchanged and copies nothing.
+    // If marks hit at position p, makes this hit the result. Otherwise, leaves the result unchanged
+    // and copies nothing.
     pub(crate) fn look_at(&mut self, p: usize, hits: &Numbers)
         ensures { self.new ≡ found_after self.old p hits.now.items }
     {

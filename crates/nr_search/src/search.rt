@@ -61,8 +61,8 @@ where
     }
 
     /// Returns the nearest hit of a segment. The search moves the world in `held` through the
-    /// segment if that world is at the segment's beginning, and otherwise a copy. If the search
-    /// reaches the end of the segment, the world in `held` is at the end afterwards.
+    /// segment if that world is at the segment's beginning. Otherwise, it moves a copy. If the
+    /// search reaches the end of the segment, the world in `held` is at the end afterwards.
     pub fn search_segment(&self, s: usize, held: &mut Option<WorldAt<W>>) -> Result<Found, Memory>
         requires first { self.now.span.first ≤ s }
         requires last { s < self.now.span.first + self.now.span.count }

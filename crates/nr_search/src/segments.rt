@@ -56,8 +56,8 @@ impl Span {
         self.direction.nth(self.first, self.count, k)
     }
 
-    /// Returns the bounds of a segment's positions, which lie after the first number and up to the
-    /// second.
+    /// Returns the bounds of a segment's positions, which are above the first number and at most
+    /// the second.
     pub fn stretch(&self, s: usize) -> (usize, usize)
         requires first { self.now.first ≤ s }
         requires last { s < self.now.first + self.now.count }

@@ -119,8 +119,8 @@ tags_known : (all : List Done) → map (λ p. p.tag) (map (λ d. d.pass.pass_sta
 tags_known [] = refl
 tags_known (d ∷ all) = ap (λ (l : List ℕ). d.pass.pass_state.tag ∷ l) (tags_known all)
 
--- if the passes have the tags below their number, one each, then each word has the tag of one of
--- the passes
+-- if the tags of n passes are 0 to n - 1, and the tag of each word is below n, then each word has
+-- the tag of one of the passes
 theirs : (words : List ℕ) (n : ℕ) (all : List Done) (passes : ℕ) → map (λ d. d.pass.pass_state.tag) all ≡ numbers_below n → passes ≡ n → All (HasTagBelow passes) words
     → All (IsTheirs (map (λ d. d.pass.pass_state) all)) words
 theirs words n all passes tags is below =

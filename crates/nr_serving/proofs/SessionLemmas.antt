@@ -28,7 +28,7 @@ dones_of ones = map {A = Done × Passed} {B = Done} (λ o. o.0) ones
 abbrev pub passed_of : List (Done × Passed) → List Passed
 passed_of ones = map {A = Done × Passed} {B = Passed} (λ o. o.1) ones
 
--- the courses of the fronts
+-- the `Course` of each front
 record Ran (table : TableId) (r : Recording) (fronts depth workers : ℕ) (starts : List FrontState) (ones : List (Done × Passed)) : Type 0 where
   courses : List Course
   counted : length courses ≡ length starts

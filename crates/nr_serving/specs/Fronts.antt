@@ -25,7 +25,7 @@ pub record Course : Type 0 where
 abbrev pub has_failed : Course → Bool
 has_failed course = course.cut_off || list_any is_failure course.callers
 
--- The log of a front after this course. The callers that came were served one after another. The
+-- The log of a front with this `Course`. The callers that came were served one after another. The
 -- last arrival says that no further caller came, or that waiting for a caller failed.
 abbrev pub passed_in : Course → Passed
 passed_in course = record {

@@ -29,7 +29,8 @@ pub record IsHistory (room : ℕ) (pass_states : List PassState) (history : List
       × IsSeenBy room history pass_state)
       ⊎ ((pass_states ≡ []) × (history ≡ []))
 
--- The front of this course served its callers, starting from the state of a new front (`IsFresh`).
+-- A front with this `Course` served its callers, starting from the state of a new front
+-- (`IsFresh`).
 pub record BeginsFresh (table : TableId) (r : Recording) (fronts depth workers : ℕ)
     (course : Course) : Type 0 where
   pub start : FrontState

@@ -20,10 +20,10 @@ pub enum Next<I, O> {
     /// The front serves a caller: it reads lines from the reader, and writes the replies to the
     /// writer.
     Serve(I, O),
-    /// The front ends, since no further caller will come.
+    /// No further caller will come, so the front ends.
     Ended,
-    /// The front ends, because waiting for a caller failed: the port wasn't bound, or a caller
-    /// wasn't accepted.
+    /// Waiting for a caller failed, so the front ends: the port wasn't bound, or a caller wasn't
+    /// accepted.
     Failed,
 }
 

@@ -200,12 +200,12 @@ fn take_done(journal: &Journal, done: &mut Vec<Done>) -> Option<Done>
 
 /// Opens the fronts, each with a debugger of its own over the film. Serves each front in a thread
 /// of its own until its callers end, and returns the history that they placed. The ports log the
-/// conversations. The port of each front was opened once, by the front's number, counted from 0; no
-/// other port was opened, and all fronts have ended.
+/// conversations. For each front, the port with the front's number, counted from 0, was opened
+/// once. No other port was opened, and all fronts have ended.
 ///
 /// Fails only if memory runs out before any port is opened, so no caller was sent a byte. The
-/// contract doesn't say when memory runs out. If memory runs out for the history, after the last
-/// caller, the call succeeds and `Ended` says so.
+/// contract doesn't say when memory runs out. If memory for the history runs out after the last
+/// caller, the call still succeeds, and `history` in `Ended` is the error.
 pub fn share<W, F, R, P>(
     rt: &R,
     alloc: Global,

@@ -1,4 +1,5 @@
-//! The state of a debugger, as its own calls return it, and a reply that a writer cuts short.
+//! Tests of what a debugger's methods return about its state, and of a reply that a writer cuts
+//! short.
 
 use nr_command::{Debugger, Reply};
 use nr_replay_tests::{AtBrim, Cup};

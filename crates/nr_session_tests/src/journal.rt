@@ -67,7 +67,7 @@ fn come_late(
     (less, greater, journal.next(late))
 }
 
-/// Lets the late pass see all words, and then the first pass see the words of the late pass.
+/// Lets the late pass see all words, and then lets the first pass see the words of the late pass.
 /// Returns all words, and how the first pass compares with the late pass at the end.
 fn see_all(journal: &Journal, one: &mut Pass, late: &mut Pass) -> Option<(Vec<u64>, Ordering)>
     requires { (one.old.table ≡ journal.now) × (late.old.table ≡ journal.now) }

@@ -77,7 +77,8 @@ impl Sock {
 }
 
 impl SockSnapshot {
-    /// Returns the buffers, each with room for the limit. Fails with `Memory` if memory runs out.
+    /// Returns the buffers, each with room for the maximum number of bytes. Fails with `Memory` if
+    /// memory runs out.
     pub fn restored(&self, alloc: Global) -> Result<Sock, Memory>
         ensures { IfOk result (λ s. s ≡ self.now) }
     {

@@ -1,4 +1,5 @@
--- The references to a socket that all goroutines took and returned add up to the count in its lock.
+-- The number of references to a socket that goroutines took, minus the number that they returned,
+-- is the count in its lock.
 use Rattle.std.proofs.Common.{◌≡◌, ℕ, zero, suc, ◌+◌, ◌<◌, ◌≤◌, Bool, true, false, ◌&&◌, inl, inr, List, Option, Some, None, Ok, refl, sym, ap, subst, ◌∙◌, arith, true≢false}
 use Rattle.std.specs.Prelude.{All, ◌==◌, if◌then◌else◌, slice_get}
 use Rattle.nr_rev.specs.declared.sides.Side.TheVariants.{Read, Write}
@@ -128,7 +129,8 @@ moves_none (notices.TookReference h k) = false
 moves_none (notices.GaveReference h k) = false
 moves_none x = true
 
--- the references to socket s that a notice takes and returns, summed over the goroutines below G
+-- summed over the goroutines below G, a notice takes `takes` references to socket s and returns
+-- `gives`
 record Sums (s G : ℕ) (x : Notice) (takes gives : ℕ) : Type 0 where
   takes_is : total (took s x) G ≡ takes
   gives_is : total (gave s x) G ≡ gives
@@ -250,7 +252,7 @@ rwunlock_below w g k side fits = ComesTo-then (idle_below w g fits) λ below. re
 rwlock_below : (w : World) (g k : ℕ) (side : Side) → WellFormed w → ComesTo (λ left. g < w.limits.goroutines) (rwlock g k side w)
 rwlock_below w g k side fits = ComesTo-bind (ComesTo-ends (Ends-status_of g w)) λ status at. record { value = λ left is. there_below w g status fits at }
 
--- the notice of a step takes and returns as many references as the step
+-- the notice of a step takes and returns as many references as the step does
 step_sums : (w : World) (step : Step) (answer : Answer) (next : World) (s : ℕ) → WellFormed w → outcome w step ≡ Ok (answer, next) → Sums s w.limits.goroutines (notice w step answer next) (takes s step answer) (gives s step)
 step_sums w Step.Spawn answer next s fits is = none_moved s w.limits.goroutines (notice w Step.Spawn answer next) refl
 step_sums w (Step.Exit g) answer next s fits is = none_moved s w.limits.goroutines (notice w (Step.Exit g) answer next) refl
@@ -289,7 +291,8 @@ step_sums w (Step.CloseWrite g k) answer next s fits is = none_moved s w.limits.
 timely_at : (steps : List Step) (n : ℕ) (step : Step) → All IsTimely steps → slice_get steps n ≡ Some step → IsTimely step
 timely_at steps n step timely read = subst IsTimely (get_or_from_slice_get steps n step step read) (timely n step (slice_get_within steps n step read))
 
--- the references that all goroutines took equal those that they returned plus the count in the lock
+-- the number of references taken by all goroutines equals the number returned plus the count in the
+-- lock
 pub sums_at : (r : Recording) (n s : ℕ) → 0 < r.limits.goroutines → All IsTimely r.steps
     → references_at (world_at r n) s + total (λ g. (holding r g s n).given) r.limits.goroutines ≡ total (λ g. (holding r g s n).taken) r.limits.goroutines
 sums_at r zero s room timely = let none = total_none r.limits.goroutines in omega (arith, none)

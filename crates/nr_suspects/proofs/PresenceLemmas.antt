@@ -37,7 +37,7 @@ use Rattle.nr_suspects.proofs.NoticeLemmas.{Moves, Made, Stays, Noticed, OfOpeni
 abbrev pub IsMade : World → ℕ → Type 0
 IsMade w d = (row : DescriptorRow) × (slice_get w.descriptors d ≡ Some row)
 
--- a descriptor that exists after a step existed before, or the step opened it
+-- a descriptor that exists after a step either existed before it or was opened by it
 abbrev WasMade : World → Step → ℕ → Answer × World → Type 0
 WasMade w step d left = IsMade left.1 d → IsMade w d ⊎ ((g s : ℕ) × (step ≡ Step.PollOpen g s) × (left.0 ≡ answers.Number d))
 

@@ -40,7 +40,8 @@ use Rattle.nr_suspects.specs.References.{references_at, taken_by, takes, gives, 
 
 -- ---- the operations of a lock
 
--- the operation changes the reference count by the references that it takes and returns
+-- the operation raises the reference count by the number of references taken, less the number
+-- returned
 abbrev LockCounts : ℕ → Lock → Result LockOutcome Refusal → Type 0
 LockCounts give lock o = ComesTo (λ (left : LockOutcome). left.lock.references + give ≡ lock.references + taken_by left.answer) o
 
@@ -141,7 +142,8 @@ module _ (w : World) (g s k : ℕ) (socket : Socket) (lock : Lock) (status : Sta
 
 -- ---- steps
 
--- a step changes the reference count of socket s by the references that it takes and returns
+-- a step raises the reference count of socket s by the number of references taken, less the number
+-- returned
 abbrev Counts : World → ℕ → Step → Outcome → Type 0
 Counts w s step o = ComesTo (λ (left : Answer × World). references_at left.1 s + gives s step ≡ references_at w s + takes s step left.0) o
 

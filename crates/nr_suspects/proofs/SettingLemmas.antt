@@ -226,7 +226,7 @@ set_on n d side x (Some y) set unopened =
     let next = next_is_set n d side x (set_of side y.deadlines) unopened set in
     (next.0, next_of_setting n d side x y ∙ next.1)
 
--- after a step sets the deadline of a side, the account contains the setting of that deadline
+-- after a step sets the deadline of a side, the account says which step set it
 pub set_now : (n d g : ℕ) (mode : Mode) (side : Side) (y : Account) → names_side mode side ≡ true → IsSet side (account_after n d (notices.SetDeadline g d mode) (Some y))
 set_now n d g mode side y names = by (d == d) (names_side mode side) refl names
   where

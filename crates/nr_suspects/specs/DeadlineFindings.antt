@@ -27,7 +27,7 @@ use Rattle.nr_suspects.specs.Notices.{notice_at}
 abbrev pub deadline_of : Side → Option Account → Option Deadline
 deadline_of side a = option_map (λ (x : Account). of_side side x.deadlines) a
 
--- which step set the deadline of a side, if one did since the descriptor was opened
+-- which step set the deadline of a side, if one has set it since the descriptor was opened
 abbrev pub side_setting : Side → Option Account → Option Setting
 side_setting side a = option_and_then (λ (x : Deadline). x.setting) (deadline_of side a)
 
@@ -129,8 +129,8 @@ Comes r n d side (TakenBack woken) =
     (g : ℕ) × (mode : Mode) × IsSetting r d side n g mode
     × (woken_of side (account r d n) ≡ Some woken)
 
--- A finding is correct: the step at its position had its consequence for the deadline, and the step
--- in `setting` had set that deadline.
+-- A finding is correct: the step at `position` had the given `consequence` for the deadline, and
+-- the step in `setting` had set that deadline.
 pub record IsFinding (r : Recording) (n : ℕ) (found : DeadlineFinding) : Type 0 where
   pub at : ℕ
   pub before : at < n

@@ -43,8 +43,7 @@ held_of_goroutines n w s held zero = []
 held_of_goroutines n w s held (suc k) =
     held_of_goroutines n w s held k ++ held_of_one n s k (cell w (Cell.Goroutine k)) (held k)
 
--- the references that the first `goroutines` goroutines hold to closed sockets below k that aren't
--- freed
+-- the references to closed, unfreed sockets below k that the first `goroutines` goroutines hold
 abbrev pub held_of_sockets : ℕ → World → (ℕ → ℕ → Holding) → ℕ → ℕ → List HeldReference
 held_of_sockets n w held goroutines zero = []
 held_of_sockets n w held goroutines (suc k) =

@@ -49,9 +49,9 @@ visit_at g = option_map (λ place. record { goroutine = g; descriptor = place.0;
 abbrev pub visit_of : World → ℕ → Option Visit
 visit_of w g = visit_at g (wait_place (cell w (Cell.Goroutine g)))
 
--- The side of a descriptor that a step visits, and the goroutine of the step. A reset and the
--- beginning of a wait visit the side that they name; blockarm, blockswap and waitcheck visit the
--- side at which the goroutine waits.
+-- The side of a descriptor that a step visits, and the goroutine of the step. pollreset and
+-- waitbegin name the side. For blockarm, blockswap and waitcheck, it is the side at which the
+-- goroutine waits.
 abbrev pub visit : World → Step → Option Visit
 visit w (Step.PollReset g d side) = Some (record { goroutine = g; descriptor = d; side = side })
 visit w (Step.WaitBegin g d side) = Some (record { goroutine = g; descriptor = d; side = side })

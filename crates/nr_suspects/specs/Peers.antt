@@ -40,13 +40,14 @@ peer_of socket = record {
 abbrev pub peer_in : List (Option Peer) → ℕ → Option Peer
 peer_in peers s = option_and_then (λ p. p) (slice_get peers s)
 
--- each place was updated with a notice
+-- the notice was applied to each place
 pub record ArePeersNoted (notice : Notice) (old new : List (Option Peer)) : Type 0 where
   pub places : length new ≡ length old
   pub each : (s : ℕ) (p : Option Peer) → slice_get old s ≡ Some p
       → slice_get new s ≡ Some (peer_after s notice p)
 
--- the place of socket s, if it has one, was updated with a notice
+-- the notice was applied to the place of socket s, if it has one, and the other places are
+-- unchanged
 pub record IsPeerNotedAt (s : ℕ) (notice : Notice) (old new : List (Option Peer)) : Type 0 where
   pub places : length new ≡ length old
   pub here : (p : Option Peer) → slice_get old s ≡ Some p

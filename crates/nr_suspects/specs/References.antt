@@ -32,7 +32,7 @@ gives s (Step.Decref g k) = if s == k then 1 else 0
 gives s (Step.RwUnlock g k side) = if s == k then 1 else 0
 gives s _ = 0
 
--- how many references to socket s a step takes, from its outcome; a refused step takes none
+-- how many references to socket s a step takes, given its outcome; a refused step takes none
 abbrev pub takes_in : ℕ → Step → Outcome → ℕ
 takes_in s step (Ok (answer, next)) = takes s step answer
 takes_in s step (Err reason) = 0

@@ -45,9 +45,9 @@ reason_of_socket Read socket =
     reason_to_read (length socket.buffers.read.bytes) socket.peer_closed
 reason_of_socket Write socket = reason_to_write socket.shut (room_of socket.buffers.write)
 
--- Why a goroutine should be woken if it waits at this side of the descriptor. Either a check ends
--- the wait, because the descriptor is closing, the side's deadline has passed or an event reported
--- an error. Or the socket has what the side waits for.
+-- Why a goroutine should be woken if it waits at this side of the descriptor. A check would end the
+-- wait, because the descriptor is closing, the side's deadline has passed or an event reported an
+-- error; or the socket has what the side waits for.
 abbrev pub reason_of_row : World → Side → DescriptorRow → Option Reason
 reason_of_row w side row =
     option_or (reason_of_code (check side row.descriptor))
@@ -88,8 +88,8 @@ sleeper_by n d side word reason = []
 abbrev pub sleeper_at : ℕ → World → ℕ → Side → Option Reason → List Sleeper
 sleeper_at n w d side reason = sleeper_by n d side (cell w (word_cell d side)) reason
 
--- the sleepers at the descriptors below k, given the reason why a goroutine at each side should be
--- woken, if any
+-- the sleepers at the descriptors below k; `reasons` gives the reason why a goroutine at a side
+-- should be woken, if there is a reason
 abbrev pub sleepers_below : ℕ → World → (ℕ → Side → Option Reason) → ℕ → List Sleeper
 sleepers_below n w reasons zero = []
 sleepers_below n w reasons (suc k) =

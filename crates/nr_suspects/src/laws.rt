@@ -199,12 +199,12 @@ pub fn a_leaked_reference_keeps_the_socket()
         → k ≤ references_at (world_after w steps) s }
 {}
 
-/// An event of an earlier opening changes nothing. An event for a descriptor that was ever opened
-/// is answered `Stale`, and leaves the world as it was, if and only if the descriptor is closed or
-/// has another tag; it is answered `Done` if and only if the descriptor is open and has its tag. No
-/// step lowers a tag, and a close raises it. So after a close, each event with the tag that the
-/// descriptor had before the close, or with a lower tag, is answered `Stale`, whatever steps come
-/// between.
+/// An event of an earlier opening changes nothing. An event for a descriptor that has been opened
+/// before is answered `Stale`, and leaves the world as it was, if and only if the descriptor is
+/// closed or has another tag; it is answered `Done` if and only if the descriptor is open and has
+/// its tag. No step lowers a tag, and a close raises it. So after a close, each event with the tag
+/// that the descriptor had before the close, or with a lower tag, is answered `Stale`, whatever
+/// steps come between.
 pub fn events_of_an_earlier_opening_change_nothing()
     ensures stale { (w : World) (d tag : ℕ) (mode : Mode) (error : Bool) (row : DescriptorRow)
         → slice_get w.descriptors d ≡ Some row

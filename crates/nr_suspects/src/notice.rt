@@ -52,7 +52,7 @@ pub enum Notice {
         visit: Visit,
         code: u32,
     },
-    /// The goroutine set deadlines of the descriptor.
+    /// The goroutine set one or both deadlines of the descriptor.
     SetDeadline {
         goroutine: u32,
         descriptor: u32,

@@ -113,7 +113,7 @@ pub cut_is_counted : (start : Outgoing) (sent : List ℕ) (b : Buffering) (resul
 cut_is_counted start sent b (Ok _) fails cut = absurd (grind (arith, fails))
 cut_is_counted start sent b (Err _) fails cut = cut
 
--- the state after the first piece of a text, sent from a writer that held nothing
+-- the state after a writer that held nothing was sent the first piece of a text
 pub from_begun : (b b' begun : Buffering) (piece : List ℕ) (result : Result Unit WriteFailed) → begun ≡ record b { out = 0 } → b.held ≡ [] → Writes begun b' piece result
     → SentOrCut b.taken piece b' result
 from_begun b b' begun piece result is none writes =

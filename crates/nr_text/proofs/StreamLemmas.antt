@@ -27,7 +27,7 @@ consumes_none (Some xs) = refl
 pub receives_none : (at : Incoming) → Receives at at []
 receives_none at = record { received = sym (append-nil at.received); consumed = consumes_none at.remaining }
 
--- two receives in a row receive the bytes of both
+-- two receives in a row receive the bytes of the first and then those of the second
 pub receives_then : (a b c : Incoming) (one two : List ℕ) → Receives a b one → Receives b c two → Receives a c (one ++ two)
 receives_then a b c one two first then = record {
   received = then.received ∙ ap (λ s. s ++ two) first.received ∙ append_assoc a.received one two;

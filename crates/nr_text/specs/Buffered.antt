@@ -52,7 +52,8 @@ abbrev pub PutsOut : List ℕ → Outgoing → Outgoing → ℕ → ℕ → Type
 PutsOut bytes old new before after =
     IsOut bytes (length bytes) old new before after × (new.failed ≡ old.failed)
 
--- True if a write failed after exactly n of the bytes, fewer than all, were written and counted.
+-- True if a write failed after exactly n bytes were written and counted, and n is less than the
+-- number of bytes.
 abbrev pub PutsOutSome : List ℕ → Outgoing → Outgoing → ℕ → ℕ → Type 0
 PutsOutSome bytes old new before after =
     (n : ℕ) × (n < length bytes) × IsOut bytes n old new before after × (new.failed ≡ true)

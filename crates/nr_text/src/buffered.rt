@@ -21,8 +21,8 @@ pub(crate) const ROOM: usize = 512;
 pub struct WriteFailed;
 
 /// A writer that joins the pieces of a text: it holds them until its buffer is full or the text ends, and allocates no
-/// memory. If a write fails, the held bytes are dropped. In contracts, its state has what the inner writer wrote, the
-/// held bytes, and the number of bytes of the text that are written.
+/// memory. If a write fails, the held bytes are dropped. In contracts, its state has three parts: what the inner writer
+/// wrote, the held bytes, and the number of bytes of the text that are written.
 #[derive(Drop)]
 pub struct Buffered<W: Write> {
     writer: LoggedWriter<W>,

@@ -88,7 +88,8 @@ impl Moments {
         Moments {}
     }
 
-    // Returns this log with the moment of one more read, which follows these reads and writes.
+    // Returns this log with the moment of one more read. These reads and writes came before that
+    // read.
     #[inline(always)]
     pub(crate) fn and(&self, _reads: &Calls, _writes: &Calls) -> Moments
         ensures { result.passed ≡ self.now.passed

@@ -70,9 +70,9 @@ impl<W: Write> Sink<W> {
         self.failed
     }
 
-    /// Writes a whole text. If a write fails or writes nothing, writes no more and fails with
-    /// `Part`, which says how many bytes of the text were written. Retries an interrupted write.
-    /// Takes no memory.
+    /// Writes a whole text. If a write fails or writes nothing, `print` writes no more and fails
+    /// with `Part`, which says how many bytes of the text were written. Retries an interrupted
+    /// write. Takes no memory.
     pub fn print<T: Text>(&mut self, text: &T) -> Result<(), Part>
         ensures { Prints self.old self.new (T.text text.now) result }
     {

@@ -49,7 +49,7 @@ impl Text for Spaced {
     }
 }
 
-/// A byte slice is a text that consists of its bytes.
+/// The text of a byte slice is its bytes.
 impl Text for &[u8] {
     ghost text = { λ bytes. bytes.now };
 

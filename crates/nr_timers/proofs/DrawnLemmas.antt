@@ -247,7 +247,7 @@ module _ (q : ℕ) (new old : List Entry) (back : InsertedBack q new old) where
       (subst (λ (ys : List Entry). Drawn (moved_down back.1 new (length new - 1)) ys) (moved_up-moved_down back.1 new (length new - 1) (omega arith))
       (Drawn-up back.1 (moved_down back.1 new (length new - 1)) (length new - 1) (omega arith)))
 
-  -- all entries from before remain
+  -- all old entries remain
   pub Has-kept : (x : Entry) → Has x old → Has x new
   Has-kept x h = Drawn-has new old x (Drawn-trans new (old ++ at new q ∷ []) old from_new (Drawn-pushed old (at new q))) h
 

@@ -112,7 +112,7 @@ timer_none d s (y ∷ ys) none =
     ap (first_timer d s y ys) (not_for_key d s y (Absent-head (key_of d s) y ys none))
     ∙ timer_none d s ys (Absent-tail (key_of d s) y ys none)
 
--- a descriptor's side with the same entries has the same timer
+-- if a descriptor's side has the same entries in two lists, it has the same timer in both
 pub same_timer : (d : ℕ) (s : Side) (xs ys : List Entry) → Apart key xs → Apart key ys → ((x : Entry) → key x ≡ key_of d s → Has x xs → Has x ys)
     → ((x : Entry) → key x ≡ key_of d s → Has x ys → Has x xs) → timer_of xs d s ≡ timer_of ys d s
 same_timer d s xs ys apart_x apart_y to from =

@@ -25,7 +25,7 @@ pub record ArmedBack (to : ℕ) (new old : State) : Type 0 where
   pub number : new.next ≡ old.next + 1
   pub rest : old ≡ record new { entries = old.entries; next = old.next }
 
--- true if this undoes an arming that replaced a timer: its entry was removed first
+-- true if this undoes an arming that replaced a timer, and so removed the old entry first
 pub record RearmedBack (to place last : ℕ) (timer : Timer) (new old : State) : Type 0 where
   pub places : (mid : List Entry) × InsertedBack to new.entries mid
       × RemovedBack place last (with_timer new.entries to timer) mid old.entries

@@ -92,7 +92,7 @@ module _ (old : List Entry) (p : ℕ) (x : Entry) (distinct : Distinct old) wher
         (meets n (parent s) leads.1 (let more = Leads-more on.0 q s on.1 leads.0 in
         (suc on.0, more)))
 
-    -- a move down stops at the first place without a lesser child
+    -- a move down stops at the first place where no child is less than the moved entry
     no_further : OnPath r q → q ≡ r
     no_further on =
         ⊎_elim (λ e. e)

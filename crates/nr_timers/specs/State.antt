@@ -22,8 +22,8 @@ pub record Numbered (next : ℕ) (entries firings : List Entry) : Type 0 where
       → number (at entries p) ≢ number (at firings q)
 
 -- True if the timers are well formed. The heap is ordered. Each descriptor's side has at most one
--- entry, and its descriptor is below the limit. There are at most two firings per descriptor. The
--- next arming number fits in 64 bits and isn't 0.
+-- entry. The descriptor of each entry is below the limit. There are at most two firings per
+-- descriptor. The next arming number fits in 64 bits and isn't 0.
 pub record IsTimers (t : State) : Type 0 where
   pub ordered : Ordered t.entries
   pub keyed : Keyed t.entries (2 * t.descriptors)

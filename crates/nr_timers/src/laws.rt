@@ -14,8 +14,8 @@ ghost use Rattle.nr_timers.specs.Order.{at, is_less};
 ghost use Rattle.nr_timers.specs.State.{IsTimers, State};
 ghost use Rattle.nr_timers.specs.Auxiliary.TimersOf.{AreTimers};
 
-/// A heap that contains the timers of descriptors has as many entries as they have timers, and the
-/// least one is at place 0.
+/// A heap that contains the timers of these descriptors has one entry for each timer. Its least
+/// entry is at place 0.
 pub fn entries_are_the_descriptors()
     ensures count { (t : State) (timers : List (Sides (Option Timer))) → IsTimers t
         → AreTimers t.entries timers → length t.entries ≡ length (entries_from 0 timers) }
@@ -30,7 +30,7 @@ pub fn the_first_is_the_least()
         → is_less (at t.entries 0) (at t.entries place) ≡ true }
 {}
 
-/// The children of a place are the four places that start at four times its number plus 1.
+/// The children of place i are the four places from 4 i + 1 to 4 i + 4.
 pub fn four_children_a_place()
     ensures { (place child : ℕ) → 0 < child
         → (parent child ≡ place) ↔ ((4 * place + 1 ≤ child) × (child ≤ 4 * place + 4)) }

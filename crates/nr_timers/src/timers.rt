@@ -110,8 +110,8 @@ impl Timers {
         self.heap.get(place)
     }
 
-    /// Returns the place of the entry of a descriptor's side, or `None` if no timer is armed. A side has only one
-    /// entry.
+    /// Returns the place of the entry for a side of a descriptor, or `None` if the side has no armed timer. A side has
+    /// only one entry.
     #[inline(always)]
     pub fn place_of(&self, descriptor: u32, side: Side) -> Option<usize>
         ensures { MatchOption result (Absent (key_of descriptor side) self.now.entries)

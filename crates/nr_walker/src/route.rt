@@ -3,7 +3,7 @@
 /// The route that a walker takes to a position.
 #[derive(Clone, Copy, Debug, PartialEq, Eq)]
 pub(crate) enum Route {
-    /// Back, by undoing deltas that the walker keeps.
+    /// Back from the current position, by undoing deltas that the walker keeps.
     Back,
     /// Forward by fewer steps than lie between two copies.
     Forward,

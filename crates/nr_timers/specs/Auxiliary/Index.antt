@@ -4,7 +4,7 @@ use Rattle.nr_rev.specs.declared.timer.Entry.{Entry}
 use Rattle.nr_timers.specs.Order.{at, AllBelow}
 use Rattle.nr_timers.specs.Index.{key}
 
--- 1 if a cell of the index is 0, so that it holds no place; otherwise 0
+-- 1 if a cell of the index is 0 and so holds no place; otherwise 0
 abbrev pub free : ℕ → ℕ
 free zero = 1
 free (suc p) = 0

@@ -10,7 +10,7 @@ abbrev pub moved_up : ℕ → List Entry → ℕ → List Entry
 moved_up zero places p = places
 moved_up (suc n) places p = moved_up n (swap places p (parent p)) (parent p)
 
--- the entries after one of them has moved n steps down a path, to p
+-- the entries, once one of them has moved n steps down a path, to p
 abbrev pub moved_down : ℕ → List Entry → ℕ → List Entry
 moved_down zero places p = places
 moved_down (suc n) places p = swap (moved_down n places (parent p)) p (parent p)

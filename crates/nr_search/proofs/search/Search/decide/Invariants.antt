@@ -7,8 +7,8 @@ use Rattle.nr_snaps.specs.Film.{IsFrame}
 use Rattle.nr_search.proofs.SegmentLemmas.{ArePassed}
 use Rattle.nr_search.proofs.search.Search.decide.Given as goal
 
--- No mark hits in the segments visited so far, and none of these segments is known to have a hit.
--- If a world is held, it is the replay's world at the position stored with it.
+-- In the segments visited so far, no mark hits, and none of their slots in `known` has a hit. If a
+-- world is held, it is the replay's world at the position stored with it.
 abbrev pub invariant-loop-k : goal.invariant-loop-k
 invariant-loop-k g l =
     record {

@@ -1,4 +1,4 @@
--- The method `arrived` returns a struct without fields. As the struct's log, the proof chooses the
+-- The method `arrived` returns a struct without fields. For the struct's log, the proof chooses the
 -- one that the contract requires.
 use Rattle.std.proofs.Common.{[], ◌∷◌, ◌++◌, refl}
 use Rattle.std.proofs.raw_atomic.Walks.{proved}
