@@ -14,8 +14,8 @@ ghost use Rattle.nr_timers.specs.Order.{at, is_less};
 ghost use Rattle.nr_timers.specs.State.{IsTimers, State};
 ghost use Rattle.nr_timers.specs.Auxiliary.TimersOf.{AreTimers};
 
-/// A heap that contains the timers of these descriptors has one entry for each timer. Its least
-/// entry is at place 0.
+/// A heap that contains the timers of descriptors has one entry for each timer. Its least entry is
+/// at place 0.
 pub fn entries_are_the_descriptors()
     ensures count { (t : State) (timers : List (Sides (Option Timer))) → IsTimers t
         → AreTimers t.entries timers → length t.entries ≡ length (entries_from 0 timers) }
