@@ -68,9 +68,9 @@ impl Unstarted {
     /// Reports why no program ran. Writes the usage text to `errors` after a usage error, and `fault 108 memory` to the
     /// output if memory ran out. Writes nothing if the file couldn't be read.
     ///
-    /// Returns `Usage` after a usage error, even if the text couldn't be written in full, `Refused`
-    /// if memory ran out, and `StreamFailed` if the file couldn't be read or the write to the
-    /// output failed.
+    /// Returns `Usage` after a usage error, even if the text couldn't be written in full. Returns
+    /// `Refused` if memory ran out and the fault was written, and `StreamFailed` if the fault
+    /// couldn't be written or the file couldn't be read.
     pub fn tell<O: Write, E: Write>(self, output: &mut Sink<O>, errors: &mut Sink<E>) -> ExitStatus
         ensures { PrintsUnstarted self output.old output.new errors.old errors.new result }
     {

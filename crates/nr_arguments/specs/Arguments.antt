@@ -87,14 +87,13 @@ sharing_in rows =
 abbrev pub Asked : Type 0
 Asked = Text × Text × Option Sharing
 
--- the selection by a subcommand and its file; for `serve`, the parameters in the rows must be in
--- range
+-- what a subcommand and its file select; for `serve`, the parameters in the rows must be in range
 abbrev pub asked_on : Text → List Row → Text → Option Asked
 asked_on name rows file =
     if bytes_eq name (codes "serve") then option_map (λ sharing. (name, file, Some sharing))
     (sharing_in rows) else Some (name, file, None)
 
--- the selection by a subcommand's name and its arguments
+-- what a subcommand's name and its arguments select
 abbrev pub asked_in : Option (Text × List Row) → Option Asked
 asked_in = option_and_then (λ p. option_and_then (asked_on p.0 p.1) (first_of (codes "file") p.1))
 

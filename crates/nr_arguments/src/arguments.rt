@@ -38,7 +38,7 @@ pub enum Program<'a> {
     /// Writes the suspects to standard output: what happened to deadlines, lost wake-ups, sleepers,
     /// and held references to closed sockets.
     Suspects { file: &'a str },
-    /// Answers the commands of several callers, who share one session, over the loopback.
+    /// Answers the commands of several callers on the loopback interface. The callers share one session.
     Serve { file: &'a str, sharing: Sharing },
 }
 

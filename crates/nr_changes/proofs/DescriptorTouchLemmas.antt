@@ -137,7 +137,7 @@ held_there : (w : World) (d : ℕ) (row : DescriptorRow) (h : ℕ) → slice_get
 held_there w d row h at held =
     subst (λ gs. Contains gs h) (sym (ap (λ o. option_map_or (λ (x : DescriptorRow). held_of x.descriptor) o []) at)) held
 
--- goroutines that a change wakes are among those that evict touches
+-- the goroutines that a change wakes are among those that the step `evict` touches
 beside : (w : World) (g d : ℕ) (row : DescriptorRow) (change : Change) → slice_get w.descriptors d ≡ Some row → Wakes row.descriptor change → (h : ℕ) → Contains change.woken h
     → Contains (touched w (Step.Evict g d)).goroutines h
 beside w g d row change at so h woken = later g (held_at d w) h (held_there w d row h at (so.woken h woken))

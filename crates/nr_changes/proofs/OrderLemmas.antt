@@ -110,8 +110,8 @@ rising n (c ∷ cs) e =
     let same : cell_number c ≤ cell_number c = omega arith in
     (before_above c (cell_number c) cs same both.1, rising (cell_number c) cs both.1)
 
--- a list is sorted if it consists of the cells without a number, then the cells of sorted
--- goroutines, and then sorted cells of later kinds
+-- a list is sorted if it consists of the cells without a number, then the cells of goroutines in
+-- ascending order, and then sorted cells of later kinds
 all_in_order : (gs : List ℕ) (cs : List Cell) → IsStrictlySortedBy nat_cmp gs → rise_above 6 cs ≡ true → IsStrictlySortedBy listing_order (cells_at None ++ (map Cell.Goroutine gs ++ cs))
 all_in_order gs cs so e =
     joined (cells_at None) (map Cell.Goroutine gs ++ cs) (rising 0 (cells_at None) refl) (

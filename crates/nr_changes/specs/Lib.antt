@@ -1,5 +1,5 @@
 -- files with the definitions that the laws in THEOREM.md use
 pub mod Changes
--- more for callers: contracts of other crates and public functions of this crate cite these
+-- more definitions, which contracts of other crates and public functions of this crate cite
 pub mod Touched
 pub mod Changed

@@ -87,7 +87,7 @@ break_at (b ∷ bs) =
     if b == 64 then (number_of bs >>= λ n. at_least_one n >>= λ step. Ok (breaks.Step step))
     else ok_or (option_map breaks.Kind (kind_named (b ∷ bs))) BadArgument
 
--- the steps before which a `break` or a `tbreak` hits, named by one word
+-- where a `break` or a `tbreak` hits: one word names a kind of step or a single step
 abbrev pub break_of : List (List ℕ) → Result Break LineFault
 break_of (word ∷ []) = break_at word
 break_of _ = Err BadArgument
@@ -138,7 +138,7 @@ abbrev pub alone : Line → List (List ℕ) → Result Line LineFault
 alone line [] = Ok line
 alone line _ = Err BadArgument
 
--- the request that the words of a line make
+-- the meaning of a line with these words
 abbrev pub meaning_of_words : List (List ℕ) → Result Line LineFault
 meaning_of_words [] = Ok Empty
 meaning_of_words (verb ∷ rest) =

@@ -9,7 +9,7 @@ use Rattle.nr_marks.specs.declared.mark.Mark.{Mark}
 use Rattle.nr_marks.specs.declared.mark.Mark.TheVariants as marks
 use Rattle.nr_marks.specs.Marks.{NumberedMark}
 
--- the steps before which a break hits: the kind of the steps, or the number of a single step
+-- where a break hits: before each step of a kind, or before the step with a number
 abbrev pub break_text : Break → List ℕ
 break_text (breaks.Kind kind) = kind_name kind
 break_text (breaks.Step step) = codes "@" ++ decimal step.value
@@ -28,12 +28,13 @@ mark_line m = decimal m.number ++ codes " " ++ mark_text m.item ++ codes "\n"
 abbrev pub checkpoint_line : Checkpoint → List ℕ
 checkpoint_line c = decimal c.number ++ codes " at " ++ decimal c.item ++ codes "\n"
 
--- the list of marks: a line with their number, and a line for each mark
+-- the list of marks: a line with the number of marks, and then a line for each mark
 abbrev pub marks_text : List NumberedMark → List ℕ
 marks_text marks =
     codes "marks " ++ decimal (length marks) ++ codes "\n" ++ flat_map mark_line marks
 
--- the list of checkpoints: a line with their number, and a line for each checkpoint
+-- the list of checkpoints: a line with the number of checkpoints, and then a line for each
+-- checkpoint
 abbrev pub checkpoints_text : List Checkpoint → List ℕ
 checkpoints_text checkpoints = codes "checkpoints " ++ decimal (length checkpoints) ++ codes "\n"
     ++ flat_map checkpoint_line checkpoints

@@ -66,8 +66,8 @@ impl Debugger {
         &self.checkpoints
     }
 
-    /// Runs a command. Returns the reply and leaves the state that `run` in `specs/Debugger.antt`
-    /// computes.
+    /// Runs a command and returns its reply. `run` in `specs/Debugger.antt` computes the reply and
+    /// the next state.
     ///
     /// Only `continue` and `reverse-continue` allocate memory, for copies of the film's worlds, and
     /// only if there is a watch and the search visits a position other than the start. If memory

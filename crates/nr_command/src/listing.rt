@@ -86,7 +86,7 @@ impl Listed for Checkpoint {
 /// A part of a list.
 #[derive(Clone, Copy)]
 enum Listing<'a> {
-    /// A word for the items, and their number.
+    /// The noun for the items, and how many there are.
     Heading(&'static [u8], usize),
     /// The marks, one on each line.
     Marks(&'a [NumberedMark]),

@@ -28,8 +28,8 @@ impl Query {
 }
 
 // Each kind of query has its own function. A function clears all its locals on entry, and a reply
-// is a large local, because it has room for 64 marks. One function for all kinds would clear
-// several replies.
+// is a large local, because it has room for 64 marks. A single function for all kinds would have
+// several replies as locals, and would clear all of them.
 impl Debugger {
     /// Returns the reply to a query about the world at the debugger's position, or about the debugger itself. It
     /// changes nothing.

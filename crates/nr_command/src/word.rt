@@ -109,21 +109,21 @@ fn with_argument(opcode: u64, argument: u64) -> Option<Command>
     }
 }
 
-/// Returns a command that has no argument, if the argument is 0.
+/// Returns the command, which takes no argument, if the word's argument is 0.
 fn only_without(argument: u64, command: Command) -> Option<Command>
     ensures { result ≡ only_without argument command }
 {
     if argument == 0 { Some(command) } else { None }
 }
 
-/// Returns a number if it is below 2^32.
+/// Returns the number if it is below 2^32.
 fn small(argument: u64) -> Option<u32>
     ensures { result ≡ small argument }
 {
     u32::try_from(argument).ok()
 }
 
-/// Returns a number if it is from 1 to 2^32 - 1.
+/// Returns the number if it is between 1 and 2^32 - 1.
 fn from_one_below(argument: u64) -> Option<NonZeroU32>
     ensures { result ≡ from_one_below argument }
 {

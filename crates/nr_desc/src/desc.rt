@@ -173,8 +173,8 @@ impl Desc {
         self.socket
     }
 
-    /// Returns the summary: the sum of 1 for closing, 2 for an event error, and 4 and 8 if the read and the write
-    /// deadline have passed.
+    /// Returns the summary: the sum of 1 for closing, 2 for an event error, 4 if the read deadline has passed, and 8 if
+    /// the write deadline has passed.
     #[inline(always)]
     pub fn summary(&self) -> u64
         ensures { result ≡ spec.summary self.now }

@@ -48,7 +48,7 @@ pub due_behind : (view front_state : FrontState) (command : Command) (debugger :
 due_behind view front_state command debugger is pending at =
     subst (λ (c : Option Command). IsAt view.recording view.pass_state.seen c debugger) (ap (λ (d : FrontState). pending_command d.pending) is ∙ pending) at
 
--- the pending command searches
+-- the pending command is a search
 pub search_due : (view front_state : FrontState) (command : Command) (debugger : Debugger) → view ≡ front_state → pending_command front_state.pending ≡ Some command
     → IsAt view.recording view.pass_state.seen (pending_command view.pending) debugger → Searches view.recording command debugger → SearchIsPending front_state
 search_due view front_state command debugger is pending at searches = record {

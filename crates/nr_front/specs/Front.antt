@@ -1,4 +1,4 @@
--- The effects of the calls of a front.
+-- The effects of a front's methods.
 use Rattle.std.specs.Prelude.{◌≡◌, ◌≢◌, ℕ, ◌≤◌, ◌⊎◌, List, [], ◌∷◌, ◌++◌, length, Option, Some, None, Result, Ok, Err}
 use Rattle.std.specs.List.{All}
 use Rattle.nr_journal.specs.Pass.{SeesOthers, CatchesUp}
@@ -33,7 +33,7 @@ pub record IsUnmoved (old new : FrontState) : Type 0 where
   pub workers : new.workers ≡ old.workers
   pub walker_state : new.walker_state ≡ old.walker_state
 
--- the front may have read words of other fronts, and it owes no reply, before or after
+-- the front may have read words of other fronts, and it owes no reply before or after the call
 pub record Learns (old new : FrontState) : Type 0 where
   pub same : IsUnmoved old new
   pub sees_others : SeesOthers old.pass_state new.pass_state
@@ -127,8 +127,8 @@ pub record IsRefusedLook (query : Query) (old new : FrontState) : Type 0 where
   pub moved : new ≡ with_walker_state new.walker_state caught_up
   pub wanted : LookIsRefused query (replica_of caught_up) new.walker_state
 
--- True if `look` can have this effect. If memory runs out, it runs out either while another user's
--- command searches, or for the query itself, after all words were read and run.
+-- True if `look` can have this effect. Memory can run out while another user's command searches. It
+-- can also run out in the query itself, after the front has read and run all words.
 abbrev pub Looks : Query → FrontState → FrontState → Result Reply FrontFault → Type 0
 Looks query old new (Ok reply) = RepliesToLook query old new reply
 Looks query old new (Err (Memory refused)) = IsRefusedMemory old new ⊎ IsRefusedLook query old new

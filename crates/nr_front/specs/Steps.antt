@@ -1,4 +1,4 @@
--- The effects of the parts of a front's calls.
+-- The effects of a front's private methods.
 use Rattle.std.specs.Prelude.{◌≡◌, ◌≢◌, ℕ, ◌<◌, ◌⊎◌, Bool, true, false, length, Option, Some, None, Result, Ok, Err}
 use Rattle.nr_journal.specs.Rule.{IsOthers, StartsWith, journal_room}
 use Rattle.nr_journal.specs.Auxiliary.Rule.{looked, having_seen}

@@ -108,8 +108,8 @@ where
     }
 
     /// Returns the owed reply and stops owing it, or returns `None` if no reply is owed. If the
-    /// command runs out of memory again, fails with `Placed` and the same index, and the reply is
-    /// still owed.
+    /// command runs out of memory again, `resume` fails with `Placed` and the same index, and the
+    /// reply is still owed.
     pub fn resume(&mut self) -> Result<Option<Reply>, FrontFault>
         ensures same { IsUnmoved self.old self.new }
         ensures resumes { Resumes self.old self.new result }

@@ -1,6 +1,6 @@
 //! One user's *replica* of the shared session. A replica has a pass of the journal and a debugger.
-//! The pass reads all words of the journal in order, those of other fronts too, and the debugger
-//! runs them.
+//! The pass reads all words of the journal in order, including those of other fronts, and the
+//! debugger runs them.
 #![tactic(auto)]
 
 mod fault;

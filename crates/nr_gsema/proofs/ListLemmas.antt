@@ -35,7 +35,7 @@ last_split {X} xs g e =
     let all : take (length xs - 1 + 1) xs ≡ xs = take_all (length xs - 1 + 1) xs (omega arith) in
     sym all ∙ take_more xs (length xs - 1) g within ∙ ap (λ (k : X). take (length xs - 1) xs ++ k ∷ []) (get_or_from_slice_get xs (length xs - 1) g g e)
 
--- each element of a list that repeats one element is that element
+-- in a list of copies of x, each element is x
 pub each_alike : {X : Type 0} (n : ℕ) (x : X) (s : ℕ) (y : X) → slice_get (replicate n x) s ≡ Some y → y ≡ x
 each_alike zero x s y e = cc
 each_alike (suc n) x zero y e = sym (same_Some x y e)

@@ -10,8 +10,8 @@ use Rattle.nr_gsema.specs.declared.node.GoroutineNode.{GoroutineNode}
 use Rattle.nr_gsema.specs.Links.{statuses}
 use Rattle.nr_gsema.specs.Relinking.{set_found, with_node}
 
--- true if the node of g is now `at`, the node of its neighbour, if any, is changed, and all others
--- are unchanged
+-- true if the node of g is now `at`; the node of the neighbour, if there is one, is changed; and all
+-- other nodes are unchanged
 pub record Relinks (nodes new : List GoroutineNode) (g : ℕ) (at : GoroutineNode) (neighbour : Option ℕ) (change : GoroutineNode → GoroutineNode) : Type 0 where
   pub here : slice_get new g ≡ Some at
   pub beside : (h : ℕ) (node : GoroutineNode) → h ≢ g → slice_get nodes h ≡ Some node

@@ -37,7 +37,7 @@ module _ {nodes : List GoroutineNode} {semaphores : List (Sides SemaphoreHead)} 
       ap (λ (u : GoroutineTable). queue_at s side u) (sym is.view) ∙ ap (queue_found side) (semaphores_at nodes semaphores s x there) ∙ ap (λ (y : Semaphore). y.queue) (of_side-from nodes side x)
       ∙ queue_is nodes semaphores (queues_from nodes semaphores) is.queues s side x there
 
-  -- the front of a head is the front of the queue
+  -- the front that a semaphore's head stores is the front of the queue
   pub front_read : (s : ℕ) (side : Side) (x : Sides SemaphoreHead) → slice_get semaphores s ≡ Some x → (of_side side x).front ≡ slice_get (queue_at s side t) 0
   front_read s side x there =
       first-is nodes (Queued s side) None (queues_from nodes semaphores s side) (of_side side x).front (of_side side x).back (is.queues.linked s side x there)

@@ -84,7 +84,7 @@ popped nodes semaphores queues node h none =
     (λ m x at outside. h.alone m x (slice_get-push_kept nodes node x m at) outside)
     (λ m s side is. h.named m s side (ap (λ st. slice_get st m) (statuses_push nodes node) ∙ slice_get-push_kept (statuses nodes) node.status (Queued s side) m is))
 
--- a goroutine that is in no queue gets another status, and is still in none
+-- the queues stay the same when a goroutine's status changes, if neither status is queued
 pub restated : (nodes : List GoroutineNode) (semaphores : List (Sides SemaphoreHead)) (queues : ℕ → Side → List ℕ) (g : ℕ) (old new : GoroutineNode) → AreQueues nodes semaphores queues
     → slice_get nodes g ≡ Some old → is_waiting old.status ≡ false → is_waiting new.status ≡ false → new.next ≡ old.next → new.previous ≡ old.previous → AreQueues (set nodes g new) semaphores queues
 restated nodes semaphores queues g old new h is was none same_next same_previous =

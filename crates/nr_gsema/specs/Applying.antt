@@ -1,4 +1,4 @@
--- The well-formedness of a table: which goroutines are queued.
+-- What makes a table well formed: its queues contain exactly the queued goroutines.
 use Rattle.std.specs.Prelude.{◌≡◌, ℕ, ◌==◌, count_by, slice_get, Some}
 use Rattle.nr_rev.specs.declared.sides.Side.{Side}
 use Rattle.nr_rev.specs.declared.sides.Sides.{Sides}

@@ -18,7 +18,7 @@ use Rattle.nr_gsema.specs.Step.{side_owed}
 use Rattle.nr_gsema.specs.Table.{GoroutineTable}
 use Rattle.nr_gsema.specs.Auxiliary.Table.{with_status, on_semaphore}
 
--- the table after the goroutine that left the queue, if any, is queued again
+-- the table with the goroutine that left the queue, if any, queued again
 abbrev pub queued_again : ℕ → Side → Option ℕ → GoroutineTable → GoroutineTable
 queued_again s side None t = t
 queued_again s side (Some g) t = with_status g (Queued s side) t

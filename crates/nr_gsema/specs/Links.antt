@@ -19,7 +19,7 @@ use Rattle.nr_gsema.specs.Waits.{AreCounts}
 abbrev pub statuses : List GoroutineNode → List Status
 statuses nodes = map (λ (node : GoroutineNode). node.status) nodes
 
--- the next goroutine that is stored in a node, if the node exists
+-- the goroutine that a node stores as the next one, if the node exists
 abbrev pub next_in : Option GoroutineNode → Option ℕ
 next_in None = None
 next_in (Some node) = node.next

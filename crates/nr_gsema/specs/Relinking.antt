@@ -22,11 +22,11 @@ abbrev pub with_node : Option ℕ → (GoroutineNode → GoroutineNode) → List
 with_node None change nodes = nodes
 with_node (Some g) change nodes = set_found g change (slice_get nodes g) nodes
 
--- the nodes with a new next goroutine in the node of `goroutine`, if one is given
+-- the nodes after the field `next` of `goroutine`'s node is set, if a goroutine is given
 abbrev pub with_next : Option ℕ → Option ℕ → List GoroutineNode → List GoroutineNode
 with_next goroutine next nodes = with_node goroutine (followed_by next) nodes
 
--- the nodes with a new previous goroutine in the node of `goroutine`, if one is given
+-- the nodes after the field `previous` of `goroutine`'s node is set, if a goroutine is given
 abbrev pub with_previous : Option ℕ → Option ℕ → List GoroutineNode → List GoroutineNode
 with_previous goroutine previous nodes = with_node goroutine (preceded_by previous) nodes
 

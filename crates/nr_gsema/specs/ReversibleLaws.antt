@@ -97,12 +97,12 @@ ends_outcome t (operation.Release g) =
     Ends-bind (ends_released (of_side (side_owed debt.1) both)) λ left _.
     Ends-ok tt
 
--- the refusal of an outcome
+-- an outcome that contains the refusal e is `Err e`
 refused_for : (o : Outcome) (e : Refusal) → refusal_of o ≡ Some e → ◌≡◌ {A = Outcome} o (Err e)
 refused_for (Ok left) e is = cc
 refused_for (Err reason) e is = cc
 
--- lack of memory is never an operation's reason
+-- an operation is never refused for lack of memory
 pub memory_is_no_reason : (t : GoroutineTable) (op : GOperation) → IsQueuedUp t
     → table_reason t op ≡ Some out_of_memory → ⊥
 memory_is_no_reason t op h is =

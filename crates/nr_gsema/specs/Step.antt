@@ -1,5 +1,5 @@
--- The operations: each tests its reasons for refusal in order, and then has an answer and a next
--- table.
+-- The operations. Each checks its reasons for refusal in order, and then gives an answer and the
+-- next table.
 use Rattle.std.specs.Prelude.{◌≡◌, ℕ, ◌-◌, Bool, true, false, ◌&&◌, ◌==◌, nat_lt, if◌then◌else◌, [], ◌∷◌, ◌++◌, length, slice_get, Option, Some, None, Result, Ok, Err}
 use Rattle.nr_rev.specs.declared.sides.Side.{Side}
 use Rattle.nr_rev.specs.declared.sides.Side.TheVariants.{Read, Write}
@@ -95,7 +95,8 @@ acquire g t = do
   Ok (if is_free semaphore then (Yes, with_status g (Relock s side) next)
       else (Wait, with_status g (Queued s side) next))
 
--- the table in which the goroutine that a release took from the queue, if any, must acquire again
+-- The table after this goroutine, if one is given, gets the status `Acquiring`. In a release, it is
+-- the goroutine that leaves the queue.
 abbrev pub tries_again : ℕ → Side → Option ℕ → GoroutineTable → GoroutineTable
 tries_again s side None t = t
 tries_again s side (Some g) t = with_status g (Acquiring s side) t

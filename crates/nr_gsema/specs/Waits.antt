@@ -20,17 +20,17 @@ on_count d side change None counts = counts
 on_count d side change (Some both) counts =
     slice_set counts d (with_side side (change (of_side side both)) both)
 
--- the counts after a change to the count for a wait, if there is a wait
+-- the counts after a change to the count of a wait, if one is given
 abbrev pub on_wait : (ℕ → ℕ) → Option (ℕ × Side) → List (Sides ℕ) → List (Sides ℕ)
 on_wait change None counts = counts
 on_wait change (Some place) counts =
     on_count place.0 place.1 change (slice_get counts place.0) counts
 
--- the counts after a goroutine left the wait, if any
+-- the counts after a goroutine left a wait, if one is given
 abbrev pub left : Option (ℕ × Side) → List (Sides ℕ) → List (Sides ℕ)
 left place counts = on_wait (λ n. n - 1) place counts
 
--- the counts after a goroutine joined the wait, if any
+-- the counts after a goroutine joined a wait, if one is given
 abbrev pub joined : Option (ℕ × Side) → List (Sides ℕ) → List (Sides ℕ)
 joined place counts = on_wait (λ n. n + 1) place counts
 

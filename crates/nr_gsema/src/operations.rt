@@ -248,7 +248,7 @@ impl GTable {
         Ok((Answer::Done, undo))
     }
 
-    /// Releases a semaphore with this count once. Returns the goroutine that leaves the queue, if any.
+    /// Releases, once, a semaphore that has this count. Returns the goroutine that leaves the queue, if any.
     #[inline(always)]
     fn release_semaphore(&mut self, socket: u32, side: Side, count: u32) -> Option<u32>
         requires { HasSemaphore socket side (λ semaphore. (semaphore.count ≡ count) × (semaphore.count + 1 < 2 ^ 32)) self.old }

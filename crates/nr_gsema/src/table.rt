@@ -104,7 +104,7 @@ impl GTable {
         })
     }
 
-    /// Makes this table equal to another with the same limits, including links. Allocates no memory.
+    /// Makes this table, including its links, equal to another with the same limits. Allocates no memory.
     pub fn copy_from(&mut self, other: &GTable)
         requires limit { self.old.limit ≡ other.now.limit }
         requires semaphores { length self.old.semaphores ≡ length other.now.semaphores }

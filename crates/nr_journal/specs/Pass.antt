@@ -24,7 +24,7 @@ pass_state_of (Note _) = entering 0 0
 pass_state_of Spent = entering 0 0
 
 -- True if a pass can offer this word to a journal with this room and get this result. The offer
--- turns the pass's state before into its state after.
+-- takes the pass from state `before` to state `after`.
 abbrev pub WasOffered : ℕ → ℕ → PassState → PassState → Offered → Type 0
 WasOffered word room before after Placed =
     (after ≡ having_seen before word) × (length before.seen < room)
@@ -46,8 +46,8 @@ SeesOthers before after = (added : List ℕ) × (after.seen ≡ before.seen ++ a
     × All (IsOthers before.tag) added × (after.tag ≡ before.tag) × (after.learned ≡ before.learned)
     × (after.passes ≡ before.passes) × (before.passes ≡ 1 → added ≡ [])
 
--- true if a last look found no word, and the pass has read all words that it learned from another
--- pass; or if the pass has read as many words as the journal has room for
+-- true if the pass found no further word and has read all words that it learned from another pass,
+-- or if it has read as many words as the journal has room for
 abbrev pub CatchesUp : ℕ → PassState → PassState → Type 0
 CatchesUp room before after =
     ((after.looks ≡ before.looks + 1) × StartsWith after.seen before.learned)

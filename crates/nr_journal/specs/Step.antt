@@ -28,7 +28,7 @@ LookedFrom (Within pass_state) found after =
     × (found ≢ 0 → Found pass_state found after)
 LookedFrom _ found after = Unit {0}
 
--- true if a look at the next place can find the word `found` and turn seat `before` into `after`
+-- true if reading the word `found` at the next place can turn seat `before` into `after`
 abbrev pub Looked : Step (Unit {0}) → Seat → ℕ → Seat → Type 0
 Looked step before found after = LookedFrom before.0 found after
 
@@ -39,21 +39,20 @@ OffersFrom word (Within pass_state) found after =
     × (found ≢ 0 → Found pass_state found after)
 OffersFrom word _ found after = Unit {0}
 
--- true if an offer of a word can find the word `found` at its place and turn seat `before` into
--- `after`
+-- true if an offer that reads the word `found` at its place can turn seat `before` into `after`
 abbrev pub Offers : Step (Unit {0}) → Seat → ℕ → Seat → Type 0
 Offers step before found after = OffersFrom step.second before.0 found after
 
--- true if the bit of the next tag was clear, and the seat is now a pass with that tag; or if the
--- bit was set
+-- If the bit of the next tag was clear, the seat is now a pass with that tag. If the bit was set,
+-- the seat goes on to the tag after it.
 abbrev pub DrawsFrom : View → ℕ → Seat → Type 0
 DrawsFrom (Outside tried passes) found after =
     (bit_at found tried ≡ 0 → after ≡ (Within (entering passes tried), []))
     × (bit_at found tried ≢ 0 → after ≡ (Outside (tried + 1) passes, []))
 DrawsFrom _ found after = Unit {0}
 
--- true if an attempt to take the next tag can find the tag bits `found` and turn seat `before` into
--- `after`
+-- true if reading the tag bits `found`, in an attempt to take the next tag, can turn seat `before`
+-- into `after`
 abbrev pub Draws : Step (Unit {0}) → Seat → ℕ → Seat → Type 0
 Draws step before found after = DrawsFrom before.0 found after
 
@@ -63,7 +62,7 @@ RereadsFrom word (Within pass_state) found after =
     (after ≡ (Within pass_state, [])) × (found ≡ slice_index pass_state.seen (word - 1))
 RereadsFrom word _ found after = Unit {0}
 
--- true if rereading a word can find the word `found` and turn seat `before` into `after`
+-- true if rereading a word and getting `found` can turn seat `before` into `after`
 abbrev pub Rereads : Step (Unit {0}) → Seat → ℕ → Seat → Type 0
 Rereads step before found after = RereadsFrom step.word before.0 found after
 

@@ -149,7 +149,7 @@ impl Journal {
         }
     }
 
-    /// Takes the first free tag, and makes a pass with it that has read nothing yet.
+    /// Takes the first free tag, and makes a pass with that tag. The pass has read nothing yet.
     ///
     /// Fails with `NoTag` only if every tag of the journal was taken. It then returns the seat, which has tried all
     /// tags.

@@ -1,5 +1,5 @@
-//! Views: what is known about a journal to the thread that has a seat or a pass. They are plain
-//! data that exist in proofs only.
+//! Views: what a thread with a seat or a pass knows about the journal. They are plain data that
+//! exist in proofs only.
 
 use std::collections::LinkedList;
 
@@ -28,7 +28,7 @@ pub enum View {
         /// The maximum number of passes of the journal.
         passes: u64,
     },
-    /// The view of the remaining passes of a journal that makes all of them at once.
+    /// The view of the remaining passes, if the journal was made with all of its passes at once.
     Keeping {
         /// The tags from this one on are those of remaining passes.
         next: u64,
@@ -39,6 +39,6 @@ pub enum View {
     Within(PassState),
     /// A note from one pass to another: the words that the first pass has read.
     Note(LinkedList<u64>),
-    /// A used note: a pass has already learned from it which words another pass has read.
+    /// A note that was used: a pass has already learned from it which words another pass has read.
     Spent,
 }

@@ -1,4 +1,4 @@
--- In a well-formed world, the descriptor or socket that a status, an entry or a firing names exists.
+-- In a well-formed world, statuses, entries and firings name only descriptors and sockets that exist.
 use Rattle.std.proofs.Common.{◌≡◌, ℕ, Some, ap, ◌∙◌, get_or}
 use Rattle.std.specs.Prelude.{slice_get}
 use Rattle.nr_rev.specs.declared.sides.Side.{Side}

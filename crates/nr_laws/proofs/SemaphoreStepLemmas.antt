@@ -160,7 +160,8 @@ front_queued gs s f side q queued = go (slice_get gs f) refl
     go None at = let a : bit (is_queued s side (slice_get gs f)) ≡ 0 = ap (λ o. bit (is_queued s side o)) at in let b = shows in absurd (omega arith)
     go (Some status) at = at ∙ ap Some (is_it status (sym (ap (λ o. bit (is_queued s side o)) at) ∙ shows))
 
--- true if next is well formed, has as many sockets as w, and no goroutine's owed releases changed
+-- true if `next` is well formed, has as many sockets as `w`, and keeps the releases that goroutines
+-- owe in `w`
 pub record Released (w next : World) : Type 0 where
   pub fits : WellFormed next
   pub sockets : length next.sockets ≡ length w.sockets

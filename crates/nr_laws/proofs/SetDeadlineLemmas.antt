@@ -56,7 +56,7 @@ followed_alike side old a b orders d r q (TimerUpdate.Armed begun running wants,
     orders_alike x x' f f' n n' e e' e'' = cc
 followed_alike side old a b orders d r q (TimerUpdate.Stopped raised halted, stop) = (TimerUpdate.Stopped (q ∙ raised) (r ∙ halted), stop)
 
--- the timers after a side's orders, which raise the next arming number from n to m
+-- a side's orders turn the timers `before` into `after`, and raise the next arming number from n to m
 pub record OrdersDone (side : Side) (old new : Descriptor) (before after : Sides (Option Timer)) (n m : ℕ) : Type 0 where
   pub update : TimerUpdate side old new
   pub timer : of_side side after ≡ timer_left side old new (of_side side before) n update

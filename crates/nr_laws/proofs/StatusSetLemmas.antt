@@ -101,7 +101,7 @@ may_stay w g old new place h at from to unnamed owes_none =
     inside : HasView wait_of w.goroutines g place
     inside = ap (option_and_then wait_of) at ∙ from
 
--- a goroutine moves to a status that the words and the queues can't distinguish from its old one
+-- a goroutine moves to a status that requires the same wait words and queues as its old one
 pub moved : (w : World) (g : ℕ) (old new : Status) → WellFormed w → slice_get w.goroutines g ≡ Some old → MayMove w.goroutines w.sockets w.descriptors w.free g new → parked_of new ≡ parked_of old
     → awaiting_of new ≡ awaiting_of old → ((s : ℕ) (side : Side) → is_queued s side (Some new) ≡ is_queued s side (Some old)) → WellFormed (with_status g new w)
 moved w g old new h at may parked awaits queued =
@@ -154,7 +154,7 @@ owing_outside s owed = go (owed.read + owed.write == 0)
     go true = refl
     go false = refl
 
--- a goroutine outside all waits changes its status, and then owes the releases of an operation
+-- a goroutine outside all waits and queues comes to owe these releases
 pub comes_to_owe : (w : World) (g s : ℕ) (old : Status) (owed : Sides ℕ) → WellFormed w → slice_get w.goroutines g ≡ Some old → is_outside old ≡ true → s < length w.sockets
     → ((side : Side) → IsField (of_side side owed)) → WellFormed (with_status g (owing s owed) w)
 comes_to_owe w g s old owed h at was_outside within small =

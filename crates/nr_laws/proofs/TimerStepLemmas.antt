@@ -32,7 +32,7 @@ use Rattle.nr_laws.proofs.DescriptorChangeLemmas.{changed_keeps}
 use Rattle.std.proofs.lemmas.List.Edits.{length-remove}
 use Rattle.nr_rev.proofs.OutcomeLemmas.{Ends, Keeps, KeepsFor, Ends-ok, Ends-bind, Ends-then, Ends-either, Ends-certain, Ends-found_or, Ends-refused_if, Ends-refused_unless}
 
--- a time that isn't after the clock isn't after a later clock either
+-- a time at or before the clock is also at or before a later clock
 not_before : (a t c : ℤ) → int_lt t c ≡ false → a ≤ℤ c → a ≤ℤ t
 not_before a t c e h = omega (arith, ints)
 

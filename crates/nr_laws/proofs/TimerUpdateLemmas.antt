@@ -78,7 +78,7 @@ combo_positive d e s = go s
     go Read = parts.0
     go Write = ap is_positive (sym equal) ∙ parts.0
 
--- under combo, both deadlines are the same time
+-- under combo, both deadlines are equal
 combo_same : (d : Descriptor) → is_combo d ≡ true → (a b : Side) → of_side a d.deadlines ≡ of_side b d.deadlines
 combo_same d e = go
   where

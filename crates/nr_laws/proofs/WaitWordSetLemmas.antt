@@ -100,8 +100,8 @@ word_and_status_keep w g d after side row old new was word h at row_at is_open i
     (WaitWordsFit-set w.goroutines w.descriptors w.waiters after g d side row old new was word at row_at is matches counts h.words)
 
 -- True if neither status is parked, both are queued at the same semaphores, and a goroutine with
--- the old status awaits no wait word but this one. If the word has the value wait, a goroutine with
--- the new status awaits this word.
+-- the old status awaits no other wait word. If the word has the value `Wait`, a goroutine with the
+-- new status awaits this word.
 pub record StatusMatchesUnheld (d : ℕ) (side : Side) (old new : Status) (word : WaitWord) : Type 0 where
   pub unparked : (parked_of old ≡ None) × (parked_of new ≡ None)
   pub awaits : word ≡ WaitWord.Wait → awaiting_of new ≡ Some (d, side)
@@ -158,8 +158,7 @@ held_alone w g k d side h inside has =
     let at : slice_get w.goroutines k ≡ Some (Parked d side) = parked_at w.goroutines k d side ((h.words.held k d side).0 has) in
     ap (slice_get w.goroutines) (h.goroutines.one_inside g k d side inside (ap (option_and_then wait_of) at)) ∙ at
 
--- if a side's wait word has the value wait, the goroutine inside the wait at that side awaits this
--- word
+-- if a side's word has the value `Wait`, the goroutine inside the wait at that side awaits this word
 waiting_alone : (w : World) (g d : ℕ) (side : Side) → WellFormed w → IsInside w.goroutines g d side → HasWaitWord w.descriptors d side WaitWord.Wait → HasView awaiting_of w.goroutines g (d, side)
 waiting_alone w g d side h inside has =
     let a = h.words.waited d side has in

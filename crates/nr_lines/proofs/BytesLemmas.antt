@@ -155,8 +155,7 @@ runs_cut at_once d d' old w w' held lines whole whole' false e none runs fails =
 runs_cut at_once d d' old w w' held lines whole whole' true e none (front, line, back, split, b, goes, quit) fails =
     cut_held d d' old w w' held (front ++ line ∷ []) back lines whole whole' whole' e at_once none b (none_before_last front line goes) fails (split ∙ sym (append_assoc front (line ∷ []) back))
 
--- after the lines that end in one read were run, the held bytes were written, or a write of them
--- failed
+-- once the lines completed by one read have run, the held bytes are written, or writing them fails
 pub bytes_out : (at_once : Bool) (before bytes : List ℕ) (d d' : FrontState) (old w w' : Outgoing) (held line : List ℕ) (whole whole' : ℕ) (quits : Bool)
     → AnswersBytes at_once before bytes d d' old w held line whole whole' (Ok quits) → WritesAll w w' held → AnswersBytes at_once before bytes d d' old w' [] line whole whole' (Ok quits)
 bytes_out at_once before bytes d d' old w w' held line whole whole' quits a goes =

@@ -323,7 +323,7 @@ closed_after from left old w w' d p p' read line whole whole' st at_end some b g
       );
     }
 
--- the last line is `quit` or not
+-- the last line may be `quit`
 pub last_closes : (at_once quits : Bool) (from left : Incoming) (old w w' : Outgoing) (d p p' : FrontState) (read line : List ℕ) (whole whole' : ℕ) → LoopInvariant from left old w d p read read line whole → IsOver left
     → 0 < length line → RunsLines at_once p p' w w' [] (unfinished_line read ∷ []) whole whole' (Ok quits) → quits ≡ false → AnswersBy at_once from left old w' d p' (Ok Closed)
 last_closes at_once false from left old w w' d p p' read line whole whole' st at_end some runs goes =

@@ -99,8 +99,8 @@ lines_at_end text =
 too_long : (line : List ℕ) → nat_lt 256 (length line) ≡ true → meaning_of line ≡ Err TooLong
 too_long line h = ap (λ t. cond t (Err TooLong) (meaning_of_words (words (without_return line)))) h
 
--- the first 257 bytes of a line have the meaning of the whole line, since every line of more than
--- 256 bytes is too long
+-- reading the first 257 bytes of a line gives the same result as reading the whole line, since every
+-- line of more than 256 bytes is too long
 pub meaning_of-take : (line : List ℕ) → meaning_of (take 257 line) ≡ meaning_of line
 meaning_of-take line =
     elim (nat_lt 256 (length line)) as (λ t. nat_lt 256 (length line) ≡ t → meaning_of (take 257 line) ≡ meaning_of line) [

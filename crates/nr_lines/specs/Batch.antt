@@ -67,7 +67,7 @@ pub record Batch (d d' : FrontState) (old new : Outgoing) (held : List ℕ)
 -- A write failed within the text of a line, after the texts of earlier lines were written. If
 -- replies are written together, later lines may have been run too. If each reply is written
 -- immediately, no later line was run, and the error contains the number of whole replies and the
--- number of bytes of the cut one.
+-- number of bytes written of the reply that was cut.
 pub record Cut (at_once : Bool) (d d' : FrontState) (old new : Outgoing) (lines : List (List ℕ))
     (whole : ℕ) (e : LineEnd) : Type 0 where
   pub front : List (List ℕ)

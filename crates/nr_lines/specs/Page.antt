@@ -18,7 +18,7 @@ pub record GoesBehind (old : Outgoing) (held text : List ℕ) (new : Outgoing) (
   pub calm : new.failed ≡ old.failed
 
 -- A write failed while a text was added to the held bytes. Of all these bytes, exactly the first n
--- were written. If no bytes were held, the count reports n.
+-- were written. If no bytes were held, the count is n.
 pub record CutBehind (old : Outgoing) (held text : List ℕ) (new : Outgoing) (count : ℕ) :
     Type 0 where
   pub n : ℕ

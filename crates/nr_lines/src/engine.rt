@@ -75,8 +75,8 @@ where
 }
 
 /// Does the same as `answer`, but holds the replies to the lines of one read, up to 4 KB, and
-/// writes them at once before the next read. If a write fails, lines after the line whose reply was
-/// cut may have run too.
+/// writes them together before the next read. If a write fails, lines after the line whose reply
+/// was cut may have run too.
 pub fn answer_together<R: Read, W: Write, S: Worlds + Drop + Sync, F: Finder>(
     r: &mut Source<R>,
     w: &mut Sink<W>,

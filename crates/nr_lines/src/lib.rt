@@ -1,4 +1,4 @@
-//! Answers the lines of a reader with a front of the shared session, and writes the replies.
+//! Uses a front of the shared session to answer the lines of a reader, and writes the replies.
 #![tactic(auto)]
 
 mod batch;

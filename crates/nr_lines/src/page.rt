@@ -65,7 +65,7 @@ impl Page {
         false
     }
 
-    /// Removes the part of a text that was held last.
+    /// Removes this part of a text from the end of the held bytes.
     // (Not inlined: it has a local page, which would be cleared each time a text is held.)
     #[inline(never)]
     fn take_back(&mut self, part: Part)

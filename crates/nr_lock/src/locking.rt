@@ -108,7 +108,7 @@ impl LockWord {
         ))
     }
 
-    /// Unlocks a side and releases its reference, and owes a release to one waiter of that side, if it has any (Go's
+    /// Unlocks a side and releases its reference. If goroutines wait for that side, one of them is owed a release (Go's
     /// `rwunlock`).
     #[inline(always)]
     pub(crate) fn rw_unlock(self, side: Side) -> Result<(LockAnswer, LockWord), Refusal>

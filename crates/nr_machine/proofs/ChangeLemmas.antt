@@ -59,7 +59,7 @@ pub record Timed (d : ℕ) (orders : List TimerOrder) (asked : List TimersOp) (b
   pub back : ObeyBack both new old
   pub light : sides_weight (option_weight timers.delta_weight) both ≤ 20
 
--- the timers after orders
+-- once a descriptor's orders have been carried out, its timers are as the orders say
 obeyed_timed : (d : ℕ) (orders : List TimerOrder) (both : Sides (Option TimersDelta)) (old new : Core) → Obeyed old d orders new → ObeyBack both new old
     → sides_weight (option_weight timers.delta_weight) both ≤ 20 → Timed d orders (map (timers_op d) orders) both old new
 obeyed_timed d orders both old new obeyed back light =

@@ -46,7 +46,7 @@ use Rattle.nr_machine.proofs.SocketsLemmas.{length-sockets_of, semaphores_at, se
 abbrev pub with_table : GoroutineTable → WorldParts → WorldParts
 with_table t m = record m { core = record m.core { goroutines = t } }
 
--- the outcome of the world that corresponds to an outcome of the goroutine table
+-- the world's outcome that corresponds to an outcome of the goroutine table
 abbrev pub lifted : WorldParts → table.Outcome → Outcome
 lifted m (Ok left) = Ok (left.0, meant (with_table left.1 m))
 lifted m (Err e) = Err e

@@ -30,7 +30,7 @@ seen d t = (timers_of t.entries d, t.next)
 abbrev Left : Type 0
 Left = Result (Sides (Option Timer) × ℕ) Refusal
 
--- true if only timers of descriptor d changed, and no firing
+-- true if the timers of other descriptors, the firings, and the limit of descriptors are unchanged
 pub record ChangesTimers (d : ℕ) (old new : State) : Type 0 where
   pub others : (k : ℕ) → k ≢ d → timers_of new.entries k ≡ timers_of old.entries k
   pub firings : new.firings ≡ old.firings

@@ -132,7 +132,7 @@ first_back core d first most =
     let more : length core.free.items ≡ suc (length (drop 1 core.free.items)) = ap length is in
     (omega arith, ap (λ (free : List ℕ). record core { free = record core.free { items = free } }) is)
 
--- the descriptor of the first free number is opened
+-- the descriptor with the first free number is opened
 pub reopening_made : (m : WorldParts) (s d : ℕ) (x after : Descriptor) (answer : DescAnswer) (before : DescDelta) → IsWorld m → slice_get m.core.free.items 0 ≡ Some d
     → length m.core.free.items ≤ m.core.free.room → find_row d (meant m) ≡ Ok (row_with m d x) → desc_op.StepTo x (op.Open s) answer after → DescFits after → x ≡ before.before
     → Made (opening_of s m.core.free.items (meant m)) [] MOST_WORDS m (Number d) (undo.Reopened (record { descriptor = d; before = before }))

@@ -13,8 +13,8 @@ use Rattle.nr_machine.specs.World.{WorldParts}
 use Rattle.nr_rev.specs.declared.limits.Limits.{Limits}
 use Rattle.nr_machine.specs.declared.world_core.Core.{Core}
 
--- each buffer has the limit; of the sockets from `first` on, those before `socket` or without a
--- lock are closed
+-- Each buffer has the limit. A socket from `first` on is closed if it comes before `socket` or has
+-- no lock.
 pub record AreReset (buffer first socket locks : ℕ) (socks : List SockParts) : Type 0 where
   pub limit : HaveLimit buffer socks
   pub closed : (s : ℕ) (sock : SockParts) → slice_get socks s ≡ Some sock → first ≤ s → (s < socket) ⊎ (locks ≤ s) → sock.opened ≡ None
@@ -118,7 +118,7 @@ pub record IsOpened (world snapshot : WorldParts) (opened rest : List SockParts)
   pub socks : snapshot.socks ≡ opened ++ rest
   pub limits : snapshot.core.limits ≡ world.core.limits
 
--- the parts that contracts see satisfy IsOpened
+-- the parts visible to contracts satisfy `IsOpened`
 pub is_opened : (seen world_seen world snapshot : WorldParts) (kept opened rest : List SockParts) → seen ≡ snapshot → world_seen ≡ world → seen.socks ≡ kept ++ rest → kept ≡ opened
     → world_seen.core.limits ≡ seen.core.limits → IsOpened world snapshot opened rest
 is_opened seen world_seen world snapshot kept opened rest is world_is socks same limits =

@@ -110,7 +110,7 @@ module _ (m : WorldParts) (h : IsWorld m) where
     takes_none None rc wc some = omega (arith, some)
     takes_none (Some opened) rc wc some = omega (arith, some)
 
-    -- the step is refused for the reason for which the buffers refuse it
+    -- if the buffers refuse the step, the world refuses it for the same reason
     pub opening_refused : (step : Step) (e : Refusal) → IsOpening step → Refuses sock.sock_reason sock.TakesMemory before step e → parts_reason m step ≡ Some e
     opening_refused (SockOpen rc wc) e is (inl why) =
         ap refusal_of (at_buffers rc wc ∙ ap (lifted_opening (meant m)) (refused_for (sock.outcome before (SockOpen rc wc)) e why))

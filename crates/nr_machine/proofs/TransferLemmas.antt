@@ -178,8 +178,8 @@ module _ (m : WorldParts) (s : ℕ) (step : Step) (h : IsWorld m) (is : IsTransf
     no_reason (Ok left) why = refl
     no_reason (Err reason) why = cc
 
-    -- if the step is refused on the buffers, the world refuses it for the same reason: the step's
-    -- own, or lack of memory for the bytes that the step removes
+    -- If the buffers refuse the step, the world refuses it for the same reason. The reason may be lack
+    -- of memory for the bytes that the step removes.
     pub transfer_refused : (keeps : Bool) (e : Refusal) → keeps ≡ true → Refuses sock.sock_reason sock.TakesMemory before step e
         → Refuses parts_reason (λ (k : WorldParts) (op : Step). (keeps ≡ true) × TakesMemory k op) m step e
     transfer_refused keeps e is_kept (inl why) = inl (ap refusal_of (buffers_refused e why))

@@ -1,5 +1,5 @@
--- The operations on the timers that steps request. They determine the timers' places in the heap,
--- which the represented world doesn't show.
+-- The timer operations that steps request. They determine the timers' places in the heap, which the
+-- represented world doesn't show.
 use Rattle.std.specs.Prelude.{◌≡◌, ℕ, List, [], ◌∷◌, map, Ok, Err}
 use Rattle.nr_rev.specs.declared.step.Step.{Step}
 use Rattle.nr_rev.specs.declared.step.Step.TheVariants as step
@@ -26,16 +26,16 @@ abbrev pub timers_op : ℕ → TimerOrder → TimersOp
 timers_op d (order.Arm side due function sequence) = timers.Arm d side due function sequence
 timers_op d (order.Stop side) = timers.Stop d side
 
--- the operations on the timers of descriptor d that an outcome requests
+-- the timer operations that an outcome of descriptor d requests
 abbrev pub asked_by : ℕ → Outcome → List TimersOp
 asked_by d (Ok left) = map (timers_op d) left.1.orders
 asked_by d (Err e) = []
 
--- the operations on the timers that an operation on descriptor d requests
+-- the timer operations that an operation on descriptor d requests
 abbrev pub asked_at : ℕ → DescOp → WorldParts → List TimersOp
 asked_at d op m = asked_by d (desc_outcome d op m.core)
 
--- the operations on the timers that a step requests
+-- the timer operations that a step requests
 abbrev pub asked_of : WorldParts → Step → List TimersOp
 asked_of m (step.SetDeadline g d mode t) = asked_at d (desc.SetDeadline m.core.clock mode t) m
 asked_of m (step.Evict g d) = asked_at d desc.Evict m

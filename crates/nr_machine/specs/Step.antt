@@ -8,9 +8,9 @@ use Rattle.nr_machine.specs.Asked.{TimersMade, asked_of}
 use Rattle.nr_machine.specs.Fits.{IsWorld, PartsFit}
 use Rattle.nr_machine.specs.World.{WorldParts, meant}
 
--- The step turns a packed world into parts that fit and represent the machine's next world. The
--- operations that the step requests turn the old timers into the new ones, so each entry has only
--- one place in the heap.
+-- The step turns a packed world into parts that satisfy `PartsFit` and represent the machine's next
+-- world. The operations that the step requests turn the old timers into the new ones, so each entry
+-- has only one place in the heap.
 pub record StepTo (old : WorldParts) (step : Step) (answer : Answer) (new : WorldParts) : Type 0
   where
     pub world : IsWorld old

@@ -17,7 +17,7 @@ IsTransferOf g s (SysWrite h t bytes) = (h ≡ g) × (t ≡ s)
 IsTransferOf g s (CloseWrite h t) = (h ≡ g) × (t ≡ s)
 IsTransferOf g s _ = ⊥
 
--- true if the step is on the buffers of socket s, and its goroutine, if any, is idle
+-- true if the step acts on the buffers of socket s, and its goroutine, if any, is idle
 abbrev pub IsTransfer : ℕ → World → Step → Type 0
 IsTransfer s w (Arrive t bytes) = t ≡ s
 IsTransfer s w (PeerClose t) = t ≡ s

@@ -1,4 +1,4 @@
-//! The values of cells that aren't a single number of the core.
+//! The values of all cells but the clock, the waiters and the firings.
 
 ghost use Rattle.std.specs.Prelude.{◌≡◌, length, slice_get};
 ghost use Rattle.nr_rev.specs.Cell.{cell, descriptor_value, socket_value};

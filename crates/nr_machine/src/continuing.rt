@@ -115,8 +115,8 @@ impl Core {
         }
     }
 
-    /// Carries out the read side's timer order and then the write side's: either all of them or
-    /// none. Doesn't touch the heap if there are no orders.
+    /// Carries out the read side's timer order and then the write side's: either both or neither.
+    /// Doesn't touch the heap if there are no orders.
     #[inline(always)]
     fn obey(
         &mut self,

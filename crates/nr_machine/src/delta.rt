@@ -21,7 +21,7 @@ pub struct WorldDelta {
 pub(crate) enum WorldUndo {
     /// Nothing changed.
     Still,
-    /// Goroutines, or a semaphore, changed.
+    /// Some goroutines or a semaphore changed.
     Goroutine(GDelta),
     /// A lock changed, and perhaps the status of the goroutine that used it.
     Locked {

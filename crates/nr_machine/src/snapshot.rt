@@ -66,8 +66,8 @@ pub(crate) fn snapshots(
     Ok(snapshots)
 }
 
-/// Returns the buffers of this number of sockets: first those of the snapshots, then ones that were
-/// never opened.
+/// Returns the buffers for this many sockets: first those of the snapshots, then those of sockets
+/// that were never opened.
 pub(crate) fn restored_socks(
     alloc: Global,
     opened: &[SockSnapshot],

@@ -113,8 +113,8 @@ impl Mark {
         }
     }
 
-    /// Returns whether the mark is deleted after the first stop at which it hits, as a breakpoint
-    /// of GDB's `tbreak` is.
+    /// Returns whether the mark is deleted after the first stop at which it hits, like a breakpoint
+    /// set with GDB's `tbreak`.
     pub fn is_temporary(self) -> bool
         ensures { result ≡ is_temporary self }
     {

@@ -179,7 +179,7 @@ impl Marks {
         }
     }
 
-    // Returns the numbers of the marks that hit between two worlds, with this next step.
+    // Returns the numbers of the marks that hit between two worlds, given the next step, if any.
     fn hits_before<W: Worlds>(
         &self,
         before: &W,

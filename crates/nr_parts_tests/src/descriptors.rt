@@ -44,8 +44,8 @@ fn parked() -> Result<Desc, Refusal>
     Ok(desc)
 }
 
-/// The answer of an operation, the goroutines that it wakes, its orders to timers, and the numbers
-/// after it and after its undo.
+/// An operation's answer, the goroutines that it wakes, its orders to timers, and the descriptor's
+/// numbers after the operation and after its undo.
 type Played = (
     Answer,
     Sides<Option<u32>>,

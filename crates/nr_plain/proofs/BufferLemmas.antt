@@ -13,7 +13,7 @@ capacity_within w s socket h at =
     let fits = h.sockets s socket at in
     ((fits.capacities Read).1, (fits.capacities Write).1)
 
--- a write of at most as many bytes as the output has room for fits into the output
+-- if the output has room for n more bytes, writing them keeps it within the limit of the world
 pub written_fits : (w : World) (s : ℕ) (socket : Socket) (n : ℕ) → WellFormed w → slice_get w.sockets s ≡ Some socket → n ≤ room_of socket.buffers.write
     → length socket.buffers.write.bytes + n ≤ w.limits.buffer
 written_fits w s socket n h at room =

@@ -19,7 +19,8 @@ use Rattle.nr_plain.specs.declared.plan.Plan.{Plan}
 use Rattle.nr_plain.specs.Continuing.{Continues}
 use Rattle.nr_plain.specs.Plan.{CanEditAll, after_edits, total_weight}
 
--- carrying out both sides' orders is carrying out one side's and then the other's
+-- carrying out both sides' orders as one list gives the same result as carrying out one side's and
+-- then the other's
 pub both_obeyed : (a b : Option TimerOrder) (before : Sides (Option Timer) × ℕ)
     → after_orders (option_to_list a ++ option_to_list b) before ≡ (after_orders (option_to_list a) before >>= after_orders (option_to_list b))
 both_obeyed None b before = refl

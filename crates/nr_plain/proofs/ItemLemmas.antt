@@ -27,8 +27,8 @@ module _ {X : Type 0} (change back : X → X) (xs : List X) (place : ℕ) where
       ap (λ (found : Option X). with_item place (option_map back found) (with_changed place change xs)) (changed-here change xs place)
       ∙ returned_as (slice_get xs place) refl returns
 
--- if P holds for `change x` for an option's element x, P holds for the element of the option that
--- `option_map change` returns
+-- if P holds for `change x` whenever `found` contains x, P holds for the element of
+-- `option_map change found`
 pub mapped_known : {X Y : Type 0} (change : X → Y) (P : Y → Type 0) (found : Option X) → IfSome found (λ x. P (change x)) → IfSome (option_map change found) P
 mapped_known change P None known = tt
 mapped_known change P (Some x) known = known

@@ -79,7 +79,7 @@ CanEditSocket queue_room byte_room (edit.Append side bytes) socket =
 CanEditSocket queue_room byte_room edit.ClosePeer socket = socket.peer_closed ≡ false
 CanEditSocket queue_room byte_room (edit.Shut shut) socket = Unit {0}
 
--- true if what the undo restores fits into queues and buffers with this much room
+-- true if queues and buffers with this much room can hold what the undo restores
 abbrev pub CanUndoSocket : ℕ → ℕ → SocketUndo → Socket → Type 0
 CanUndoSocket queue_room byte_room (undo.Lock lock) socket = Unit {0}
 CanUndoSocket queue_room byte_room (undo.Count side count) socket = Unit {0}

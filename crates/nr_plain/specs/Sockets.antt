@@ -23,8 +23,8 @@ table_view t =
       byte_room = t.byte_room;
     }
 
--- true if no more sockets are open than exist, and each socket has the table's room for queues and
--- bytes
+-- true if the number of open sockets is at most the number of sockets, and each socket has as much
+-- room for queues and bytes as the table prescribes
 pub record AreRoomed (t : Inside) : Type 0 where
   pub opened : t.opened ≤ length t.all.items
   pub roomed : All (HasRoom t.queue_room t.byte_room) t.all.items

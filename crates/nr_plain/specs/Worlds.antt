@@ -20,7 +20,7 @@ pub steps_are : (old : World) (step : Step) (answer : Answer) (new : World)
     → StepTo old step answer new → outcome old step ≡ Ok (answer, new)
 steps_are old step answer new leads = leads
 
--- a plain world refuses a step for the same reason as the machine
+-- a plain world refuses a step for the same reason as the machine does
 pub reasons_are : (old : World) (step : Step)
     → world_reason old step ≡ refusal_of (outcome old step)
 reasons_are old step = λ _. world_reason old step

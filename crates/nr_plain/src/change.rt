@@ -38,7 +38,7 @@ pub(crate) struct Unblocked {
     pub(crate) woken: Option<u32>,
 }
 
-/// Returns the change to this descriptor without orders and without waking a goroutine.
+/// Returns a change to this descriptor that gives no orders and wakes no goroutine.
 fn quiet(descriptor: Descriptor) -> PlainChange
     ensures viewed { change_view result ≡ spec.quiet descriptor }
     ensures orders { result.orders ≡ sides.twice None }

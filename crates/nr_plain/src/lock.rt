@@ -124,8 +124,8 @@ pub(crate) fn rw_lock(side: Side, lock: Lock) -> Result<LockOutcome, Refusal>
     ))
 }
 
-/// Unlocks a side, releases its reference, and owes a release to one of the side's waiters, if any
-/// (Go's `rwunlock`).
+/// Unlocks a side and releases its reference. If goroutines wait for that side, one of them is owed
+/// a release (Go's `rwunlock`).
 pub(crate) fn rw_unlock(side: Side, lock: Lock) -> Result<LockOutcome, Refusal>
     ensures { result ≡ spec.rw_unlock side lock }
 {

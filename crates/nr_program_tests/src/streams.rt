@@ -1,4 +1,4 @@
-//! Streams that move one byte per call, and stop.
+//! Streams that move one byte per call, and may fail partway.
 use crate::playing::{Program, record, run_on};
 use crate::texts::{REPLIES, SCRIPT};
 use nr_programs::ExitStatus;

@@ -30,8 +30,8 @@ at 14 held-reference sock 0 gor 1 count 1 since 12 gone
 ok 14 steps
 ";
 
-/// A goroutine tries the socket before it sleeps, and another goroutine returns the reference that
-/// it took.
+/// A goroutine tries the socket before it sleeps. Another goroutine takes a reference and returns
+/// it.
 const INNOCENT: &str = "[\"sockopen\",16,16]
 [\"pollopen\",0,0]
 [\"pollevent\",0,1,\"r\",0]

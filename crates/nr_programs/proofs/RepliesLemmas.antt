@@ -179,7 +179,7 @@ ends_by d (l ∷ lines) line (text ∷ given) d' h =
     let x = ends_by h.0 lines line given d' h.2 in
     record { front = text ∷ x.front; text = x.text; mid = x.mid; given_is = ap (λ (l : List (List ℕ)). text ∷ l) x.given_is; turns = (h.0, h.1, x.turns); turn = x.turn }
 
--- the lines of a text before its end is known are also its first lines afterwards
+-- the lines found in a text before its end is known are its first lines once the end is known, too
 more_lines : (ended : Bool) (text : List ℕ) → (more : List (List ℕ)) × (lines_of true text ≡ lines_of ended text ++ more)
 more_lines true text = ([], sym (append-nil (lines_of true text)))
 more_lines false text = (_, lines_at_end text)
@@ -259,8 +259,8 @@ calm_may r journal s [] = tt
 calm_may r journal s (line ∷ lines) =
     (calm_one r journal s s.owed (meaning_of line), unless_calm (is_quit (meaning_of line)) (calm_may r journal (answer_among r s.owed (meaning_of line) calm s).1 lines))
 
--- if the conditions of the first lines can arise, and those of the next line can, then the
--- conditions of all these lines can
+-- if the conditions of the first lines can arise, and then those of the next line can arise, the
+-- conditions of all these lines can arise
 may_with : (r : Recording) (s : SessionState) (d : FrontState) (front : List (List ℕ)) (line : List ℕ) (given : List (List ℕ)) (text : List ℕ) (mid d' : FrontState) (on : GoOn r s d front given mid)
     → (last : Goes r on.after mid line text d') (later all : List (List ℕ)) → all ≡ front ++ line ∷ later
     → UnlessQuit (is_quit (meaning_of line)) (AllMayMeet r (size_of mid) last.after later []) → AllMayMeet r (size_of d) s all (on.met ++ last.met ∷ [])

@@ -81,8 +81,8 @@ module _ (r : Recording) (c : Conversation) (s : SessionState) (d d' : FrontStat
   abbrev Complete : Type 0
   Complete = is_err c.ending ≡ false → IsOver c.input ⊎ (has_quit (lines_of false c.input.received) ≡ true)
 
-  -- the caller was answered if the bytes sent are a prefix of the replies, and are all of them
-  -- unless a write failed
+  -- the caller was answered if the bytes sent are a prefix of the replies, and, unless a write failed,
+  -- all of the replies
   goes_with : (failed : Bool) (says : List (List ℕ) → List Met → Type 0) → c.input.failed ≡ failed
       → ((ran : List (List ℕ)) (met : List Met) → says ran met → StartsWith (replies_among r s (not failed) read met) out)
       → ((ran : List (List ℕ)) (met : List Met) → says ran met → c.output.failed ≡ false → out ≡ replies_among r s (not failed) read met)

@@ -48,7 +48,7 @@ answer_among r owed asked m s = line_answer r owed asked m.supply s
 -- of the journal. If no reply is owed, a command or a query can come after words of other fronts,
 -- and it can run out of memory. A command can also find the journal full. If a reply is owed,
 -- `resume` can run out of memory. In all other cases, no words of other fronts come before the
--- line, and memory and journal room suffice.
+-- line, memory doesn't run out, and the journal has room.
 abbrev pub MayMeet : Recording → JournalSize → Option Command → Result Line LineFault → Met
     → SessionState → Type 0
 MayMeet r journal None (Ok (Run command)) m s =

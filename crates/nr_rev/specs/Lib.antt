@@ -16,7 +16,7 @@ pub mod Run
 pub mod WellFormed
 pub mod Reversible
 pub mod Worlds
--- more for callers: contracts of other crates and public functions of this crate cite these
+-- more definitions, which contracts of other crates and public functions of this crate cite
 pub mod RoomedList
 pub mod Aspect
 pub mod Transaction

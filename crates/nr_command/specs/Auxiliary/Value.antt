@@ -5,7 +5,7 @@ use Rattle.nr_command.specs.declared.value.Piece.{Piece}
 use Rattle.nr_command.specs.declared.value.Piece.TheVariants as pieces
 use Rattle.nr_command.specs.Value.{cell_text, value_text}
 
--- the text of a part of a line that shows a cell
+-- the text of one piece of the line that shows a cell
 abbrev pub piece_text : Piece → List ℕ
 piece_text (pieces.Text text) = text.now
 piece_text (pieces.Number number) = decimal number

@@ -65,15 +65,15 @@ owed_command front_state = own_pending front_state.pending
 abbrev pub last_place : FrontState → ℕ
 last_place front_state = length front_state.pass_state.seen
 
--- true if the last word read has this command, and this is the command's reply when the debugger
--- has run the earlier words
+-- true if the last word read encodes this command, and the command gives this reply after the
+-- debugger has run the earlier words
 pub record RepliesLast (front_state : FrontState) (command : Command) (reply : Reply) : Type 0 where
   pub debugger : Debugger
   pub behind : IsBehind front_state.recording front_state.pass_state.seen command debugger
   pub answer : reply ≡ (run front_state.recording command debugger).0
 
--- True if a command is pending and will search, so it may run out of memory. It runs after all
--- words before its own word.
+-- True if a command is pending and will search, so it may run out of memory. It runs once all
+-- earlier words have run.
 pub record SearchIsPending (front_state : FrontState) : Type 0 where
   pub command : Command
   pub debugger : Debugger

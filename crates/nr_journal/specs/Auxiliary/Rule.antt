@@ -23,7 +23,7 @@ IsDrawn tags tag = bit_at tags tag ≡ 1
 abbrev pub AreDrawn : ℕ → ℕ → Type 0
 AreDrawn tags count = (tag : ℕ) → tag < count → IsDrawn tags tag
 
--- true if only bits of tags below this number are set
+-- true if each tag whose bit is set is below this number
 abbrev pub AreFew : ℕ → ℕ → Type 0
 AreFew passes tags = (tag : ℕ) → IsDrawn tags tag → tag < passes
 

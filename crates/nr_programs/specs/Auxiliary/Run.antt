@@ -49,16 +49,16 @@ pub record Walks (from left : Incoming) (old new : Outgoing) (r : Recording) (st
   pub read_failed : left.failed ≡ is_read_failure ending
   pub write_failed : new.failed ≡ is_write_failure ending
 
--- Either the bytes are a recording whose steps all apply, and its session runs; or its first fault
--- is printed.
+-- Either the bytes are a recording whose steps all apply, and its session runs; or the first fault
+-- of the bytes is printed.
 abbrev pub Runs : List ℕ → Incoming → Incoming → Outgoing → Outgoing → ExitStatus → Type 0
 Runs bytes input left old new status =
     ((r : Recording) × IsGoodText bytes r × Walks input left old new r status)
     ⊎ ((fault : OpenFault) × IsFirstFault bytes fault
     × PrintsFault (fault_line fault) input left old new status)
 
--- Either the bytes are a recording whose steps all apply, and `ok` is printed; or its first fault
--- is printed.
+-- Either the bytes are a recording whose steps all apply, and `ok` is printed; or the first fault
+-- of the bytes is printed.
 abbrev pub Checks : List ℕ → Outgoing → Outgoing → ExitStatus → Type 0
 Checks bytes old new status =
     ((r : Recording) × IsGoodText bytes r × EndsPrinting (ok_line r) Done old new status)

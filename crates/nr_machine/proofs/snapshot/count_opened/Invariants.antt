@@ -2,7 +2,7 @@ use Rattle.std.proofs.Common.{◌≡◌, ◌-◌, ◌≤◌, ◌++◌, length, t
 use Rattle.nr_sockbuf.specs.Sock.{never_opened}
 use Rattle.nr_machine.proofs.snapshot.count_opened.Given as goal
 
--- the sockets after the count were never opened
+-- the sockets whose number is at least the count were never opened
 abbrev pub invariant-loop-count : goal.invariant-loop-count
 invariant-loop-count l =
     record {

@@ -44,7 +44,7 @@ returns-in-Err-print g c =
     broken r (c.loop-n.n + 1) next lines old mid new c.in-Err-print.field-0.0 further
     (subst (λ (x : List ChangeLine). Prints mid new (texts_of x) (Err c.in-Err-print.field-0)) c.as_slice-then-len-gt-LINES_AT_ONCE.ensures.value cut)
 
--- a step was applied, and the waiting lines were written if there were many
+-- a step was applied, and the waiting lines were written if another step's lines might not fit
 pub loop-n-preserved : goal.loop-n-preserved
 loop-n-preserved g c =
     let r = c.args.recording.now in

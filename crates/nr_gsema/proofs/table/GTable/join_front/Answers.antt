@@ -48,7 +48,7 @@ index_mut-requires-2 c =
     let size = c.self.inside.semaphores.ok.0 in
     omega arith
 
--- the table after the code
+-- the table after the function has run
 left : (c : goal.After-with)
     → AreTable (with_items (with_item c.self.inside.nodes c.args.goroutine (node_with (Queued c.args.socket c.args.side) c.of-queue.result.front None)) c.set_previous.new.nodes).items
     (set c.self.inside.semaphores.items c.args.socket c.with.result)

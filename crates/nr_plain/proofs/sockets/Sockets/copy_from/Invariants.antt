@@ -3,8 +3,8 @@ use Rattle.std.specs.List.{All}
 use Rattle.nr_plain.specs.Sockets.{HasRoom}
 use Rattle.nr_plain.proofs.sockets.Sockets.copy_from.Given as goal
 
--- the sockets copied so far equal those of the other table, and each socket has the table's room
--- for queues and bytes
+-- the sockets copied so far equal those of the other table, and each socket has as much room for
+-- queues and bytes as this table prescribes
 abbrev pub invariant-loop-place : goal.invariant-loop-place
 invariant-loop-place l =
     record {
