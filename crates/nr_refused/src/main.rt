@@ -2,10 +2,11 @@
 //! granted: `nr_refused CALL`, or `nr_refused all` for all calls, one after the other.
 //!
 //! The program refuses nothing itself. After it prints the line `refuse`, requests for memory may
-//! be refused; after the line `grant`, all are granted. python/tests/program/each_call.py preloads
-//! a library that obeys these lines. The library is built from scripts/refused.c. If a call was
-//! refused, the program also checks that the call changed nothing that it had to preserve. After
-//! the second call, the program prints a line with the result of both calls.
+//! be refused; after the line `grant`, all are granted. The line `refuse the next` makes the next
+//! request fail. python/tests/program/each_call.py preloads a library that obeys these lines. The
+//! library is built from scripts/refused.c. If a call was refused, the program also checks that the
+//! call changed nothing that it had to preserve. After the second call, the program prints a line
+//! with the result of both calls.
 #![tactic(auto)]
 
 mod calls;
