@@ -2,7 +2,7 @@
 # later, and pytest. `python3 python NAME` runs a module that is written in Python.
 
 BUILT = crates/netrev/out/netrev
-VERSION = $(shell sed -n 's/^VERSION = "\(.*\)"/\1/p' python/netrev_words/version.py)
+VERSION = $(shell sed -n 's/^VERSION = "\(.*\)"/\1/p' python/netrev/system/version.py)
 FILE = examples/first.jsonl
 PREFIX = /usr/local
 MINUTES = 5
@@ -62,11 +62,11 @@ refused: ready
 	@sh scripts/prove.sh nr_refused
 	crates/nr_refused/out/nr_refused all
 	@sh scripts/refused.sh
-	@sh scripts/pytest.sh --beside $(addprefix python/tests/program/,each_call.py refused_serving.py)
+	@sh scripts/pytest.sh --beside $(addprefix python/tests/program/,each_call.py serving/refused_serving.py)
 
 # Tests shared sessions over the loopback: up to 64 fronts at a time, and callers that misbehave.
 loopback: ready
-	@sh scripts/pytest.sh python/tests/program/loopback.py
+	@sh scripts/pytest.sh python/tests/program/serving/loopback.py
 
 # Tests bad recordings and bad command lines: each reason, faulty lines, headers and answers, each prefix of a short recording.
 hostile: ready
@@ -78,7 +78,7 @@ upgrades: ready
 
 # Tests the program against the system: closed or full streams, odd files, signals, little memory.
 system: ready
-	@sh scripts/pytest.sh $(addprefix python/tests/program/,system.py lengths.py endurance.py)
+	@sh scripts/pytest.sh $(addprefix python/tests/program/,system.py lengths.py serving/endurance.py)
 
 # Tests the largest recordings and sessions that are allowed.
 sizes: ready
@@ -86,19 +86,19 @@ sizes: ready
 
 # Tests nrdb and the fuzzer with the built program, and runs the hunts of examples/hunts.
 companion: ready
-	@sh scripts/pytest.sh --beside python/tests/program/nrdb python/tests/program/test_*.py
+	@sh scripts/pytest.sh --beside python/tests/program/nrdb python/tests/program/tools python/tests/program/serving/test_replies.py
 
 # Compares netrev and nrdb with a model in Python on random recordings and commands: `make fuzz MINUTES=30 SEED=7`. Differences
 # stay in out/fuzz (CONTRIBUTING.md). Not part of the gate.
 fuzz: ready
-	@python3 python netrev_fuzz --minutes $(MINUTES) --seed "$(SEED)"
+	@python3 python dev.fuzz --minutes $(MINUTES) --seed "$(SEED)"
 
 # Tries the recorder, nrdb, the adapter and the page on damaged or random input: `make fuzz-around MINUTES=30 SEED=7`. The gate tries a
 # few of each.
 fuzz-around: ready
-	@python3 python netrev_fuzz.around --minutes $(MINUTES) --seed "$(SEED)"
+	@python3 python dev.fuzz.around --minutes $(MINUTES) --seed "$(SEED)"
 
-# Tries mutants of nrdb, netrev_calls and netrev_go against their tests: `make mutants SEED=1 COUNT=200`, or `FILES=python/nrdb/holders.py`. It
+# Tries mutants of netrev, nrdb and netrev_go against their tests: `make mutants SEED=1 COUNT=200`, or `FILES=python/netrev/views/holders.py`. It
 # prints a table of those that survive (CONTRIBUTING.md). Not part of the gate.
 mutants: ready
 	@python3 scripts/mutants.py around $(if $(SEED),--seed $(SEED)) --count $(if $(filter file,$(origin COUNT)),200,$(COUNT)) $(FILES)
@@ -127,17 +127,17 @@ share: ready
 # With NETREV_BEFORE=FILE each table also has columns for an older netrev. Then it records a C program with GDB, shares sessions, searches with several
 # workers, and asks nrdb.
 bench: ready
-	@python3 python netrev_bench.run $(STEPS)
+	@python3 python dev.bench.run $(STEPS)
 	@echo
-	@python3 python netrev_bench.copies
+	@python3 python dev.bench.copies
 	@echo
-	@python3 python netrev_bench.gdb_record
+	@python3 python dev.bench.gdb_record
 	@echo
-	@python3 python netrev_bench.serving
+	@python3 python dev.bench.sessions
 	@echo
-	@python3 python netrev_bench.searching
+	@python3 python dev.bench.searches
 	@echo
-	@python3 python netrev_bench.companion
+	@python3 python dev.bench.companion
 	@echo
 	@$(MAKE) --no-print-directory pace
 
@@ -145,7 +145,7 @@ bench: ready
 # steps. It proves bench/pace/crate first.
 pace:
 	@sh bench/pace/prove.sh
-	@python3 python netrev_bench.pace $(lastword $(STEPS))
+	@python3 python dev.bench.pace $(lastword $(STEPS))
 
 # Installs netrev, nrdb and netrev-go with their man pages and completions below PREFIX: `make install PREFIX=~/.local`. With NETREV=FILE it
 # installs that program and proves nothing. Python is compiled too, because users may not be allowed to write there. Compiled files
@@ -197,14 +197,14 @@ try-deb:
 # takes about an hour. `make real ONLY=net/rpc` runs some packages, `ONLY='^net$$' TESTS='^TestUnix'` some tests of a package. The gate runs a
 # small part.
 real: ready
-	@sh scripts/pytest.sh $(addprefix python/tests/,go_tool.py go_kept.py go_planted.py go_signals.py go_tests.py go_waits.py)
-	@python3 python netrev_go.real --only '$(ONLY)' --tests '$(TESTS)' --go "$(GO)"
+	@sh scripts/pytest.sh $(addprefix python/tests/support/,go_tool.py go_kept.py go_planted.py go_signals.py go_tests.py go_waits.py)
+	@python3 python dev.recorder.real --only '$(ONLY)' --tests '$(TESTS)' --go "$(GO)"
 
 # Tests that recording changes nothing about a program and loses no run: `make trials GO="1.19 1.27"`. A release takes about ten minutes;
 # the gate runs only a part.
 trials: ready
-	@python3 python tests.go_untouched $(GO)
-	@python3 python tests.go_killed $(GO)
+	@python3 python tests.trials.go_untouched $(GO)
+	@python3 python tests.trials.go_killed $(GO)
 
 # Removes what was built and checked in this folder, but not what `make test` stores elsewhere on this machine.
 clean:

@@ -7,7 +7,7 @@ from pathlib import Path
 from typing import Any, Iterator
 
 import pytest
-from tests.program.sharing import NETREV, is_program
+from tests.program.support.sharing import NETREV, is_program
 
 PLAYED = Path(__file__).parent / "python/tests/program"
 IS_BUILT = is_program(NETREV)

@@ -1,4 +1,4 @@
-/* What python/netrev_bench/gdb_record.py records: rounds of a lock, a write to one end of a socket pair, a read from the other end, and
+/* What python/dev/bench/gdb_record.py records: rounds of a lock, a write to one end of a socket pair, a read from the other end, and
    the lock's release. */
 
 #include <pthread.h>

@@ -39,7 +39,7 @@ join_soon() {
 }
 
 if [ -d "$here/../python/tests" ]; then
-	port=$(python3 "$here/../python" tests.program.sharing 2)
+	port=$(python3 "$here/../python" tests.program.support.sharing 2)
 else
 	# (an archive of netrev lacks the tests, which choose free ports)
 	port=$((10240 + $$ % 10000 * 2))

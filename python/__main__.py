@@ -1,6 +1,6 @@
 """Runs a program of this folder:  python3 python NAME [WORDS ..]
 
-NAME is a module, as for `python3 -m NAME`: `nrdb`, `netrev_fuzz`, `tests.program.system`. Python then looks for modules in
+NAME is a module, as for `python3 -m NAME`: `nrdb`, `dev.fuzz`, `tests.program.system`. Python then looks for modules in
 this folder, and not in the one that it is called in.
 """
 

@@ -17,8 +17,8 @@ ROOT = pathlib.Path(__file__).resolve().parents[1]
 COMMANDS = ROOT / "docs/reference/COMMANDS.md"
 sys.path.insert(0, str(ROOT / "python"))
 
+from netrev.system.version import VERSION  # noqa: E402
 from netrev_go import options, usage  # noqa: E402
-from netrev_words.version import VERSION  # noqa: E402
 from nrdb import cli  # noqa: E402
 
 CODE = "    "  # the indentation of each line of a block of code

@@ -2,7 +2,7 @@
 """Tries mutants:  scripts/mutants.py [--plant FILE] [--list] CRATE [NAME ..]
                scripts/mutants.py around [--seed N] [--count N] [--list] [FILE ..]
 
-`around` chooses random mutants of nrdb, netrev_calls and netrev_go from a seed, and runs their tests against them (scripts/mutating). Otherwise the
+`around` chooses random mutants of netrev, nrdb and netrev_go from a seed, and runs their tests against them (scripts/mutating). Otherwise the
 edits of a crate are tried, many in a single check.
 
 The gate tries each edit of crates/CRATE/must-fail alone, over the whole crate. This script puts the edits of different

@@ -118,7 +118,7 @@ refuse_each() {
 # Checks `changes` and `suspects` with each allocation refused.
 play_lists() {
 	for program in changes suspects; do
-		python3 "$here/../python" netrev_machine "$program" "$2" > "$work/right" || [ "$1" != 0 ]
+		python3 "$here/../python" netrev.machine "$program" "$2" > "$work/right" || [ "$1" != 0 ]
 		refuse_each "$1" "$work/nothing" "$program" "$2"
 	done
 }
@@ -137,7 +137,7 @@ play_example() {
 	refuse_each 0 "$work/nothing" check "$recording"
 	[ "$lines" = 0 ] || differs check "$recording"
 
-	python3 "$here/../python" tests.program.given "$recording" > "$work/right"
+	python3 "$here/../python" tests.program.support.given "$recording" > "$work/right"
 	refuse_each 0 "$work/nothing" upgrade "$recording"
 	play_lists 0 "$recording"
 }

@@ -48,5 +48,5 @@ else
 	fi
 fi
 for release in 1.19 1.27; do
-	python3 python netrev_go.fetching "$release" >> "$log" 2>&1 || echo "setup: Go $release can't be fetched here ($log)"
+	python3 python dev.recorder.fetching "$release" >> "$log" 2>&1 || echo "setup: Go $release can't be fetched here ($log)"
 done

@@ -1,13 +1,13 @@
 #!/bin/sh
 # Installs the Debian package in a temporary root, and does there what README shows:  scripts/try_deb.sh DEB [GO]
 #
-# GO is a folder with a Go release as Debian's packages unpack it (`python3 python netrev_go.fetching 1.27` prints the
+# GO is a folder with a Go release as Debian's packages unpack it (`python3 python dev.recorder.fetching 1.27` prints the
 # folder of its commands). debootstrap (a Debian package) makes the root; it needs root privileges and Debian's mirror.
 # The root has no Go of its own, and apt must not install one, so recommended packages are left out.
 set -eu
 deb=$(readlink -f -- "$1")
 cd "$(dirname "$0")/.."
-go=${2:-$(python3 python netrev_go.fetching 1.27)}
+go=${2:-$(python3 python dev.recorder.fetching 1.27)}
 release=$(basename "$(dirname "$go")")
 usr=$(readlink -f -- "$go/../../..")
 room=$(mktemp -d)
@@ -29,7 +29,7 @@ inside() {
 mount -t proc proc "$root/proc"
 trap 'umount "$root/proc"; rm -rf "$room"' EXIT
 began=$(date +%s)
-python3 python tests.program.readme_rooms "$root"
+python3 python tests.program.support.readme_rooms "$root"
 inside netrev-go doctor
 inside sh -c 'cd /root/hijacked && netrev-go -o hijacked run main.go once && [ -s hijacked.jsonl ]'
 inside sh -c 'cd /root/hijacked && nrdb --suspects hijacked.jsonl' || [ $? = 4 ] # (4: there are some)

@@ -9,20 +9,20 @@ import shlex
 import subprocess
 import sys
 
-from netrev_words.command_lines import command
+from netrev.messages import recorder as messages
+from netrev.system.command_lines import command
 
-from . import messages
-from .converting import Wish, convert
 from .doctor import doctor
+from .go_command.outputs import base_name, look, numbered
+from .go_command.run_folders import claim
+from .go_command.running import Runner, as_a_shell_has_it, behind_the_folder, limits_of, log_of_process, logs_folder
+from .go_command.status import Status
+from .go_command.toolchain import Go, Trouble, find_go
 from .keeping import Making, Saying, complain, say, unwritten
 from .options import POSSIBLE, SUSPECTS, asks_for_help, check, help_of, of_a_process, parser
-from .outputs import base_name, look, numbered
 from .recovery import offer, recover
-from .run_folders import claim
-from .running import Runner, as_a_shell_has_it, behind_the_folder, limits_of, log_of_process, logs_folder
-from .status import Status
+from .steps.converting import Wish, convert
 from .testing import record_tests
-from .toolchain import Go, Trouble, find_go
 from .trying import ready
 from .watching import snapshot, watch
 

@@ -4,14 +4,14 @@ from __future__ import annotations
 
 import tempfile
 
-from netrev_words.built import netrev_program
-from netrev_words.command_lines import how_to_get_netrev
+from netrev.messages import recorder as messages
+from netrev.system.built import netrev_program
+from netrev.system.command_lines import how_to_get_netrev
 
-from . import messages
-from .calls_of_go import unknown_calls
-from .line_reader import build_line_reader
-from .running import MOST_POINTS, logs_folder
-from .toolchain import WITHOUT, Go, Trouble, cache, find_go, fit, overlay, tried
+from .go_command.calls_of_go import unknown_calls
+from .go_command.line_reader import build_line_reader
+from .go_command.running import MOST_POINTS, logs_folder
+from .go_command.toolchain import WITHOUT, Go, Trouble, cache, find_go, fit, overlay, tried
 from .trying import trial
 
 

@@ -9,18 +9,18 @@ import sys
 from dataclasses import replace
 from typing import TextIO
 
-from netrev_words.command_lines import command
-from netrev_words.plain import plain
-from netrev_words.plurals import counted
+from netrev.messages import recorder as messages
+from netrev.system.command_lines import command
+from netrev.text.plain import plain
+from netrev.text.plurals import counted
 
-from . import messages
-from .converting import Wish, convert
-from .forms import suspects_in
-from .outputs import numbered
-from .ran import forget
-from .run_folders import release, remove, unrecorded
-from .running import LOGS, logs_in, process_of, still_written
-from .toolchain import Go
+from .go_command.outputs import numbered
+from .go_command.run_folders import release, remove, unrecorded
+from .go_command.running import LOGS, logs_in, process_of, still_written
+from .go_command.toolchain import Go
+from .log.ran import forget
+from .steps.converting import Wish, convert
+from .steps.forms import suspects_in
 
 
 def say(lines: list[str], stream: TextIO | None = None) -> None:

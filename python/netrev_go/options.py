@@ -6,13 +6,13 @@ import argparse
 from collections.abc import Callable
 from typing import NoReturn
 
-from netrev_words.version import VERSION
+from netrev.messages import recorder as messages
+from netrev.system.version import VERSION
 
-from . import messages
-from .running import MOST_POINTS
-from .sockets import FEW_BYTES, MOST_MEGABYTES, MOST_SOCKETS
-from .times import seconds
-from .toolchain import Trouble
+from .go_command.running import MOST_POINTS
+from .go_command.toolchain import Trouble
+from .log.sockets import FEW_BYTES, MOST_MEGABYTES, MOST_SOCKETS
+from .log.times import seconds
 from .usage import SUMMARY, USAGES
 
 LEAST_POINTS, GREATEST_POINTS = 2**14, 2**24

@@ -6,17 +6,17 @@ import argparse
 import pathlib
 import shlex
 
-from netrev_words.command_lines import command
-from netrev_words.plain import plain
-from netrev_words.plurals import counted
+from netrev.messages import recorder as messages
+from netrev.system.command_lines import command
+from netrev.text.plain import plain
+from netrev.text.plurals import counted
 
-from . import messages
-from .converting import Wish
+from .go_command.outputs import look
+from .go_command.run_folders import LeftRun, left_runs, take_over
+from .go_command.status import Status
+from .go_command.toolchain import Go
 from .keeping import Making, complain, say
-from .outputs import look
-from .run_folders import LeftRun, left_runs, take_over
-from .status import Status
-from .toolchain import Go
+from .steps.converting import Wish
 
 LONGEST_COMMAND = 60
 

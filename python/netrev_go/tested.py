@@ -12,21 +12,21 @@ from collections.abc import Iterable
 from dataclasses import replace
 from itertools import count
 
-from netrev_words.built import netrev_program
-from netrev_words.command_lines import file_word
-from netrev_words.plain import plain
+from netrev.messages import recorder as messages
+from netrev.system.built import netrev_program
+from netrev.system.command_lines import file_word
+from netrev.text.plain import plain
 
-from . import messages
-from .asking import PACKAGES
-from .converting import Outcome, ReadLog, Wish, converted
-from .forms import Told
+from .go_command.outputs import LONGEST_ENDING, numbered
+from .go_command.running import as_a_shell_has_it, logs_in
+from .go_command.toolchain import Go
 from .keeping import Saying, complain, say, unwritten
-from .logfile import NoLog, read_log
-from .outputs import LONGEST_ENDING, numbered
-from .ran import Ran, Tests, of_log
-from .report import Hear, unheard
-from .running import as_a_shell_has_it, logs_in
-from .toolchain import Go
+from .log.logfile import NoLog, read_log
+from .log.ran import Ran, Tests, of_log
+from .steps.asking import PACKAGES
+from .steps.converting import Outcome, ReadLog, Wish, converted
+from .steps.forms import Told
+from .steps.report import Hear, unheard
 
 MAJOR = re.compile(r"v\d+\Z")
 UNFIT = re.compile(r"[^A-Za-z0-9_.-]+")

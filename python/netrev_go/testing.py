@@ -12,23 +12,22 @@ import time
 from collections.abc import Callable, Iterator
 from dataclasses import dataclass, replace
 
-from netrev_words.command_lines import command as tool
-from netrev_words.files import written_whole
-from netrev_words.plain import plain
-from netrev_words.plurals import counted
+from netrev.messages import recorder as messages
+from netrev.system.command_lines import command as tool
+from netrev.text.files import written_whole
+from netrev.text.plain import plain
+from netrev.text.plurals import counted
 
-from . import forms, messages
-from .converting import Wish
-from .keeping import Making, complain, leave, say, report_no_log, report_unrecorded
-from .linking import kept
-from .outputs import base_name, look_folder
-from .run_folders import claim
+from .go_command.linking import kept
+from .go_command.outputs import base_name, look_folder
+from .go_command.run_folders import claim
 
-from .running import (
-    Runner, as_a_shell_has_it, behind_the_folder, limits_of, logs_folder, still_written, stop_at_once,
-)  # fmt: skip
+from .go_command.running import Runner, as_a_shell_has_it, behind_the_folder, limits_of, logs_folder, still_written, stop_at_once  # fmt: skip
+from .go_command.toolchain import Go
+from .keeping import Making, complain, leave, report_no_log, report_unrecorded, say
+from .steps import forms
+from .steps.converting import Wish
 from .tested import Recordings
-from .toolchain import Go
 
 SO_FAR = "test"  # the base name of the recordings made while a run is in progress
 FOLDER = "recordings"

@@ -12,19 +12,19 @@ import subprocess
 import tempfile
 from dataclasses import dataclass
 
-from netrev_words.built import netrev_program
-from netrev_words.command_lines import command
-from netrev_words.plain import plain
+from netrev.messages import recorder as messages
+from netrev.system.built import netrev_program
+from netrev.system.command_lines import command
+from netrev.text.plain import plain
 
-from . import messages
-from .asking import check
-from .compare import DIFFERS, by_the_model, differing
+from .go_command.line_reader import prepare_line_reader
+from .go_command.running import LOG
+from .go_command.toolchain import SOURCES, Go, Trouble, is_tried, left_out, overlay, quiet_go, tried
 from .keeping import say
-from .line_reader import prepare_line_reader
-from .logfile import NoLog, read_log
-from .making import Nothing, Recording, Unconvertible, make, write, write_words
-from .running import LOG
-from .toolchain import SOURCES, Go, Trouble, is_tried, left_out, overlay, quiet_go, tried
+from .log.logfile import NoLog, read_log
+from .steps.asking import check
+from .steps.compare import DIFFERS, by_the_model, differing
+from .steps.making import Nothing, Recording, Unconvertible, make, write, write_words
 
 PATIENCE = 60
 KEPT = "trial.json"

@@ -11,22 +11,22 @@ from collections.abc import Iterator
 from dataclasses import replace
 from typing import BinaryIO, NamedTuple
 
-from netrev_words.plain import plain
+from netrev.messages import recorder as messages
+from netrev.text.plain import plain
 
-from . import messages
-from .converting import Wish, convert, program_of
+from .go_command.line_reader import line_reader
+from .go_command.outputs import base_name, look, numbered
+from .go_command.running import log_of_process, writes
+from .go_command.status import Status
+from .go_command.toolchain import Go, Trouble
 from .keeping import Saying, complain, say
-from .line_reader import line_reader
-from .lines import Calls, Roots, lines_of
-from .logfile import HEADER_BYTES, ROW_WORDS, WAITER_WORDS, WORD, Header, NoLog, stack_at
-from .notes import PARKED
-from .outputs import base_name, look, numbered
-from .points import Log
-from .report import line_of
-from .running import log_of_process, writes
-from .status import Status
-from .toolchain import Go, Trouble
-from .where import own_line
+from .log.lines import Calls, Roots, lines_of
+from .log.logfile import HEADER_BYTES, ROW_WORDS, WAITER_WORDS, WORD, Header, NoLog, stack_at
+from .log.notes import PARKED
+from .log.points import Log
+from .steps.converting import Wish, convert, program_of
+from .steps.report import line_of
+from .steps.where import own_line
 
 LOOKS = 10  # checks within the time that a call may wait
 OFTENEST, SELDOMEST = 0.05, 1.0  # seconds between two checks

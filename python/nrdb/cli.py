@@ -13,23 +13,23 @@ from contextlib import closing, nullcontext
 from functools import partial
 from typing import Callable, Optional, Sequence
 
-from netrev_words.command_lines import how_to_get_netrev, make_command
+from netrev.connection.arriving_changes import ArrivingChanges
+from netrev.connection.errors import Mismatched, unexpected
+from netrev.connection.netrev import Ended, Joined, Netrev, Own, Reply
+from netrev.connection.output import JsonPrinter, Printer, TextPrinter, has_colours
+from netrev.connection.scout import Lost, Scout
+from netrev.connection.shapes import POSITION, Refused, Strange
+from netrev.messages import session as messages
+from netrev.recording.recording import NoRecording, Recording
+from netrev.recording.suspect_list import SuspectList
+from netrev.session.queries import answer_run, lines_together, runs_of
+from netrev.session.refusals import explained, fault_of
+from netrev.session.session import Misused, Session
+from netrev.system.command_lines import how_to_get_netrev, make_command
+from netrev.system.interrupts import GivenUp, Interrupted, Interrupts
 
-from .messages import session as messages
-from .arriving_changes import ArrivingChanges
-from .errors import Mismatched, unexpected
-from .prompt.answers import ANSWERS
-from .interrupts import GivenUp, Interrupted, Interrupts
-from .netrev import Ended, Joined, Netrev, Own, Reply
 from .options import parsed, parser
-from .output import JsonPrinter, Printer, TextPrinter, has_colours
-from .queries import answer_run, lines_together, runs_of
-from .recording import NoRecording, Recording
-from .refusals import explained, fault_of
-from .scout import Lost, Scout
-from .session import Misused, Session
-from .shapes import POSITION, Refused, Strange
-from .suspect_list import SuspectList
+from .prompt.answers import ANSWERS
 
 DONE, REFUSED, USAGE, FAILED, SUSPECTS = range(5)
 
@@ -209,7 +209,7 @@ def unless_stopped(session: Session, work: Callable[[], int]) -> int:
 
 def suspected(session: Session) -> int:
     """Prints the suspects, and returns the exit status."""
-    from .suspects.table import suspects_table
+    from netrev.findings.suspects.table import suspects_table
 
     table = suspects_table(session.looks(), session.text())
     session.printer.table(table)
@@ -218,7 +218,7 @@ def suspected(session: Session) -> int:
 
 def schedules_tried(session: Session, is_of_failures: bool) -> int:
     """Explores, and returns the exit status."""
-    from .exploring import explored
+    from netrev.explore import explored
 
     said = explored(session, is_of_failures=is_of_failures)
     session.printer.note(said.text)
@@ -232,19 +232,19 @@ def made(session: Session, path: str, write: Callable[..., str], part: Sequence[
 
 
 def timeline(session: Session, path: str, *part: int) -> str:
-    from .timeline import write_timeline
+    from netrev.timeline import write_timeline
 
     return write_timeline(session, path, *part)
 
 
 def trace(session: Session, path: str) -> str:
-    from .timeline import write_trace
+    from netrev.timeline import write_trace
 
     return write_trace(session, path)
 
 
 def reduced(session: Session, path: str) -> str:
-    from .reducing import reduced_file
+    from netrev.reduce import reduced_file
 
     return reduced_file(session, [path])
 

@@ -3,11 +3,11 @@
 import argparse
 from typing import Any, NoReturn, Optional, Sequence
 
-from netrev_words.built import BUILT, netrev_program
-from netrev_words.plain import plain
-from netrev_words.provenance import program_lines
-from netrev_words.version import VERSION
-from netrev_words.vocabulary import number_of
+from netrev.system.built import BUILT, netrev_program
+from netrev.system.provenance import program_lines
+from netrev.system.version import VERSION
+from netrev.text.plain import plain
+from netrev.text.vocabulary import number_of
 
 
 DESCRIPTION = """\

@@ -1,1 +1,1 @@
-"""Mutants of the unproved code: small changes to nrdb, netrev_calls and netrev_go, and the tests that notice them."""
+"""Mutants of the unproved code: small changes to netrev, nrdb and netrev_go, and the tests that notice them."""

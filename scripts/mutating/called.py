@@ -22,7 +22,7 @@ from types import CodeType, FrameType
 
 import pytest
 
-PACKAGES = ("python/nrdb/", "python/netrev_calls/", "python/netrev_go/")
+PACKAGES = ("python/netrev/", "python/nrdb/", "python/netrev_go/")
 
 
 class Tracer:
@@ -106,7 +106,7 @@ class Notes:
         if not self.caches:
             self.find_caches()
         for cache in self.caches:
-            if (getattr(cache, "__module__", None) or "").startswith(("nrdb", "netrev_", "tests")):
+            if (getattr(cache, "__module__", None) or "").startswith(("netrev", "nrdb", "tests")):
                 cache.cache_clear()
         self.tracer.codes.clear()
         begin = time.monotonic()

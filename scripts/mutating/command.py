@@ -23,7 +23,7 @@ KEPT = ROOT / "out/mutants"
 NOTES = KEPT / "called.jsonl"
 USAGE = """scripts/mutants.py around [--seed N] [--count N] [--jobs N] [--seconds N] [--again] [--list] [FILE ..]
 
-Tries mutants of nrdb, netrev_calls and netrev_go, or of the files and folders named: --count of them, drawn by --seed. Each is
+Tries mutants of nrdb, netrev.run.flow and netrev_go, or of the files and folders named: --count of them, drawn by --seed. Each is
 tried in a copy of the repository against --seconds of the tests that call the function which it changes, the quickest first; what
 each test calls is noted in out/mutants/called.jsonl, anew for a file of tests that has changed. What survives is printed as a table, and each
 verdict is kept in out/mutants; with --again those that weren't found by a seed are tried again. scripts/mutating/equivalent.txt has mutants that change

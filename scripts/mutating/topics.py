@@ -19,7 +19,7 @@ from pathlib import Path
 from .changes import Mutant
 
 OVERRIDES = Path(__file__).with_name("topics.txt")
-NOTED = ("python/tests", "python/tests/program/nrdb")  # folders with the tests whose calls are recorded
+TESTS, PROGRAM, OF_NRDB = "python/tests", "python/tests/program", "python/tests/program/nrdb"
 MOST = 60.0  # the most seconds that a mutant's tests may take
 FEW = 4  # if no test called the function, MOST is divided by this
 
@@ -103,7 +103,13 @@ def read_topics(notes: Path, most: float = MOST) -> Topics:
 
 
 def files_of_tests(root: Path) -> list[str]:
-    return [str(path.relative_to(root)) for folder in NOTED for path in sorted((root / folder).glob("test_*.py"))]
+    """The files with the tests whose calls are recorded: all but the tests of the built program, except those of nrdb."""
+    paths = sorted((root / TESTS).rglob("test_*.py"))
+    return [
+        str(path.relative_to(root))
+        for path in paths
+        if root / PROGRAM not in path.parents or root / OF_NRDB in path.parents
+    ]
 
 
 def note_calls(root: Path, notes: Path, python: str) -> None:

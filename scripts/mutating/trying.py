@@ -23,15 +23,16 @@ from .go_changes import go_mutants_of
 from .topics import Test, Topics
 
 ROOT = Path(__file__).resolve().parent.parent.parent
-PACKAGES = ("python/nrdb", "python/netrev_calls", "python/netrev_go")
+PACKAGES = ("python/netrev", "python/nrdb", "python/netrev_go")
 UNTOUCHED = (
     "messages",  # texts
-    "costs", "fetching", "real", "results", "suites",  # scripts that measure the recorder; no command uses them
+    "machine", "model",  # the tests compare netrev with them
+    "page",  # its scripts are JavaScript
 )  # fmt: skip
 FOUND, SURVIVED, UNTESTED, UNBUILT = "found", "survives", "no test calls it", "can't be compiled"
 FAILS_ANYWAY = "its test fails without it too"
 PATIENCE, GO_PATIENCE = 600, 1_800  # seconds
-COMPILING = "from netrev_go.toolchain import find_go, overlay; overlay(find_go())"
+COMPILING = "from netrev_go.go_command.toolchain import find_go, overlay; overlay(find_go())"
 LONGEST, TIMES = 30.0, 20.0  # a test may take LONGEST seconds, plus TIMES its recorded time
 
 

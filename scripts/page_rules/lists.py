@@ -58,7 +58,7 @@ def vocabularies(tree: Tree) -> list[Vocabulary]:
     kinds = _found(tree, "crates/nr_rev/src/kind.rt", KIND)
     cells = [(name, f'"{typed}"') for name, typed in _found(tree, "crates/nr_rev/specs/CellName.antt", CELL)]
     commands = _found(tree, "crates/nr_command/src/command.rt", VARIANT)
-    typed = _found(tree, "python/netrev_words/commands.py", COMMAND)
+    typed = _found(tree, "python/netrev/text/commands.py", COMMAND)
     return [
         Vocabulary("kinds", "How to add a kind of step", 20, tuple(kinds), IN_ALL),
         Vocabulary("cells", "How to add a cell", 16, tuple(cells), IN_CODE),

@@ -22,7 +22,7 @@ fn seconds<T>(run: impl FnOnce() -> T) -> f64 {
     began.elapsed().as_secs_f64()
 }
 
-/// The line that `python/netrev_bench/pace.py` reads.
+/// The line that `python/dev/bench/pace.py` reads.
 pub fn measured(film: &Film) -> String {
     let len = film.len();
     let advance = rate(len, (0..RUNS).map(|_| {

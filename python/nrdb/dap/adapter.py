@@ -3,27 +3,27 @@
 from contextlib import ExitStack, closing
 from typing import Callable, NamedTuple, Optional, Sequence
 
-from netrev_words.plain import plain
+from netrev.connection.beginnings import begin_words, begins_at
+from netrev.connection.errors import unexpected
+from netrev.connection.netrev import Ended
+from netrev.connection.scout import Lost
+from netrev.connection.shapes import Refused, Strange
+from netrev.messages import editors as texts
+from netrev.recording.recording import NoRecording
+from netrev.session.line_hints import hint
+from netrev.session.session import Misused
+from netrev.system.interrupts import GivenUp, Interrupted, Interrupts
+from netrev.text.plain import plain
 
-from ..beginnings import begin_words, begins_at
-from ..messages import editors as texts
-from ..errors import unexpected
-from ..interrupts import GivenUp, Interrupted, Interrupts
-from ..line_hints import hint
-from ..netrev import Ended
-from ..recording import NoRecording
-from ..scout import Lost
-from ..session import Misused
-from ..shapes import Refused, Strange
 from . import breakpoints, looks
-from .capabilities import CAPABILITIES
-from .debuggee import debuggee
 from .hearing import CANCEL, Source
-from .looking import maker_of, thread_of
-from .messages import Body, EditorGone, Request, Unanswerable, Wire
 from .moving import Stop, text_of
-from .numbering import Numbering
 from .target import Launch, Target
+from .view.capabilities import CAPABILITIES
+from .view.debuggee import debuggee
+from .view.looking import maker_of, thread_of
+from .view.messages import Body, EditorGone, Request, Unanswerable, Wire
+from .view.numbering import Numbering
 from .working import Work
 
 CANCELLED, ENDS = "cancelled", "the editor ends the session"

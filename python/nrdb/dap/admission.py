@@ -5,8 +5,9 @@ token that nrdb printed."""
 import hmac
 import os
 import secrets
-from ..messages import editors as texts
-from .messages import Request, Unanswerable
+from netrev.messages import editors as texts
+
+from .view.messages import Request, Unanswerable
 
 TOKEN = "token"  # the argument of a launch that carries the token
 NAMED_BY = "NRDB_TOKEN"  # the environment variable for a token that the user chooses

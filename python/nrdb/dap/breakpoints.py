@@ -1,14 +1,14 @@
 """Requests about breakpoints: at lines, kinds of steps, functions, cells, and steps at which something went wrong."""
 
-from netrev_words.plain import plain
-from netrev_words.vocabulary import KINDS
+from netrev.messages import editors as texts
+from netrev.text.plain import plain
+from netrev.text.vocabulary import KINDS
 
-from ..messages import editors as texts
 from .go_lines import FUNCTIONS
 from .marks import Sort
-from .messages import Body, Request, Unanswerable
-from .numbering import Numbering
 from .target import Target
+from .view.messages import Body, Request, Unanswerable
+from .view.numbering import Numbering
 from .wishes import Unset, Wish, cell_wish, kind_wish, positions_of, wish_of
 
 MOST_TARGETS = 1_000  # the maximum number of lines searched for steps

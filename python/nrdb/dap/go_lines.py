@@ -7,14 +7,14 @@ from functools import cached_property
 from pathlib import Path
 from typing import Optional, Sequence
 
-from netrev_words.plain import plain
+from netrev.session.line_index import near_lines, no_step_from, places_of
+from netrev.session.session import Session
+from netrev.text.plain import plain
 
-from ..program.index import near_lines, no_step_from, places_of
-from ..session import Session
-from .debuggee import Debuggee
 from .logpoints import LogPoints
-from .messages import Body, Unanswerable
-from .roots import Roots
+from .view.debuggee import Debuggee
+from .view.messages import Body, Unanswerable
+from .view.roots import Roots
 from .wishes import Unset, Wish, is_in, refused
 
 FIRST = 1_000_000  # the number of the first of these breakpoints; marks have smaller numbers

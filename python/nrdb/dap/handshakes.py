@@ -8,8 +8,8 @@ from threading import Lock, Thread, Timer
 from typing import Optional
 
 from .admission import Stranger, is_let_in
-from .capabilities import CAPABILITIES
-from .messages import Malformed, Request, Unanswerable, Wire
+from .view.capabilities import CAPABILITIES
+from .view.messages import Malformed, Request, Unanswerable, Wire
 
 IN_TIME = 10.0  # seconds that an editor at the port has to send a launch
 MOST = 64  # the maximum number of connections that haven't sent the token; a further one closes the oldest

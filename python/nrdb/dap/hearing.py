@@ -8,8 +8,9 @@ from queue import SimpleQueue
 from threading import Condition
 from typing import Iterator, Optional, Protocol
 
-from ..interrupts import Interrupts
-from .messages import Malformed, Request, Wire
+from netrev.system.interrupts import Interrupts
+
+from .view.messages import Malformed, Request, Wire
 
 ENDING = ("disconnect", "terminate")
 CANCEL, PAUSE = "cancel", "pause"

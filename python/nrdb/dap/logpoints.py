@@ -4,8 +4,9 @@ changes`."""
 
 from typing import Iterator, NamedTuple, Sequence
 
-from ..session import Session
-from .messages import Body
+from netrev.session.session import Session
+
+from .view.messages import Body
 from .wishes import HERE, IN_BRACES, Wish
 
 FIRST = 2_000_000  # the first number of these breakpoints, above all other breakpoints

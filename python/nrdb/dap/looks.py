@@ -1,11 +1,12 @@
 """Requests about the session's position: for goroutines, stacks, variables, values, memory and completions."""
 
-from ..messages import editors as texts
-from ..prompt.completion import candidates
-from . import memory
-from .messages import Body, Request, Unanswerable
-from .numbering import Numbering
+from netrev.messages import editors as texts
+from nrdb.prompt.completion import candidates
+
 from .target import Target
+from .view import memory
+from .view.messages import Body, Request, Unanswerable
+from .view.numbering import Numbering
 
 
 def threads(target: Target, _: Numbering, __: Request) -> Body:

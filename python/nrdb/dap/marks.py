@@ -3,10 +3,11 @@
 from enum import Enum
 from typing import Sequence
 
-from ..line_hints import hint
-from ..session import Session
-from ..shapes import MARK
-from .messages import Body
+from netrev.connection.shapes import MARK
+from netrev.session.line_hints import hint
+from netrev.session.session import Session
+
+from .view.messages import Body
 from .wishes import Unset, Wish, is_in, positions_of, refused
 
 

@@ -3,18 +3,19 @@ netrev."""
 
 from typing import Callable, NamedTuple, Optional, Sequence
 
-from ..causes import root_sentence
-from ..following import Stay, finish_goal
-from ..interrupts import Interrupted, Interrupts
-from ..netrev import Reply
-from ..recording import Recording
-from ..shapes import MARK, Listed, Move, move_of
-from .debuggee import Debuggee, Maker
-from .filters import Filters, Failure
+from netrev.connection.netrev import Reply
+from netrev.connection.shapes import MARK, Listed, Move, move_of
+from netrev.findings.causes import root_sentence
+from netrev.recording.recording import Recording
+from netrev.system.interrupts import Interrupted, Interrupts
+from netrev.views.following import Stay, finish_goal
+
 from .go_lines import GoLines
 from .logpoints import LogPoints
 from .marks import Marks
-from .messages import Unanswerable
+from .view.debuggee import Debuggee, Maker
+from .view.filters import Failure, Filters
+from .view.messages import Unanswerable
 
 PIECE = 100_000  # the maximum number of steps in one netrev command; a move checks for a pause after each command
 AT_THE_END = "the recording's end"

@@ -8,13 +8,13 @@ from contextlib import closing, suppress
 from threading import current_thread, main_thread
 from typing import Sequence
 
-from netrev_words.plain import plain
+from netrev.text.plain import plain
 
 from .adapter import Adapter
 from .admission import NAMED_BY, NoToken, token_for_a_port
 from .handshakes import Connection, Handshakes
 from .hearing import Hearing, Reading, Source
-from .messages import Malformed, Request, Wire
+from .view.messages import Malformed, Request, Wire
 
 LOOPBACK = "127.0.0.1"
 DONE, USAGE, FAILED = 0, 2, 3

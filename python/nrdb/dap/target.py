@@ -4,19 +4,20 @@ from dataclasses import dataclass
 from pathlib import Path
 from typing import Any, Optional
 
-from ..beginnings import begins_at
-from ..messages import editors as texts
-from ..interrupts import Interrupts
+from netrev.connection.beginnings import begins_at
+from netrev.messages import editors as texts
+from netrev.system.interrupts import Interrupts
+
 from .admission import TOKEN
-from .debuggee import Debuggee
-from .filters import Filters
 from .go_lines import GoLines
 from .logpoints import LogPoints
-from .looking import Looks
 from .marks import Marks
-from .messages import Request, Unanswerable
 from .moving import Moves, Stop
-from .roots import Roots
+from .view.debuggee import Debuggee
+from .view.filters import Filters
+from .view.looking import Looks
+from .view.messages import Request, Unanswerable
+from .view.roots import Roots
 
 SOURCES = ("recording", "go")
 AT_END, AT_START = "end", "start"

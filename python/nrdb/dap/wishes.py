@@ -6,12 +6,12 @@ from bisect import bisect_left
 from dataclasses import dataclass
 from typing import NamedTuple, Optional, Sequence
 
-from netrev_words.vocabulary import KINDS, cell_of, number_of
+from netrev.messages import editors as texts
+from netrev.session.conditions import Condition
+from netrev.session.session import Session
+from netrev.text.vocabulary import KINDS, cell_of, number_of
 
-from ..messages import editors as texts
-from ..conditions import Condition
-from ..session import Session
-from .messages import Body
+from .view.messages import Body
 
 HIT_COUNT = re.compile(r"(==?|>=?|<=?|%)?\s*(\d{1,9})")
 IN_BRACES = re.compile(r"\{([^{}]*)\}")

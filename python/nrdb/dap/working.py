@@ -4,9 +4,10 @@ editors offer a pause only while the program runs. An editor that can show progr
 from contextlib import suppress
 from threading import Event, Lock, Thread
 
-from ..messages import editors as texts
+from netrev.messages import editors as texts
+
 from .hearing import MOVES, progress_of
-from .messages import Body, Request, Wire
+from .view.messages import Body, Request, Wire
 
 LATE = 0.3  # the seconds after which a request counts as long
 AGAIN = 0.5  # seconds between two progress reports

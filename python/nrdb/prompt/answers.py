@@ -6,23 +6,23 @@ import re
 from fnmatch import fnmatchcase
 from typing import Iterator
 
-from netrev_words.vocabulary import CELLS, KINDS, REASONS, Of, cell_of, number_of
+from netrev.connection.output import Row, Table
+from netrev.messages import session as messages
+from netrev.recording.answers import spelled
+from netrev.run.timers import timer_words
+from netrev.session.commands import ALL_TOPICS, COMMANDS, FORMS, OF_NETREV, OF_NRDB, TOPICS, Origin, whole_command
+from netrev.session.session import Answering, Misused, Session
+from netrev.text.vocabulary import CELLS, KINDS, REASONS, Of, cell_of, number_of
+from netrev.views.history import history_table
+from netrev.views.holders import holders_table
+from netrev.views.places import descriptors_table, sockets_table, timers_table
+from netrev.views.waiting import goroutines_table
 
-from ..messages import session as messages
 from .answers_of_calls import OF_CALLS, answer_errors, arrive, taken_most, usage
 from .answers_of_files import answer_explore, answer_reduce, answer_report, answer_timeline, answer_trace
-from ..changes import history_table
-from ..commands import ALL_TOPICS, COMMANDS, FORMS, OF_NETREV, OF_NRDB, TOPICS, Origin, whole_command
-from ..holders import holders_table
-from ..output import Row, Table
-from ..places import descriptors_table, sockets_table, timers_table
 from .answers_of_goroutines import OF_GOROUTINES
 from .answers_of_program import OF_FRAMES, OF_PLACES, of_place
 from .saving import answer_save
-from ..recorded_answers import spelled
-from ..session import Answering, Misused, Session
-from ..timers import timer_words
-from ..waiting import goroutines_table
 
 ROUND = 5
 TIME = re.compile(r"(\d+(?:\.\d+)?)(ns|us|ms|s)")
@@ -245,15 +245,15 @@ def answer_info(session: Session, words: list[str]) -> None:
     if topic == "timers" and not rest:
         return session.printer.table(timers_table(session.world()))
     if topic == "suspects" and not rest:
-        from ..suspects.table import suspects_table
+        from netrev.findings.suspects.table import suspects_table
 
         return session.printer.table(suspects_table(session.looks(), session.text()))
     if topic == "hangs" and not rest:
-        from ..causes import hangs_table
+        from netrev.findings.causes import hangs_table
 
         return session.printer.table(hangs_table(session.text(), session.stands().position))
     if topic == "requests" and not rest:
-        from ..causes import requests_table
+        from netrev.findings.causes import requests_table
 
         return session.printer.table(requests_table(session.text()))
     if topic == "errors":

@@ -2,25 +2,15 @@
 
 from typing import Optional
 
-from netrev_words.vocabulary import number_of
-
-from ..messages import session as messages
-from ..commands import COMMANDS, TOPICS
-from ..conditions import Condition
-from ..following import (
-    GOALS,
-    MOST,
-    Stay,
-    Subject,
-    call_row,
-    calls_table,
-    goroutine_at,
-    steps_table,
-)
-from ..netrev import Reply
-from ..output import Table
-from ..session import Answering, Misused, Session
-from ..shapes import MOVED, move_of
+from netrev.connection.netrev import Reply
+from netrev.connection.output import Table
+from netrev.connection.shapes import MOVED, move_of
+from netrev.messages import session as messages
+from netrev.session.commands import COMMANDS, TOPICS
+from netrev.session.conditions import Condition
+from netrev.session.session import Answering, Misused, Session
+from netrev.text.vocabulary import number_of
+from netrev.views.following import GOALS, MOST, Stay, Subject, call_row, calls_table, goroutine_at, steps_table
 
 
 def usage(name: str) -> str:
@@ -62,7 +52,7 @@ def answer_calls(session: Session, words: list[str]) -> None:
 
 
 def answer_errors(session: Session, words: list[str]) -> None:
-    from ..causes import errors_table
+    from netrev.findings.causes import errors_table
 
     most = taken_most("errors", words)
     session.printer.table(errors_table(session.text(), session.stands().position, most))

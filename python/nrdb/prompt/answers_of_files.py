@@ -1,17 +1,17 @@
 """Commands of nrdb that write files or explore other schedules. Few sessions need these commands, so their modules are
 imported on first use."""
 
-from netrev_words.vocabulary import number_of
+from netrev.session.session import Misused, Session
+from netrev.text.vocabulary import number_of
 
 from .answers_of_calls import usage
-from ..session import Misused, Session
 
 
 def answer_timeline(session: Session, words: list[str]) -> None:
     numbers = [number_of(word) for word in words[1:]]
     if len(words) not in (1, 3) or None in numbers:
         raise Misused(usage("timeline"))
-    from ..timeline import write_timeline
+    from netrev.timeline import write_timeline
 
     session.printer.note(write_timeline(session, words[0], *numbers))
 
@@ -19,24 +19,24 @@ def answer_timeline(session: Session, words: list[str]) -> None:
 def answer_trace(session: Session, words: list[str]) -> None:
     if len(words) != 1:
         raise Misused(usage("trace"))
-    from ..timeline import write_trace
+    from netrev.timeline import write_trace
 
     session.printer.note(write_trace(session, words[0]))
 
 
 def answer_reduce(session: Session, words: list[str]) -> None:
-    from ..reducing import answer_reduce as answer
+    from netrev.reduce import answer_reduce as answer
 
     answer(session, words)
 
 
 def answer_report(session: Session, words: list[str]) -> None:
-    from ..reducing import answer_report as answer
+    from netrev.reduce import answer_report as answer
 
     answer(session, words)
 
 
 def answer_explore(session: Session, words: list[str]) -> None:
-    from ..exploring import answer_explore as answer
+    from netrev.explore import answer_explore as answer
 
     answer(session, words)

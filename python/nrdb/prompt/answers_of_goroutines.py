@@ -3,13 +3,13 @@
 
 from typing import Optional
 
-from netrev_words.vocabulary import number_of
+from netrev.messages import session as messages
+from netrev.recording.waits import Name
+from netrev.recording.where import stack_lines
+from netrev.session.session import Answering, Misused, Session
+from netrev.text.vocabulary import number_of
+from netrev.views.goroutine_stacks import GoroutineStack, stack_of
 
-from ..messages import session as messages
-from ..goroutine_stacks import GoroutineStack, stack_of
-from ..session import Answering, Misused, Session
-from ..waits import Name
-from ..where import stack_lines
 from .answers_of_calls import usage
 from .answers_of_program import show_frame, stack_at
 

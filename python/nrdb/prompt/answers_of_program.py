@@ -2,15 +2,16 @@
 
 from typing import Optional
 
-from ..messages import session as messages
+from netrev.connection.output import Row, Table
+from netrev.messages import session as messages
+from netrev.recording.recording import Recording
+from netrev.recording.where import OF_THE_PROGRAM, Call, Stack
+from netrev.session.line_index import OF_A_LINE, Place, is_file, is_function, is_place, no_step_from, places_of
+from netrev.session.session import Answering, Misused, Session
+from netrev.session.source import source_of, text_round
+from netrev.views.goroutine_stacks import stack_of
+
 from .answers_of_calls import arrive
-from ..goroutine_stacks import stack_of
-from ..output import Row, Table
-from ..recording import Recording
-from ..session import Answering, Misused, Session
-from ..where import OF_THE_PROGRAM, Call, Stack
-from ..program.index import OF_A_LINE, Place, is_file, is_function, is_place, no_step_from, places_of
-from ..program.source import source_of, text_round
 
 MOST = 40
 

@@ -2,13 +2,12 @@
 
 from typing import Callable, Optional
 
-from netrev_words.vocabulary import CELLS, DUMPS, KINDS, Of
-
-from ..commands import COMMANDS, DIRECTIONS, PAGINATION, TOPICS, Ambiguous, whole_words
-from ..recording import Recording
-from ..session import Session
-from ..where import OF_THE_PROGRAM
-from ..world import made_at
+from netrev.connection.world import made_at
+from netrev.recording.recording import Recording
+from netrev.recording.where import OF_THE_PROGRAM
+from netrev.session.commands import COMMANDS, DIRECTIONS, PAGINATION, TOPICS, Ambiguous, whole_words
+from netrev.session.session import Session
+from netrev.text.vocabulary import CELLS, DUMPS, KINDS, Of
 
 NUMBERED_TOPICS = {"goroutines": Of.GOROUTINE, "sockets": Of.SOCKET, "descriptors": Of.DESCRIPTOR, "holders": Of.SOCKET}
 OF_CELL = ("print", "watch", "display", "undisplay", "history", "until", "reverse-until")

@@ -2,11 +2,11 @@
 
 from typing import Iterator
 
-from netrev_words.plurals import counted
+from netrev.session.attached_commands import END
+from netrev.session.files import writing
+from netrev.session.session import Misused, Session
+from netrev.text.plurals import counted
 
-from ..attached import END
-from ..files import writing
-from ..session import Misused, Session
 from .answers_of_calls import usage
 
 

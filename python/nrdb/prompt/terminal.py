@@ -5,19 +5,19 @@ import sys
 from pathlib import Path
 from typing import Optional, TextIO, cast
 
-from netrev_words.vocabulary import Of
+from netrev.connection.errors import Mismatched
+from netrev.connection.netrev import Ended
+from netrev.connection.output import TextPrinter
+from netrev.connection.scout import Lost
+from netrev.connection.shapes import Strange
+from netrev.recording.recording import NoRecording
+from netrev.session.commands import COMMANDS, Ambiguous, whole_words
+from netrev.session.session import Session
+from netrev.system.interrupts import Interrupted
+from netrev.text.vocabulary import Of
 
-from ..commands import COMMANDS, Ambiguous, whole_words
 from .completion import candidates, numbers_in, places_in
 from .paging import Paged
-from ..errors import Mismatched
-from ..interrupts import Interrupted
-from ..netrev import Ended
-from ..output import TextPrinter
-from ..recording import NoRecording
-from ..scout import Lost
-from ..session import Session
-from ..shapes import Strange
 
 try:
     import readline
@@ -61,7 +61,7 @@ class Terminal:
         recording = self.session.recording
         if recording is None or recording.length > MOST_STEPS:
             return
-        from ..causes import opening_words
+        from netrev.findings.causes import opening_words
 
         try:
             with self.session.interrupts.held():

@@ -5,7 +5,7 @@ import hashlib
 from dataclasses import dataclass
 from functools import lru_cache
 
-from ..timeline.page import SCRIPTS, read_part
+from netrev.timeline.page import SCRIPTS, read_part
 
 FORBIDDEN = "default-src 'none'; base-uri 'none'; form-action 'none'; frame-ancestors 'none'"
 TYPES = "require-trusted-types-for 'script'; trusted-types 'none'"  # so that no text can become an element or a script

@@ -11,18 +11,19 @@ from queue import Full, Queue
 from threading import Thread
 from typing import Callable, Optional
 
-from ..messages import browsers as texts
-from ..arriving_changes import ArrivingChanges
-from ..interrupts import Interrupts
-from ..netrev import Own
-from ..recording import NoRecording, Recording
-from ..scout import Lost, Scout
-from ..session import Misused
-from ..shapes import Refused
-from ..suspect_list import SuspectList
-from ..timeline.page import plain_json
-from ..timeline.picture import Shown, collected, part_of
-from ..timeline.runs import Window
+from netrev.connection.arriving_changes import ArrivingChanges
+from netrev.connection.netrev import Own
+from netrev.connection.scout import Lost, Scout
+from netrev.connection.shapes import Refused
+from netrev.messages import browsers as texts
+from netrev.recording.recording import NoRecording, Recording
+from netrev.recording.suspect_list import SuspectList
+from netrev.session.session import Misused
+from netrev.system.interrupts import Interrupts
+from netrev.timeline.cell_runs import Window
+from netrev.timeline.page import plain_json
+from netrev.timeline.picture import Shown, collected, part_of
+
 from .serving import Unavailable
 
 CODE = f"import sys; sys.path[:0] = {sys.path!r}; from nrdb.web.painting import paint; paint(*sys.argv[1:])"

@@ -7,7 +7,7 @@ from dataclasses import dataclass
 from http import HTTPStatus
 from typing import Mapping
 
-from ..messages import browsers as texts
+from netrev.messages import browsers as texts
 
 LONGEST_LINE = 256  # the maximum number of bytes in a line that netrev accepts
 TOKEN, BROWSER, POSITIONS = "netrev-token", "netrev-browser", "netrev-positions"  # headers that the page's script sends

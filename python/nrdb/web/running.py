@@ -9,17 +9,18 @@ from concurrent.futures import Future
 from pathlib import Path
 from typing import Callable, Optional
 
-from ..messages import browsers as texts
-from ..errors import Mismatched, unexpected
-from ..interrupts import GivenUp, Interrupted
-from ..netrev import Ended, Netrev
-from ..output import Printer
-from ..prompt.completion import completions
-from ..recording import NoRecording
-from ..session import Session
-from ..shapes import Refused, Strange
-from ..timeline.picture import MOST
-from ..timeline.runs import Window
+from netrev.connection.errors import Mismatched, unexpected
+from netrev.connection.netrev import Ended, Netrev
+from netrev.connection.output import Printer
+from netrev.connection.shapes import Refused, Strange
+from netrev.messages import browsers as texts
+from netrev.recording.recording import NoRecording
+from netrev.session.session import Session
+from netrev.system.interrupts import GivenUp, Interrupted
+from netrev.timeline.cell_runs import Window
+from netrev.timeline.picture import MOST
+from nrdb.prompt.completion import completions
+
 from .document import document
 from .painting import Painter, Wanted
 from .requests import Gate

@@ -9,9 +9,10 @@ from contextlib import suppress
 from http import HTTPStatus
 from typing import Protocol
 
-from ..messages import browsers as texts
+from netrev.messages import browsers as texts
+
 from .document import Document
-from .requests import BROWSER, COMPLETE, EVENTS, LINE, PAGE, PART, Gate, Request, Rejected, line_of, positions_of
+from .requests import BROWSER, COMPLETE, EVENTS, LINE, PAGE, PART, Gate, Rejected, Request, line_of, positions_of
 from .streams import Stream, Streams
 from .wire import EVENT_STREAM, JSON, LONGEST_HEAD, Wire
 

@@ -4,14 +4,14 @@ which position. netrev reports only a session's position, so moves by other clie
 from dataclasses import dataclass, field, fields
 from typing import Any, Optional, Protocol, Sequence
 
-from ..messages import browsers as texts
-from ..prompt.answers import ANSWERS, answer_list
-from ..commands import whole_words
-from ..collecting import Collecting
-from ..netrev import Netrev, Reply
-from ..output import Place, Table
-from ..session import Answering, Misused, Session
-from ..shapes import Listed, Position, Refused
+from netrev.connection.collected_output import Collecting
+from netrev.connection.netrev import Netrev, Reply
+from netrev.connection.output import Place, Table
+from netrev.connection.shapes import Listed, Position, Refused
+from netrev.messages import browsers as texts
+from netrev.session.commands import whole_words
+from netrev.session.session import Answering, Misused, Session
+from nrdb.prompt.answers import ANSWERS, answer_list
 
 OTHERS = "another front"
 WITH_FILES = ("source", "save", "timeline", "trace", "reduce", "report", "explore", "frame", "up", "down")

@@ -8,8 +8,9 @@ from http import HTTPStatus
 from itertools import count
 from typing import Any, Callable, Iterator
 
-from ..messages import browsers as texts
-from ..timeline.page import plain_json
+from netrev.messages import browsers as texts
+from netrev.timeline.page import plain_json
+
 from .requests import Rejected
 
 MOST_STREAMS = 16

@@ -5,8 +5,9 @@ import asyncio
 from contextlib import suppress
 from http import HTTPStatus
 
-from ..messages import browsers as texts
-from .requests import Request, Rejected
+from netrev.messages import browsers as texts
+
+from .requests import Rejected, Request
 
 LONGEST_HEAD = 8_192  # the maximum number of bytes before a body
 IN_TIME = 5.0  # how many seconds a request may take to arrive, and a part of the response to be accepted

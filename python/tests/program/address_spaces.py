@@ -6,9 +6,9 @@ import resource
 import signal
 import subprocess
 
-from netrev_machine.debugger import State, is_command, read_line
+from netrev.machine.debugger import State, is_command, read_line
 
-from .sharing import NETREV, PATIENCE, Server, Wrong, expect, talk
+from .support.sharing import NETREV, PATIENCE, Server, Wrong, expect, talk
 
 MEGABYTE = 1 << 20
 NO_MEMORY = b"fault 108 memory\n"

@@ -21,15 +21,15 @@ from pathlib import Path
 from typing import Sequence
 
 import pytest
-from netrev_fuzz.cases import SORTS, Made, large_buffers
-from netrev_fuzz.lines import Speaker, every_cell
-from netrev_words.reading import read_text
-from netrev_words.recording import Step
-from netrev_words.vocabulary import CELLS, KINDS
+from dev.fuzz.cases import SORTS, Made, large_buffers
+from dev.fuzz.generators.lines import Speaker, every_cell
+from netrev.text.contents import Step
+from netrev.text.reading import read_text
+from netrev.text.vocabulary import CELLS, KINDS
 
 from .hostile import faulty_headers, faulty_lines, refused_steps, text_of, versions_and_answers
-from .sharing import NETREV, ROOT, expect, is_program
 from .sizes import DESCRIPTORS, GOROUTINES, HEADER, PIECE, SOCKETS
+from .support.sharing import NETREV, ROOT, expect, is_program
 from .upgrades import RECORDINGS
 
 PLAIN = os.path.abspath(os.environ.get("NETREV_PLAIN", ROOT / "crates/netrev_plain/out/netrev_plain"))

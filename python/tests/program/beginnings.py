@@ -12,9 +12,9 @@ from concurrent.futures import ThreadPoolExecutor
 from pathlib import Path
 from typing import Optional, Sequence
 
-from tests.examples import REFUSED
+from tests.support.examples import REFUSED
 
-from .sharing import NETREV, PATIENCE, ROOT, Wrong, expect
+from .support.sharing import NETREV, PATIENCE, ROOT, Wrong, expect
 
 WALK = "scripts/recordings/woken-by-an-event.jsonl"  # twelve steps
 BEGUN = tuple(

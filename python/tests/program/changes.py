@@ -3,7 +3,7 @@
     stored     the changes of three recordings are compared with stored lines. If a recording has an answer that isn't the
                machine's, only the changes before that answer are printed
     refused    faults, usage errors and a missing file: the statuses equal those of `check`
-    recording  the lines for each stored recording equal those of the fuzzer's model (python/netrev_machine), and, if the
+    recording  the lines for each stored recording equal those of the fuzzer's model (python/netrev/machine), and, if the
                recording is short, those that follow from `print` for each cell at each position
     random     random recordings are tested in the same way; the option `--random N` of
                `pytest python/tests/program/changes.py` sets their number
@@ -13,15 +13,15 @@ import random
 from pathlib import Path
 
 import pytest
-from netrev_fuzz.randomsteps import Author
-from netrev_machine.observing import Observer
-from netrev_machine.program import printed
-from netrev_words.reading import read_text
-from netrev_words.recording import Recording
-from netrev_words.vocabulary import CELLS, Of
-from netrev_words.writing import write_plain
+from dev.fuzz.generators.random_steps import Author
+from netrev.machine.observer import Observer
+from netrev.model.program import printed
+from netrev.text.contents import Recording
+from netrev.text.reading import read_text
+from netrev.text.vocabulary import CELLS, Of
+from netrev.text.writing import write_plain
 
-from .sharing import ROOT, expect
+from .support.sharing import ROOT, expect
 from .upgrades import RECORDINGS, USAGE, ended, played
 
 SHORT = 300  # in recordings with at most this many steps, the cells are printed at each position

@@ -19,7 +19,7 @@ from pathlib import Path
 
 import pytest
 
-from .sharing import ROOT, Wrong, is_program, library_of
+from .support.sharing import ROOT, Wrong, is_program, library_of
 
 PROGRAM = os.path.abspath(os.environ.get("NR_REFUSED", ROOT / "crates/nr_refused/out/nr_refused"))
 PATIENCE = 60  # seconds

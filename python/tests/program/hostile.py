@@ -17,7 +17,7 @@ import subprocess
 import pytest
 
 from .beginnings import BEGUN, DIFFERS, WALK, every_beginning, wanted_of
-from .sharing import NETREV, PATIENCE, ROOT, expect
+from .support.sharing import NETREV, PATIENCE, ROOT, expect
 
 HEADER = '{"buf":16,"desc":1,"gor":2,"netrev":1,"sock":1}'
 OPEN = '["sockopen",1,1]'

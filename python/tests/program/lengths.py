@@ -14,7 +14,7 @@ from pathlib import Path
 
 import pytest
 
-from .sharing import NETREV, PATIENCE, expect
+from .support.sharing import NETREV, PATIENCE, expect
 
 HEADER = '{"netrev":1,"gor":4,"sock":2,"desc":2,"buf":16}\n'
 LARGE = '{"netrev":1,"gor":1,"sock":1,"desc":1,"buf":65536}\n["sockopen",65536,1]\n'

@@ -14,7 +14,7 @@ from typing import Callable, Iterable, Iterator, Sequence
 
 import pytest
 
-from .sharing import NETREV, PATIENCE, Server, Wrong, expect
+from .support.sharing import NETREV, PATIENCE, Server, Wrong, expect
 
 pytestmark = pytest.mark.alone
 

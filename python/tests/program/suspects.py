@@ -3,8 +3,8 @@
     stored     the output for six recordings is compared with stored lines: the recordings of each hunt, a recording with an
                answer that isn't the machine's, and a recording with a faulty line
     refused    faults, usage errors and a missing file: the statuses equal those of `check`
-    recording  the lines for each stored recording equal those of the naive implementation (netrev_machine/suspects.py)
-    row        the small recordings at the boundaries of the definitions (tests/test_suspect_lines.py)
+    recording  the lines for each stored recording equal those of the naive implementation (netrev/model/suspects.py)
+    row        the small recordings at the boundaries of the definitions (tests/machine/test_suspect_lines.py)
     bad        the recordings in hostile.py that netrev refuses: the only line equals that of `check`
     traffic    a recording of each bug that the fuzzer plants
     greatest   a million steps, most of which end a call, with the greatest numbers
@@ -18,15 +18,15 @@ import random
 from pathlib import Path
 
 import pytest
-from netrev_fuzz.injections import Bug, Traffic
-from netrev_machine.observing import Observer
-from netrev_machine.program import printed
-from netrev_machine.suspects import HUNTS
-from netrev_words.writing import write_plain
-from tests.test_suspect_lines import ALL as ROWS, random_recording, random_waits, text_of
+from dev.fuzz.generators.injections import Bug, Traffic
+from netrev.machine.observer import Observer
+from netrev.model.program import printed
+from netrev.model.suspects import HUNTS
+from netrev.text.writing import write_plain
+from tests.machine.test_suspect_lines import ALL as ROWS, random_recording, random_waits, text_of
 
 from .agree import bad_texts
-from .sharing import ROOT, expect
+from .support.sharing import ROOT, expect
 from .upgrades import RECORDINGS, USAGE, ended, played
 
 IN_THE_GATE = 300  # how many random recordings the gate runs

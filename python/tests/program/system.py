@@ -28,11 +28,11 @@ from functools import partial
 from pathlib import Path
 
 import pytest
-from netrev_machine.debugger import Recording
+from netrev.machine.debugger import Recording
 
 from .address_spaces import LOOKS, MEGABYTE, NO_MEMORY, ended, limit_memory, loads_in, play_memory, play_memory_of_serve
-from .callers import callers
-from .given import (
+from .support.callers import callers
+from .support.given import (
     ANSWERS,
     ARRIVED,
     FIRST,
@@ -50,7 +50,7 @@ from .given import (
     suspects_of,
     upgrade_of,
 )
-from .sharing import NETREV, PATIENCE, Server, Wrong, expect, talk
+from .support.sharing import NETREV, PATIENCE, Server, Wrong, expect, talk
 
 pytestmark = pytest.mark.alone
 

@@ -4,7 +4,7 @@
     written    however a recording is written, its upgrade is compact, with keys in alphabetical order and hexadecimal
                digits in lower case
     refused    faults, usage errors and a missing file: the statuses equal those of `check`
-    recording  the upgrade of each stored recording equals the text of the fuzzer's model (python/netrev_machine); `check`
+    recording  the upgrade of each stored recording equals the text of the fuzzer's model (python/netrev/machine); `check`
                accepts it, a second upgrade has the same bytes, and `run` has the same replies for it
 """
 
@@ -13,10 +13,10 @@ from pathlib import Path
 from typing import Union
 
 import pytest
-from tests import examples
+from tests.support import examples
 
-from .given import upgrade_of
-from .sharing import NETREV, PATIENCE, ROOT, expect
+from .support.given import upgrade_of
+from .support.sharing import NETREV, PATIENCE, ROOT, expect
 
 WOKEN = ROOT / "scripts/recordings/woken-by-an-event.jsonl"
 ANSWERS, OTHER, SHUT = (ROOT / f"examples/{name}.jsonl" for name in ("answers", "other-answer", "shut-write-side"))

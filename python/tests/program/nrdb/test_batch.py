@@ -7,7 +7,7 @@ import tempfile
 import unittest
 from pathlib import Path
 
-from .support import EXAMPLES, NETREV, NRDB, events, netrev, nrdb, nrdb_process, recordings
+from .common.support import EXAMPLES, NETREV, NRDB, events, netrev, nrdb, nrdb_process, recordings
 
 FIRST = EXAMPLES / "first.jsonl"
 

@@ -1,14 +1,14 @@
 """The sessions in docs/ are nrdb's output, and so are the explanations of refused recordings.
-tests/program/test_readme_commands.py runs README.md."""
+tests/program/tools/test_readme_commands.py runs README.md."""
 
 import os
 import re
 import tempfile
 import unittest
 
-from nrdb.commands import OF_NRDB, TOPICS, Origin
+from netrev.session.commands import OF_NRDB, TOPICS, Origin
 
-from .support import ROOT, nrdb
+from .common.support import ROOT, nrdb
 
 PROMPT = "(netrev) "
 RECORDING = re.compile(r"(?:examples|python/tests/caused)/[\w/-]+\.jsonl")

@@ -11,19 +11,18 @@ from typing import Any
 from unittest import mock
 
 import pytest
-from nrdb.commands import COMMANDS, parts_of
+from netrev.session.commands import COMMANDS, parts_of
 from nrdb.dap import looks
 from nrdb.dap.adapter import Adapter
 from nrdb.dap.hearing import Reading
-from nrdb.dap.messages import Wire
+from nrdb.dap.view.messages import Wire
 from nrdb.prompt.answers import ANSWERS
 from nrdb.web.running import Running
-from tests.program.sharing import NETREV, ROOT
+from tests.program.support.sharing import NETREV, ROOT
 
-from .dap_client import Adapter as Editor
-from .dap_client import Refusal
-from .support import EXAMPLES, nrdb
-from .test_dap_port import asked, framed
+from .common.dap_client import Adapter as Editor, Refusal
+from .common.support import EXAMPLES, nrdb
+from .editors.test_dap_port import asked, framed
 
 FIRST = EXAMPLES / "first.jsonl"
 LOST = EXAMPLES / "lost-wakeup.jsonl"
@@ -159,7 +158,7 @@ def test_a_recording_larger_than_what_is_allowed_is_one_line(tmp_path: Path) -> 
     large = tmp_path / "large.jsonl"
     with large.open("wb") as file:
         file.truncate(2**31)
-    script = "import sys; from nrdb.recording import Recording, NoRecording\n"
+    script = "import sys; from netrev.recording.recording import Recording, NoRecording\n"
     script += "try: Recording.read(sys.argv[1])\nexcept NoRecording as why: print(why)"
     run = subprocess.run(
         [sys.executable, "-c", script, str(large)], env=os.environ | {"PYTHONPATH": str(ROOT / "python")}, text=True,

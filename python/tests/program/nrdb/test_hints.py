@@ -5,10 +5,10 @@ import tempfile
 import unittest
 from pathlib import Path
 
-from nrdb.recorded_answers import answer_text
-from nrdb.recording import Recording, Step
+from netrev.recording.answers import answer_text
+from netrev.recording.recording import Recording, Step
 
-from .support import EXAMPLES, NETREV, nrdb, recordings
+from .common.support import EXAMPLES, NETREV, nrdb, recordings
 
 HERE = Path(__file__).parent
 

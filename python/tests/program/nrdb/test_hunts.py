@@ -7,10 +7,10 @@ import tempfile
 import unittest
 from pathlib import Path
 
-from netrev_fuzz.long_hunts import made
-from tests.examples import KNOWN, REFUSED
+from dev.fuzz.generators.long_hunts import made
+from tests.support.examples import KNOWN, REFUSED
 
-from .support import EXAMPLES, HUNTS, nrdb, nrdb_process
+from .common.support import EXAMPLES, HUNTS, nrdb, nrdb_process
 
 MOST = 5
 LONG = {"keeper": 50_000, "refused": 500_000}  # the steps, or a few more, until everything that can end has ended

@@ -10,8 +10,9 @@ import unittest
 from pathlib import Path
 from typing import Optional
 
-from .support import EXAMPLES, NETREV, PATIENCE, ROOT, nrdb
-from tests.folders import folder_of
+from tests.support.folders import folder_of
+
+from .common.support import EXAMPLES, NETREV, PATIENCE, ROOT, nrdb
 
 ENVIRONMENT = {name: value for name, value in os.environ.items() if name not in ("NETREV", "MAKEFLAGS", "PYTHONPATH")}
 ASKED = ("--batch", "-ex", "continue", "-ex", "info goroutines", EXAMPLES / "first.jsonl")
@@ -79,7 +80,7 @@ class Install(unittest.TestCase):
             self.assertEqual(contents(lib), contents(ROOT / "python"))
             self.assertEqual(printed(prefix / "bin/nrdb", *ASKED), nrdb(*ASKED))
             self.assertIn("netrev-go records Go programs.", printed(prefix / "bin/netrev-go", "--help"))
-            found = "import sys; from netrev_words import built; print(built.netrev_program())"
+            found = "import sys; from netrev.text import built; print(built.netrev_program())"
             self.assertEqual(
                 printed("python3", "-c", found, PYTHONPATH=str(prefix / "lib/netrev"), PATH=os.defpath).strip(),
                 str((prefix / "bin/netrev").resolve()),
@@ -98,7 +99,7 @@ class Install(unittest.TestCase):
         times = {path: path.stat().st_mtime_ns for path in compiled}
         self.assertEqual(printed(self.folder / "bin/nrdb", *ASKED), nrdb(*ASKED))
         self.assertEqual({path: path.stat().st_mtime_ns for path in lib.rglob("*.pyc")}, times)
-        source = lib / "netrev_words/version.py"
+        source = lib / "netrev/system/version.py"
         before = source.stat()
         text = source.read_text(encoding="utf-8")
         source.write_text(re.sub(r"\d(?=\"$)", "9", text, flags=re.MULTILINE), encoding="utf-8")

@@ -6,10 +6,10 @@ import unittest
 from pathlib import Path
 from typing import Any, Iterator
 
-from tests.test_strange import OBEYED, unseen
+from tests.session.test_strange import OBEYED, unseen
+from tests.support.folders import folder_of
 
-from .support import EXAMPLES, nrdb
-from tests.folders import folder_of
+from .common.support import EXAMPLES, nrdb
 
 FIRST = EXAMPLES / "first.jsonl"
 HEADER = '{"netrev":2,"gor":2,"sock":1,"desc":1,"buf":16}'

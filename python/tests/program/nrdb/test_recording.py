@@ -8,11 +8,11 @@ import unittest
 from pathlib import Path
 from unittest import mock
 
-from nrdb.line_starts import LineStarts
-from nrdb.recording import Recording
-from nrdb.world import opened_by
+from netrev.connection.world import opened_by
+from netrev.recording.recording import Recording
+from netrev.text.line_starts import LineStarts
 
-from .support import events, recordings
+from .common.support import events, recordings
 
 HEADER = '{"netrev":1,"gor":4,"sock":2,"desc":2,"buf":16}'
 
@@ -59,7 +59,7 @@ class Text(unittest.TestCase):
     def test_lines_that_are_counted_in_pieces(self):
         texts = [b"", b"\n", b"\n\n", HEADER.encode(), *(path.read_bytes()[:2000] for path in recordings())]
         for size in (1, 2, 7, 64):
-            with mock.patch("nrdb.line_starts.BLOCK", size):
+            with mock.patch("netrev.text.line_starts.BLOCK", size):
                 for text in texts:
                     recording, lines = Recording(text), text.split(b"\n")
                     numbers = range(1, len(lines) + 1)
@@ -75,7 +75,7 @@ class Text(unittest.TestCase):
         texts = ["\n".join([HEADER, *steps, ""]), "\n".join([HEADER, *steps, ""]).replace("pollo", "\\u0070ollo")]
         for text, (block, piece) in itertools.product(texts, ((16_384, 256), (4, 2), (4, 1), (2, 2), (1, 1))):
             recording = Recording(text.encode())
-            with mock.patch.multiple("nrdb.world", BLOCK=block, PIECE=piece):
+            with mock.patch.multiple("netrev.connection.world", BLOCK=block, PIECE=piece):
                 found = [opened_by(recording, position) for position in (5, 0, 3, 1, 2, 4, 5)]
             self.assertEqual(found[1:4:2], [({}, 0), ({}, 0)])
             self.assertEqual(found[4], ({0: 0}, 1))

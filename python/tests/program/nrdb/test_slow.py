@@ -3,10 +3,10 @@ point in a conversation with the built program, with the session's netrev and wi
 
 import unittest
 
-from netrev_fuzz.pressing import confined, heard, pressed, settle
-from netrev_fuzz.slow import Slow
-from tests.disturbed import EXAMPLE, Disturbances, Events, Played, Weather
-from tests.program.sharing import NETREV
+from dev.fuzz.sessions.interrupts import confined, heard, pressed, settle
+from dev.fuzz.sessions.slow import Slow
+from tests.program.support.sharing import NETREV
+from tests.support.disturbed import EXAMPLE, Disturbances, Events, Played, Weather
 
 COMMANDS = ("history lock 0 all", "until gor 0 *", "reverse-continue", "goto 3")
 

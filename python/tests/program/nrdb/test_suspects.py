@@ -7,14 +7,14 @@ import subprocess
 import unittest
 from pathlib import Path
 
-from netrev_fuzz.injections import Bug, Traffic
-from netrev_machine.suspects import HELD_REFERENCE, HUNTS, LOST_WAKE_UP, PASSED_DEADLINE
-from tests.program.sharing import NETREV
-from tests.examples import KNOWN, REFUSED
-from tests.test_suspects import PAIRS, recording_of
+from dev.fuzz.generators.injections import Bug, Traffic
+from netrev.model.suspects import HELD_REFERENCE, HUNTS, LOST_WAKE_UP, PASSED_DEADLINE
+from tests.program.support.sharing import NETREV
+from tests.support.examples import KNOWN, REFUSED
+from tests.support.folders import folder_of
+from tests.suspects.test_suspects import PAIRS, recording_of
 
-from .support import EXAMPLES, nrdb, nrdb_process
-from tests.folders import folder_of
+from .common.support import EXAMPLES, nrdb, nrdb_process
 
 DOUBT = "take care"
 SOME = 4

@@ -5,7 +5,7 @@ import re
 import unittest
 from collections import Counter
 
-from .support import events, recordings, shown
+from .common.support import events, recordings, shown
 
 AT = 4  # the number of positions of each recording that are tested besides its ends
 CELLS = 8  # the number of cells of each recording that are tested

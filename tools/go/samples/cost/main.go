@@ -1,5 +1,5 @@
 // Measures what calls cost, in nanoseconds, as the best of many runs of a hundred calls: a write and a read of 16 bytes over the loopback,
-// a SetReadDeadline, and what programs do without the poller. python/netrev_go/costs.py runs it, and has a name for each figure.
+// a SetReadDeadline, and what programs do without the poller. python/dev/recorder/costs.py runs it, and has a name for each figure.
 package main
 
 import (

@@ -1,7 +1,7 @@
 // Measures what a request costs: an HTTP server and its clients over keep-alive connections, in one process:  served CONNECTIONS REQUESTS [trace | flight]
 //
 // It prints the nanoseconds of processor time that the process used for each request, and the bytes of trace for each request. With `trace`, trace.Start traces the run;
-// with `flight`, a FlightRecorder does, which Go has had since 1.25. python/netrev_go/costs.py runs it.
+// with `flight`, a FlightRecorder does, which Go has had since 1.25. python/dev/recorder/costs.py runs it.
 package main
 
 import (

@@ -1,0 +1,1 @@
+"""What isn't shipped: fuzzers, benchmarks, and the recorder's own measurements."""

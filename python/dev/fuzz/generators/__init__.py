@@ -1,0 +1,1 @@
+"""Random recordings, logs, lines and files."""

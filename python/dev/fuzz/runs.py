@@ -1,0 +1,66 @@
+"""Runs a case with netrev and with the model, and compares their outputs."""
+
+import subprocess
+from pathlib import Path
+from typing import Optional
+
+from netrev.model.program import Printed, printed
+
+from . import companion
+from .cases import Case
+from .counts import Met
+
+Difference = tuple[Printed, Printed]  # the outputs of the program and of the model
+
+TIMEOUT = 120
+
+
+def wanted(case: Case, met: Met) -> Optional[Printed]:
+    """The model's output, or None if the model doesn't predict it."""
+    want = printed(case.program, case.recording, case.script, met)
+    met.doubted += want is None
+    return want
+
+
+def told(netrev: str, case: Case, folder: Path) -> Printed:
+    """The program's output."""
+    path = folder / "recording.jsonl"
+    path.write_bytes(case.recording)
+    try:
+        ended = subprocess.run(
+            [netrev, case.program, path], input=case.script, capture_output=True, timeout=TIMEOUT, check=False
+        )
+    except subprocess.TimeoutExpired as late:
+        return Printed(-1, late.stdout or b"", f"no end within {TIMEOUT} seconds")
+    wrong = f"standard error: {ended.stderr[:500]!r}" if ended.stderr else ""
+    return Printed(ended.returncode, ended.stdout, wrong)
+
+
+def difference(netrev: str, case: Case, folder: Path, met: Met) -> Optional[Difference]:
+    """The outputs of netrev and the model for a case if they differ, or the fault of a session of nrdb; None if there
+    is no difference or fault."""
+    if case.program == "nrdb":
+        wrong = companion.played(netrev, case, folder, met)
+        return (Printed(0, b"", wrong), Printed(0, b"")) if wrong else None
+    want = wanted(case, met)
+    if want is None:
+        return None
+    tells = told(netrev, case, folder)
+    return None if tells == want else (tells, want)
+
+
+def first_difference(tells: Printed, want: Printed) -> str:
+    """A short description of the first difference."""
+    if tells.wrong or want.wrong:
+        return tells.wrong or want.wrong
+    lines = zip(tells.output.split(b"\n"), want.output.split(b"\n"))
+    for number, (one, other) in enumerate(lines, 1):
+        if one != other:
+            return f"reply {number} is {shortened(one)}, the model's {shortened(other)}"
+    return (
+        f"status {tells.status}, the model's {want.status}; {len(tells.output)} bytes, the model's {len(want.output)}"
+    )
+
+
+def shortened(line: bytes) -> str:
+    return repr(line.decode("latin-1"))[:120]

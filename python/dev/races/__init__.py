@@ -1,0 +1,1 @@
+"""Benchmarks of `explore`: races that other schedules show."""

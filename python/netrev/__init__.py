@@ -1,0 +1,1 @@
+"""The library: recordings, netrev's answers about them, and what they show."""

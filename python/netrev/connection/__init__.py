@@ -1,0 +1,1 @@
+"""A connection to netrev, its replies, and the output of a session."""

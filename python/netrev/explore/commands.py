@@ -1,0 +1,150 @@
+"""The command `explore`, and what `nrdb --explore` prints."""
+
+import sys
+import time
+from pathlib import Path
+from typing import Callable, NamedTuple
+
+from netrev.findings.suspects.ranking import suspects_of
+from netrev.messages import searches as messages
+from netrev.recording.recording import Recording
+from netrev.reduce.reduced import Reducing, Wanted, answered_recording, reduced_of
+from netrev.reduce.writing import answered_by, text_of, write_recording
+from netrev.run.calls import book_of
+from netrev.session.session import Misused, Session
+from netrev.system.interrupts import Interrupted
+from netrev.text.vocabulary import number_of
+
+from .failures import stays_of, watched
+from .findings import Exploring, Finding
+from .hangs import moved_by
+from .scripts.making import script_of
+from .scripts.runs import Impossible
+from .sentences import Telling, summary
+from .workers import Share, play_all, processors
+
+FAILURES = "failures"
+MOST, GREATEST = 3_000, 1_000_000
+MOST_STEPS = 100_000
+SECONDS = 0.2  # seconds between two lines of progress
+
+
+def answer_explore(session: Session, words: list[str]) -> None:
+    is_of_failures = words[:1] == [FAILURES]
+    rest = words[is_of_failures:]
+    number = number_of(rest[0]) if len(rest) == 1 else MOST if not rest else None
+    if number is None or not 0 < number <= GREATEST:
+        raise Misused(messages.EXPLORE.format(most=GREATEST))
+    session.printer.note(explored(session, number, is_of_failures).text)
+
+
+class Explored(NamedTuple):
+    """The report on the schedules, and the number of findings."""
+
+    text: str
+    found: int
+
+
+def explored(session: Session, most: int = MOST, is_of_failures: bool = False) -> Explored:
+    """Runs schedules near the recorded one, and writes the schedules that end with a suspect. If there are none, writes
+    the schedules in which a call fails although it succeeded in the recording."""
+    recording = session.text()
+    if recording.length > MOST_STEPS:
+        raise Misused(messages.TOO_LONG.format(most=MOST_STEPS))
+    answered = answered_recording(session.program, recording, recording.length)
+    answered.lines = recording.lines
+    begun = time.monotonic()
+    try:
+        script = script_of(answered)
+        if is_of_failures:
+            script.watched = watched(script)
+        exploring = Exploring(script, recording.lines.words)
+    except Impossible as why:
+        raise Misused(messages.NOT_CALLS.format(why=why)) from None
+    progress = Progress(exploring, most, session.interrupts.check)
+    is_stopped = False
+    try:
+        play_all(exploring, Share(script, recording.lines, most, 0, processors()), progress.tell)
+    except Interrupted:
+        is_stopped = True
+    progress.end()
+    lines = [summary(exploring, time.monotonic() - begun, is_stopped)]
+    keeping = Keeping(session, Telling(recording, book_of(recording), exploring.script))
+    for at, finding in enumerate(exploring.found.values(), 1):
+        lines += keeping.kept(at, exploring.least(finding), exploring.times[finding.key])
+    return Explored("\n".join(lines), len(exploring.found))
+
+
+class Progress:
+    """A line on a terminal that shows the progress."""
+
+    def __init__(self, exploring: Exploring, most: int, check: Callable[[], None]) -> None:
+        self.exploring, self.most, self.check = exploring, most, check
+        self._next = time.monotonic() + SECONDS if sys.stderr.isatty() else float("inf")
+        self._width = 0
+
+    def tell(self) -> None:
+        """Updates the line. Called after each schedule."""
+        if time.monotonic() >= self._next:
+            self._next = time.monotonic() + SECONDS
+            found = len(self.exploring.found)
+            self._show(messages.PROGRESS.format(played=self.exploring.played, most=self.most, found=found))
+        self.check()
+
+    def _show(self, text: str) -> None:
+        sys.stderr.write(f"\r{text.ljust(self._width)}\r" if not text else f"\r{text.ljust(self._width)}")
+        sys.stderr.flush()
+        self._width = len(text)
+
+    def end(self) -> None:
+        """Removes the line."""
+        if self._width:
+            self._show("")
+
+
+class Keeping:
+    """Writes the recordings of findings into the current folder, and reports each recording."""
+
+    def __init__(self, session: Session, telling: Telling) -> None:
+        self.session, self.telling = session, telling
+
+    def kept(self, at: int, finding: Finding, times: int) -> list[str]:
+        """Writes a finding's recording and the reduced recording; returns the lines about them."""
+        recording, played = self.telling.recording, finding.played
+        file = f"{Path(self.session.path).stem}-other-{at}.jsonl"
+        data = text_of(played.world, played.world.limits.buf, played.pairs(), recording.has_answers)
+        status, said = answered_by(self.session.program, "check", data)
+        if status:
+            fault = said.decode("utf-8", "replace").strip()
+            return [messages.SCHEDULE_REFUSED.format(finding=at, fault=fault)]
+        write_recording(file, self.session.path, data, recording.lines, [made.number for made in played.steps])
+        accepted = said.decode("utf-8", "replace").strip()
+        *lines, unless = self.telling.finding(at, finding, times, file)
+        lines.append(f"   netrev: {accepted}")
+        lines.append(f"   short:  {self._shortened(file, finding)}")
+        return [*lines, unless]
+
+    def _shortened(self, file: str, finding: Finding) -> str:
+        """Reduces a finding's recording; returns the line about the reduced recording."""
+        whole = Recording.read(file)
+        short = f"{Path(file).stem}-short.jsonl"
+        reducing = Reducing(whole, self.session.path, self.session.program, self.session.interrupts.check)
+        try:
+            return reduced_of(reducing, short, self._wanted(whole, finding)).words(whole.length)
+        except Misused as wrong:
+            return str(wrong)
+
+    def _wanted(self, whole: Recording, finding: Finding) -> Wanted:
+        """The target of the reduced recording. The target is the finding's suspect, or the goroutine that hangs after
+        both settings of its deadline, or the call that fails, with its cause."""
+        if finding.suspect:
+            shown = [one for one in suspects_of(whole).suspects if one.is_shown]
+            subjects = [one.subject for one in shown]
+            number = subjects.index(finding.suspect.subject) + 1 if finding.suspect.subject in subjects else 1
+            return Wanted(number, "", "", whole.length)
+        played = finding.played
+        if played.failed and finding.reason:
+            stays = stays_of(self.telling.script, played.failed, finding.reason, played.steps)
+            return Wanted(0, "", "", whole.length, behind=stays)
+        behind = moved_by(self.telling.script, finding.hangs, played.places[finding.hangs], played.steps)
+        return Wanted(0, "", "", whole.length, finding.hangs, behind)

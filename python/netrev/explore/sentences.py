@@ -1,0 +1,135 @@
+"""Findings as text, in terms of calls."""
+
+from typing import Optional
+
+from netrev.findings.suspects.loading import LOST_WAKE_UP
+from netrev.recording.call import Call
+from netrev.recording.recording import Recording
+from netrev.run.calls import Book
+from netrev.text.plurals import counted
+
+from .failures import FAILS, Failed, Reason, Why
+from .findings import Exploring, Finding
+from .hangs import moved_by
+from .scripts.runs import Delay
+from .scripts.scripts import Script
+
+UNLESS = "possible, unless your program orders these calls by what a recording doesn't show: "
+UNKNOWN = "a channel, a mutex, a condition"
+IF_RAW = "and only if the function that RawConn was given waits without a try, which isn't recorded"
+LEFT_UNKNOWN = "a lock that was free, an atomic"  # what remains unknown if the recorder saw the program's orders
+
+
+class Telling:
+    """Describes findings in terms of the recorded run."""
+
+    def __init__(self, recording: Recording, book: Book, script: Script) -> None:
+        self.recording, self.book, self.script = recording, book, script
+
+    def delay(self, delay: Delay) -> str:
+        """A delay as text: the goroutine, its place, and the end of the delay."""
+        kind, g = self._step(delay.before)
+        call = self.call_of(g, delay.before)
+        in_call, before = (f", in {self._named(call)},", kind) if call else ("", kind)
+        if call and call.first == delay.before:
+            in_call, before = "", self._named(call)
+        return f"goroutine {g}{in_call} pauses before {before} (step {delay.before}) until {self._until(delay.until)}"
+
+    def unless(self, finding: Finding) -> str:
+        """The line that says what isn't known about a finding."""
+        unless = UNLESS + (UNKNOWN if self.script.orders is None else LEFT_UNKNOWN)
+        g = finding.suspect.goroutine if finding.suspect else None
+        if g is None or finding.key[0] != LOST_WAKE_UP:
+            return unless
+        operation = self.script.goroutines[g][finding.played.places[g].operation]
+        return f"{unless}; {IF_RAW}" if operation.is_raw else unless
+
+    def _until(self, number: int) -> str:
+        if number > self.script.length:
+            return "its deadline has passed"
+        kind, g = self._step(number)
+        if g < 0:
+            return f"after {self.recording.step(number)} (step {number})"
+        call = self.call_of(g, number)
+        in_call = f" in {self._named(call)}" if call else ""
+        return f"goroutine {g} has made {kind}{in_call} (step {number})"
+
+    def _step(self, number: int) -> tuple[str, int]:
+        step = self.recording.step(number)
+        g = step.argument("g")
+        return step.kind, -1 if g is None else g
+
+    def call_of(self, g: int, number: int) -> Optional[Call]:
+        """The innermost call of a goroutine that includes a step."""
+        found = [
+            call
+            for call in self.book.calls
+            if call.goroutine == g and call.first <= number and (not call.last or number <= call.last)
+        ]
+        return found[-1] if found else None
+
+    def _named(self, call: Call) -> str:
+        return f"{call.name} on socket {call.socket}"
+
+    def finding(self, at: int, finding: Finding, times: int, file: str) -> list[str]:
+        """The lines about a finding that was written to a file, except netrev's answer."""
+        lines = [f"{at}. {self._head(finding, file)}"]
+        delays = finding.schedule.delays
+        for one in delays:
+            lines.append(f"   {'and ' if one != delays[0] else ''}{self.delay(one)}")
+        for number in dict.fromkeys(number for delay in delays for number in delay):
+            if words := self.recording.lines.words(number):
+                lines.append(f"   Go:     step {number}, {self.recording.step(number).kind}: {words}")
+        seed = f", the first by seed {finding.schedule.seed}" if finding.schedule.seed else ""
+        lines.append(f"   so ended {counted(times, 'schedule')}{seed}")
+        lines.append(f"   {self.unless(finding)}")
+        return lines
+
+    def _head(self, finding: Finding, file: str) -> str:
+        if finding.played.failed and finding.reason:
+            return f"{FAILS}, in {file}: {self._fails(finding.played.failed, finding.reason, finding)}"
+        if finding.suspect:
+            return f"{finding.suspect.rule}, in {file}: {finding.suspect.sentence()}"
+        g = finding.hangs
+        operation = self.script.goroutines[g][finding.played.places[g].operation]
+        before = [one for one in self.script.goroutines[g][: finding.played.places[g].operation + 1] if one.steps]
+        call = self.call_of(g, before[-1].steps[0]) if before else None
+        named = self._named(call) if call else f"a call on socket {operation.socket}"
+        ended = f", which ended with {call.outcome.value!r} in the recording," if call else ""
+        set_at, moved_at = moved_by(self.script, g, finding.played.places[g], finding.played.steps)
+        says = f"goroutine {g} is parked without a deadline, since step {moved_at} moved that of step {set_at}"
+        return f"{finding.key[0]}, in {file}: {named}{ended} hangs: {says}"
+
+    def _fails(self, failed: Failed, reason: Reason, finding: Finding) -> str:
+        """A sentence about the call that fails, and the reason."""
+        first = self.script.goroutines[failed.goroutine][failed.begins]
+        call = self.call_of(failed.goroutine, first.steps[0])
+        named = self._named(call) if call else f"a call on socket {first.socket}"
+        steps = f"steps {call.first} to {call.last}" if call else f"from step {first.steps[0]} on"
+        said = f"goroutine {failed.goroutine}'s {named}, which went well in the recording ({steps}), fails at step {failed.step}"
+        return f"{said}: {self._why(failed.why, reason, finding)}"
+
+    def _why(self, why: Why, reason: Reason, finding: Finding) -> str:
+        if why is Why.BROKEN:
+            return "its other end is closed, or its writing side is shut"
+        step = finding.played.steps[reason.step - 1].step
+        if why is Why.CLOSED:
+            return f"goroutine {step[1]} closes the socket before, at step {reason.step}"
+        if not reason.served:
+            return f"goroutine {step[1]} sets its deadline in the past before, at step {reason.step}"
+        calls = f"{counted(reason.served, 'call')} before it had ended well"
+        return f"its deadline, which goroutine {step[1]} set at step {reason.step} and under which {calls}, passes"
+
+
+def summary(exploring: Exploring, seconds: float, is_stopped: bool) -> str:
+    """The number of schedules that were run, and the results."""
+    how = f"one delay: {min(exploring.played, len(exploring.delays))} of {len(exploring.delays)}"
+    if exploring.seed:
+        how += f"; two and three: seeds 1 to {exploring.seed}"
+    stopped = "stopped: " if is_stopped else ""
+    said = f"{stopped}{counted(exploring.played, 'schedule')} near the recorded one in {seconds:.1f} s ({how})"
+    if exploring.taken_over:
+        said += f"; {exploring.taken_over} of the processes that played them ended early, and nrdb played the rest"
+    if exploring.left:
+        said += f"; in {exploring.left} of them a step didn't apply"
+    return f"{said}; {counted(len(exploring.found), 'finding')}" if exploring.found else f"{said}; nothing found"

@@ -1,0 +1,158 @@
+"""The state of a running script: the machine's state, the place of each goroutine in its calls, and the due times. A
+state can be copied, and compared with another state."""
+
+from heapq import heapify, heappush
+from typing import NamedTuple, Optional, TypeVar
+
+from netrev.machine.machine import Status
+from netrev.run.flow import Sort
+from netrev.text.contents import Answer, Step
+
+from .comparison import Numbered, are_alike
+from .failures import OVER, Failed, fault_of
+from .scripts.actors import Others
+from .scripts.board import Board
+from .scripts.control import GOROUTINE, Numbers, Place, Stream, next_step
+from .scripts.orders import Passing
+from .scripts.runs import Delay, Made
+from .scripts.scripts import Script
+
+Due = tuple[float, int, int, int]  # a time, the order among the actions at that time, the actor, and the actor's number
+Itself = TypeVar("Itself", bound="Standing")
+
+
+class Turn(NamedTuple):
+    """A goroutine's turn in the recorded run: its place before the turn, the answer, and its status and place after the
+    turn. If its next step was scheduled at once, the turn has that step, the step's object and the object's number."""
+
+    place: Place
+    answer: Answer
+    status: Status
+    behind: Place
+    is_off: bool
+    following: Optional[Step] = None
+    coming: int = 0
+    about: Optional[tuple[bool, int]] = None
+    named: int = -1
+
+
+class Standing:
+    """The state of a script that runs under delays."""
+
+    def __init__(self, script: Script, delays: tuple[Delay, ...] = ()) -> None:
+        self.script = script
+        self.until = {delay.before: delay.until + 0.5 for delay in delays}
+        self.board = Board(script.limits, not delays)
+        self.turns: dict[int, Turn] = {}  # turns of the recorded run, by the numbers of their steps
+        self.numbers = Numbers()
+        self.before = 0  # the number of steps that the copied player had made
+        self.steps: list[Made] = []  # the steps after those of the copied player
+        self.places = [Place() for _ in script.goroutines]
+        self.passing = Passing(script.orders, script.causes, self.places)
+        self.following: dict[int, Step] = {}  # the next step of each goroutine that is scheduled
+        self.coming = [0] * len(script.goroutines)  # the number of each goroutine's next recorded step, or 0
+        self.off: set[int] = set()  # the actors that have made steps that the recording doesn't have
+        # whether a step had an answer of NEWS that the recording doesn't have, or a watched call failed
+        self.has_news = False
+        self.failed: Optional[Failed] = None  # the first watched call that failed
+        self.is_over = False  # whether the failed call has ended
+        self.held: dict[int, float] = {}  # the actors that pause, each with the time at which its pause ends
+        self.asleep: set[int] = set()
+        self.lacking: list[tuple[int, int]] = []  # the actors that wait for a step of another actor
+        self.others = Others(script)
+        self.now = 0.0
+        self._heap: list[Due] = []
+        self._count = self._at = 0
+        self._in_order: Optional[list[tuple[float, int, int]]] = None
+        self._streams: dict[tuple[int, int], Stream] = {}
+
+    def copy(self: Itself, delays: tuple[Delay, ...]) -> Itself:
+        """A copy of the state, from which a run continues under other delays."""
+        made = object.__new__(type(self))
+        made.__dict__.update(self.__dict__)
+        made.until = {delay.before: delay.until + 0.5 for delay in delays}
+        made.board, made.numbers, made.others = self.board.copy(), self.numbers.copy(), self.others.copy()
+        made.before, made.steps, made.places = self.made(), [], list(self.places)
+        made.held, made.asleep, made.lacking = dict(self.held), set(self.asleep), list(self.lacking)
+        made.off, made.following, made.coming = set(self.off), dict(self.following), list(self.coming)
+        made.passing = self.passing.copy(made.places)
+        made._heap = list(self._heap)
+        made._hold()
+        return made
+
+    def _hold(self) -> None:
+        """Delays the next step of each goroutine that has a delay before that step."""
+        for at, (due, count, actor, g) in enumerate(self._heap):
+            if actor == GOROUTINE and (until := self.until.get(self.coming[g])):
+                self.held[g] = max(due, until)
+                self._heap[at] = (self.held[g], count, actor, g)
+        heapify(self._heap)
+
+    def is_as(self, other: "Standing") -> bool:
+        """Whether this state equals the other state, so that both runs continue in the same way."""
+        return (
+            self.places == other.places
+            and self.off == other.off
+            and not self.held
+            and are_alike(Numbered(self.board, self.numbers), Numbered(other.board, other.numbers))
+            and self.others.is_as(other.others)
+            and self._all_due() == other._all_due()
+        )
+
+    def is_the_same_as(self, other: "Standing") -> bool:
+        """Whether this run and the other run agree in everything that decides how they continue, including the numbers.
+        If so, both make exactly the same steps."""
+        return (
+            self.places == other.places
+            and self.board.is_as(other.board)
+            and self.is_as(other)
+            and self.numbers.is_as(other.numbers)
+            and self.others.is_the_same_as(other.others)
+            and (self.asleep, self.lacking) == (other.asleep, other.lacking)
+            and self.passing.is_as(other.passing)
+            and [one[2:] for one in sorted(self._heap)] == [one[2:] for one in sorted(other._heap)]
+            and self.following == other.following
+            and all(self.coming[g] == other.coming[g] for g in self.following)
+        )
+
+    def _watch(self, g: int, place: Place) -> None:
+        """Records the first watched call that fails, and the end of that call."""
+        made = self.steps[-1]
+        begins = self.script.watched.get((g, place.operation))
+        if self.failed is None and begins is not None and (why := fault_of(made)):
+            self.failed, self.has_news = Failed(g, begins, self.made(), why), True
+        if self.failed and self.failed.goroutine == g:
+            self.is_over = made.step[0] in OVER or made.answer == ("no",)
+
+    def made(self) -> int:
+        """The number of steps made."""
+        return self.before + len(self.steps)
+
+    def _all_due(self) -> list[tuple[float, int, int]]:
+        """All pending actions, in the order in which they are due."""
+        if self._in_order is None:
+            self._in_order = sorted((due, actor, which) for due, _, actor, which in self._heap)
+        return self._in_order
+
+    def _push(self, due: float, actor: int, which: int) -> None:
+        self._count += 1
+        heappush(self._heap, (due if due > self.now else self.now, self._count, actor, which))
+
+    def _stream(self, g: int, at: int) -> Optional[Stream]:
+        operation = self.script.goroutines[g][at]
+        if operation.sort is not Sort.WRITE:
+            return None
+        if (g, at) not in self._streams:
+            self._streams[g, at] = Stream(operation)
+        return self._streams[g, at]
+
+    def _next(self, g: int) -> Optional[Step]:
+        """The next step of a goroutine; None if the goroutine has no more steps, sleeps or doesn't exist."""
+        board = self.board
+        if g >= len(board.goroutines) or g in self.asleep:
+            return None
+        operations, place = self.script.goroutines[g], self.places[g]
+        if place.operation >= len(operations):
+            return None
+        stream = self._stream(g, place.operation)
+        return next_step(board, self.numbers, g, place, operations[place.operation], stream)

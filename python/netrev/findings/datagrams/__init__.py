@@ -1,0 +1,1 @@
+"""Datagrams that were lost or cut."""

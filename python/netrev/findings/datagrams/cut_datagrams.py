@@ -1,0 +1,130 @@
+"""Datagrams that were longer than the buffer into which they were read: the system discards the rest without an
+error."""
+
+import re
+from collections import defaultdict
+from functools import lru_cache
+from operator import attrgetter
+from typing import Iterator, NamedTuple
+
+from netrev.findings.evidence.asked import asked_of
+from netrev.findings.evidence.index import Cause, Index
+from netrev.findings.evidence.sizes import size_of
+from netrev.findings.evidence.words import told
+from netrev.findings.source.functions import found_in, text_at
+from netrev.findings.streams.flushes import ways_without_an_answer
+from netrev.findings.streams.unaccepted import is_datagram
+from netrev.recording.call import Call
+from netrev.recording.where import Stack
+from netrev.text.plurals import counted
+
+from .unheard import is_same, sent_at
+
+
+INTO = re.compile(r"\.Read\w*\((\w+)")
+
+
+class CutDatagram(NamedTuple):
+    """The Write of a datagram, and the Read that got the first part of the datagram."""
+
+    wrote: Call
+    read: Call
+
+    def says(self, index: Index) -> list[str]:
+        """The sentences about the datagram."""
+        recording, length = index.recording, counted(size_of(index, self.read), "byte")
+        wrote = f"{told(recording, self.wrote)} sent a datagram of {counted(size_of(index, self.wrote), 'byte')} in {self.wrote.steps()}"
+        made = made_at(index, self.read)
+        read = f"{told(recording, self.read)} read it into a buffer of {length}{made}, in step {self.read.last}"
+        return [f"{wrote}; {read}: the rest was thrown away."]
+
+
+def made_at(index: Index, read: Call) -> str:
+    """The line at which a function makes the buffer that a Read fills: ` (a.go:30)`; empty if unknown."""
+    own = index.recording.lines.of(read.first).own()
+    into = INTO.search(text_at(index.recording, own[0])) if own else None
+    if not own or not into:
+        return ""
+    makes = re.compile(rf"\b{re.escape(into[1])}\b *(?::?= *make\(\[\]byte|\[\w+\]byte)")
+    made = [number for number, _ in found_in(index.recording, own[0], makes) if number <= own[0].line]
+    return f" ({own[0].file}:{made[-1]})" if made else ""
+
+
+@lru_cache(maxsize=2)
+def cut_datagrams(index: Index) -> tuple[CutDatagram, ...]:
+    """The truncated datagrams of a recording, in the order of their Reads. The Reads of each socket are paired with the
+    datagrams sent to its address, as long as the lengths fit."""
+    found = [pair for socket in sorted(index.by_socket) for pair in cut_at(index, socket)]
+    return tuple(sorted(found, key=lambda pair: pair.read.last))
+
+
+def cut_at(index: Index, socket: int) -> Iterator[CutDatagram]:
+    """The datagrams that were longer than the buffers of the Reads on a socket."""
+    asked = asked_of(index.recording)
+    reads = [one for one in index.by_socket[socket] if one.name == "Read" and one.moved and one.last]
+    sent = sent_to(index, socket) if reads and is_datagram(index, socket) else []
+    for read, wrote in zip(sorted(reads, key=attrgetter("last")), sent):
+        room, size = asked.of(read), size_of(index, wrote)
+        if room is None or wrote.first >= read.last or size_of(index, read) != min(size, room):
+            return
+        if size > room:
+            yield CutDatagram(wrote, read)
+
+
+def sent_to(index: Index, socket: int) -> list[Call]:
+    """The Writes of datagrams to a socket's address, in order."""
+    own, peer = index.recording.lines.addresses.get(socket, ("", ""))
+    if not own:
+        return []
+    found = (one for one in sent_at(index) if is_same(one.target, own) and (not peer or is_same(one.source, peer)))
+    return sorted((one.wrote for one in found), key=attrgetter("first"))
+
+
+def causes_of_cuts(index: Index) -> list[Cause]:
+    """Possible causes from truncated datagrams: for each line that read truncated datagrams, a cause about the first of
+    them."""
+    found: dict[object, list[CutDatagram]] = defaultdict(list)
+    for pair in cut_datagrams(index):
+        found[index.recording.lines.of(pair.read.first).own()].append(pair)
+    return [cause_of(index, first, len(others)) for first, *others in found.values()]
+
+
+def cause_of(index: Index, pair: CutDatagram, others: int) -> Cause:
+    """The cause for a truncated datagram, with the number of further truncated datagrams."""
+    more = [f"{others} more like it."] if others else []
+    looks = [f"goto {pair.read.last}", f"calls sock {pair.read.socket}"]
+    return Cause(pair.read, [*pair.says(index), *more], [pair.wrote.first, pair.read.first], looks)
+
+
+def cut_says(index: Index, call: Call, position: int) -> list[str]:
+    """Sentences about a Read that waits for a datagram. If the last datagram that the Read's goroutine sent was
+    truncated, the sentences say so, and say what the receiver did next. Otherwise they say so if the last datagram that
+    the goroutine received was truncated."""
+    wrote = index.last_use(call.socket, call.first, ("Write",)) if is_datagram(index, call.socket) else None
+    pair = next((one for one in cut_datagrams(index) if wrote and one.wrote is wrote), None)
+    if pair is None or pair.wrote.goroutine != call.goroutine or pair.read.last > position:
+        return last_cut(index, call)
+    own = index.by_goroutine[pair.read.goroutine]
+    following = next((one for one in own if one.first > pair.read.last), None)
+    says = pair.says(index)
+    if following and following.name == "Read" and following.socket == pair.read.socket:
+        ways = ways_without_an_answer(
+            index.recording, index.recording.lines.of(pair.read.first), writes_of(index, pair.read)
+        )
+        says.append(
+            f"That goroutine sent no answer: it read on in step {following.first}{f' ({ways})' if ways else ''}."
+        )
+    return says
+
+
+def writes_of(index: Index, read: Call) -> set[Stack]:
+    """The stacks of the Writes that a Read's goroutine made to the same socket."""
+    calls = (one for one in index.by_socket[read.socket] if one.goroutine == read.goroutine and one.name == "Write")
+    return {index.recording.lines.of(one.first) for one in calls}
+
+
+def last_cut(index: Index, call: Call) -> list[str]:
+    """A sentence about the last datagram that was read on a socket before a call, if that datagram was truncated."""
+    reads = [one for one in index.by_socket[call.socket] if one.name == "Read" and one.moved and one.first < call.first]
+    pair = next((one for one in cut_datagrams(index) if reads and one.read is reads[-1]), None)
+    return pair.says(index) if pair else []

@@ -1,0 +1,77 @@
+"""Requests sent as datagrams that perhaps got no answer. If no address shows which socket got the request, the module
+looks for the only Read on another socket that got as many bytes."""
+
+from typing import Optional
+
+from netrev.findings.evidence.asked import asked_of
+from netrev.findings.evidence.index import Index, back
+from netrev.findings.evidence.words import told
+from netrev.findings.streams.exchanges import FEWEST
+from netrev.findings.streams.unaccepted import is_datagram
+from netrev.recording.call import Call
+
+DEADLINES = ("SetReadDeadline", "SetDeadline")
+
+
+def unanswered_datagram(index: Index, call: Call, position: int) -> list[str]:
+    """Sentences about a Read that waits for a datagram. The sentences name the goroutine that perhaps read the request
+    and sent no answer, and say so if no deadline was set."""
+    if not is_datagram(index, call.socket):
+        return []
+    wrote = index.last_use(call.socket, call.first, ("Write",))
+    read = reader_of(index, call, wrote, position) if wrote and wrote.goroutine == call.goroutine else None
+    if wrote is None or read is None:
+        return []
+    recording, calls = index.recording, index.by_goroutine[read.goroutine]
+    answers = [one for one in calls if one.name == "Write" and one.socket == read.socket and one.moved]
+    now = index.inside(read.goroutine, position)
+    if len(answers) < FEWEST or answers[-1].first > read.last or now is None or now.socket != read.socket:
+        return []
+    says = [
+        f"Perhaps its request, {told(recording, wrote)} in {wrote.steps()}, was read by {told(recording, read)} in step {read.last}. That goroutine "
+        f"has written there {len(answers)} times before; now it reads on since step {now.first}, without an answer."
+    ]
+    if not any(one.name in DEADLINES for one in back(index.by_socket[call.socket], position)):
+        says.append(
+            f"No deadline was set for reading at socket {call.socket}: a datagram that is lost is waited for without end."
+        )
+    return says
+
+
+def dropped_datagram(index: Index, call: Call) -> list[str]:
+    """Sentences about a Read of a datagram that timed out. The sentences name the goroutine that perhaps read the
+    request and sent no answer, and say so if the request filled the whole buffer."""
+    wrote = index.last_use(call.socket, call.first, ("Write",)) if is_datagram(index, call.socket) else None
+    read = reader_of(index, call, wrote, call.last) if wrote and wrote.goroutine == call.goroutine else None
+    if wrote is None or read is None:
+        return []
+    recording, own = index.recording, index.by_goroutine[read.goroutine]
+    answers = [one for one in own if one.name == "Write" and one.socket == read.socket and one.moved]
+    following = next((one for one in own if one.first > read.last), None)
+    if not any(one.first < read.first for one in answers) or any(read.last < one.first <= call.last for one in answers):
+        return []
+    if following is None or following.name != "Read" or following.socket != read.socket or following.first > call.last:
+        return []
+    asked = asked_of(recording).of(read)
+    whole = (
+        f" It asked for {asked} bytes and got as many: perhaps the datagram was longer, and cut."
+        if asked == read.moved
+        else ""
+    )
+    return [
+        f"Perhaps its request, {told(recording, wrote)} in {wrote.steps()}, was read by {told(recording, read)} in step {read.last}. That goroutine, "
+        f"which had answered there before, sent no answer to it: it read on in step {following.first}.{whole}"
+    ]
+
+
+def reader_of(index: Index, call: Call, wrote: Call, position: int) -> Optional[Call]:
+    """The only Read on another datagram socket since a Write; None if several Reads got data, or if the Read and the
+    Write have different lengths."""
+    found = [
+        one
+        for socket, calls in index.by_socket.items()
+        if socket != call.socket and is_datagram(index, socket)
+        for one in calls
+        if one.name == "Read" and wrote.first < one.last <= position and one.moved
+    ]
+    return found[0] if len(found) == 1 and found[0].moved == wrote.moved else None

@@ -1,0 +1,76 @@
+"""Datagrams that a connected socket never gets, because the socket is connected to an address other than their source
+address."""
+
+from typing import Iterator, NamedTuple, Optional
+
+from netrev.findings.evidence.index import Index
+from netrev.findings.evidence.need import Need
+from netrev.findings.evidence.words import place_in, told
+from netrev.recording.call import OPEN, Call
+
+UNSPECIFIED = ("0.0.0.0:", "[::]:")
+
+
+class Sent(NamedTuple):
+    """A datagram: its Write, its source address and its destination address."""
+
+    wrote: Call
+    source: str
+    target: str
+
+
+def unheard(index: Index, call: Call, position: int) -> Optional[Need]:
+    """What a Read on a connected socket needs, if a datagram came to the socket from another address; else None."""
+    own, peer = index.recording.lines.addresses.get(call.socket, ("", ""))
+    if not peer:
+        return None
+    since = max(
+        (
+            one.last
+            for one in index.by_socket[call.socket]
+            if one.name == "Read" and one.moved and one.last < call.first
+        ),
+        default=0,
+    )
+    found = (
+        one
+        for one in sent_at(index)
+        if since < one.wrote.first <= position and is_same(one.target, own) and not is_same(one.source, peer)
+    )
+    sent = min(found, key=lambda one: one.wrote.first, default=None)
+    if sent is None:
+        return None
+    says = [
+        f"{told(index.recording, sent.wrote)} sent a datagram to its address, {own}, in {sent.wrote.steps()}, from socket {sent.wrote.socket}, "
+        f"{sent.source}{opened_at(index, sent.wrote.socket)}.",
+        f"Socket {call.socket} is connected to {peer}: the system drops what comes from any other address.",
+    ]
+    return Need(says, is_odd=True)
+
+
+def opened_at(index: Index, socket: int) -> str:
+    """The line that opened a socket: `, which was opened at a.go:41 in answer`; empty if unknown."""
+    opened = next((one for one in index.by_socket.get(socket, ()) if one.name == OPEN), None)
+    stack = index.recording.lines.of(opened.first) if opened else None
+    return f", which was opened{place_in(stack)}" if stack and stack.own() else ""
+
+
+def is_same(one: str, other: str) -> bool:
+    """Whether two addresses may be the same. If one address is unspecified, only the ports are compared."""
+    if one.startswith(UNSPECIFIED) or other.startswith(UNSPECIFIED):
+        return one.rpartition(":")[2] == other.rpartition(":")[2]
+    return one == other
+
+
+def sent_at(index: Index) -> Iterator[Sent]:
+    """The datagrams whose source and destination addresses are known: their socket is connected, or their Write names
+    the address."""
+    lines = index.recording.lines
+    for socket, (own, peer) in lines.addresses.items():
+        for call in index.by_socket.get(socket, ()) if peer else ():
+            if call.name == "Write" and call.moved:
+                yield Sent(call, own, peer)
+    for step, target in lines.sent.items():
+        wrote = index.at(step) if 0 < step <= index.recording.length else None
+        if wrote and wrote.name == "Write" and wrote.moved and wrote.socket in lines.addresses:
+            yield Sent(wrote, lines.addresses[wrote.socket][0], target)

@@ -1,0 +1,1 @@
+"""The facts on which causes rest, and their words."""

@@ -1,0 +1,58 @@
+"""Future deadlines of waiting calls. A call with such a deadline ends by itself."""
+
+from collections import defaultdict
+from functools import lru_cache
+from typing import NamedTuple, Optional
+
+from netrev.recording.call import Call
+from netrev.recording.recording import Recording
+from netrev.recording.words import duration
+
+from .index import READING, Index
+from .words import name_of, place_of_step
+
+
+class Setting(NamedTuple):
+    """A `setdeadline` of a descriptor: its step, its goroutine, its sides, and the time until the deadline (0: no
+    deadline, negative: in the past)."""
+
+    step: int
+    goroutine: int
+    sides: str
+    time: int
+
+
+@lru_cache(maxsize=2)
+def settings_of(recording: Recording) -> dict[int, list[Setting]]:
+    """The calls that set each descriptor's deadlines, in order."""
+    found: dict[int, list[Setting]] = defaultdict(list)
+    for step in recording.steps_of(("setdeadline",), recording.length):
+        named = (step.argument(name) for name in ("d", "g", "mode", "time"))
+        descriptor, goroutine, sides, time = named
+        found[descriptor].append(Setting(step.number, goroutine, sides, time))
+    return found
+
+
+def deadline_ahead(index: Index, call: Call, position: int) -> Optional[Setting]:
+    """The deadline of a call that waits at a position; None if the call has no deadline."""
+    side, begin = "r" if call.name in READING else "w", index.by_socket[call.socket][0].first
+    settings = (
+        one
+        for one in reversed(settings_of(index.recording).get(call.descriptor, []))
+        if begin <= one.step <= position and side in one.sides
+    )
+    last = next(settings, None)
+    return last if last and last.time > 0 else None
+
+
+def until_words(index: Index, call: Call) -> str:
+    """Text for the end of a wait with a deadline: `until the deadline of the Read at a.go:3 passes`."""
+    place = index.recording.lines.of(call.first).place()
+    at = f" at {place}" if place and not place.startswith("in ") else f" {place}".rstrip()
+    return f"until the deadline of the {name_of(index.recording, call)}{at} passes"
+
+
+def setting_says(index: Index, setting: Setting) -> str:
+    """A sentence that names the line that set a deadline, and the time until the deadline."""
+    at = place_of_step(index.recording, setting.step, setting.goroutine)
+    return f"Its deadline was set{at}, {duration(setting.time)} ahead, and hasn't passed."

@@ -1,0 +1,1 @@
+"""Values that goroutines hand over through channels."""

@@ -1,0 +1,34 @@
+"""Goroutines that read for other goroutines and pass on what they read. The module finds a goroutine that got bytes
+after a request and has passed nothing on since then."""
+
+from netrev.findings.evidence.index import index_of
+from netrev.findings.evidence.waiters import Waiter
+from netrev.findings.evidence.words import told
+from netrev.recording.goroutines import PUT
+from netrev.recording.recording import Recording
+from netrev.recording.waits import Name, Waiting
+from netrev.text.plurals import counted
+
+
+def perhaps_dropped(recording: Recording, wait: Waiting, by: Waiter) -> list[str]:
+    """Sentences about a goroutine that wrote a request and waits for another goroutine to pass the answer on. That
+    other goroutine has since got bytes and passed none of them on."""
+    reader = by.call
+    if reader is None or reader.name != "Read" or wait.name.is_goid or len(wait.objects) != 1:
+        return []
+    calls = [one for one in index_of(recording).by_socket[reader.socket] if one.last and one.moved]
+    wrote = [
+        one for one in calls if one.name == "Write" and Name(one.goroutine) == wait.name and one.first <= wait.first
+    ]
+    read = [
+        one
+        for one in calls
+        if one.name == "Read" and Name(one.goroutine) == by.name and wrote and one.last > wrote[-1].first
+    ]
+    uses = recording.lines.uses.get(wait.objects[0].object, ())
+    if not read or any(use.what == PUT and use.last >= read[-1].first for use in uses):
+        return []
+    return [
+        f"{told(recording, wrote[-1])} in {wrote[-1].steps()} was perhaps its request. {told(recording, read[-1])} got "
+        f"{counted(read[-1].moved or 0, 'byte')} after that, in step {read[-1].last}, and nothing was put there since."
+    ]

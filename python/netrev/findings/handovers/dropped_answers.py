@@ -1,0 +1,217 @@
+"""Answers that a goroutine read completely and passed to no other goroutine, while the goroutine that wrote the request
+waits on a channel. Clients of many RPC protocols pass answers on through channels."""
+
+import re
+from collections import defaultdict
+from typing import Mapping, NamedTuple, Optional
+
+from netrev.findings.evidence.index import MOVING, Index
+from netrev.findings.evidence.need import Need
+from netrev.findings.evidence.waiters import Waiter
+from netrev.findings.evidence.words import told
+from netrev.findings.pools.senders import PUTS, givings_of
+from netrev.findings.pools.unclosed import RECEIVE
+from netrev.findings.source.functions import Lines, indent_of, range_of, source_of, text_at
+from netrev.findings.source.lost_entries import entry_says
+from netrev.recording.call import Call
+from netrev.recording.goroutines import FOR_VALUE, PUT, TOOK
+from netrev.recording.recording import Recording
+from netrev.recording.waits import Name, Waiting, name_of_goid
+from netrev.recording.where import OF_THE_PROGRAM, Call as LineCall, Stack
+from netrev.text.plurals import counted
+
+from .handed_over import asked_at, written_for
+
+GOES_ON = re.compile(r"\s*(continue\b|default:)")
+CONDITION = re.compile(r"\s*(?:\} else )?if\b")
+MOST_WAYS = 2
+
+
+class Hand(NamedTuple):
+    """A goroutine that reads from a socket and passes on what it read, and the line at which it puts values into
+    channels."""
+
+    reader: Waiter
+    call: Call
+    line: LineCall
+
+
+def is_for_values(wait: Waiting) -> bool:
+    """Whether a goroutine waits only for values from channels."""
+    return bool(wait.objects) and all(at.use == FOR_VALUE for at in wait.objects)
+
+
+def dropped_answer(index: Index, wait: Waiting, hands: Mapping[int, list[Hand]]) -> Optional[Need]:
+    """What a waiting goroutine needs: an answer that a goroutine in `hands` (keyed by socket) read and passed to no
+    other goroutine. None if unknown."""
+    sockets = asked_at(index, wait) if hands else set()
+    for hand in (hand for socket in sorted(sockets) for hand in hands.get(socket, ())):
+        wrote = request_of(index, wait, hand.call.socket)
+        read = read_since(index, hand, wrote) if wrote else None
+        if wrote and read and not has_put(index.recording, wait, read) and is_answered(index, wrote):
+            return Need(says_of(index, wait, hand, wrote, read), stopped=read.first, is_odd=True)
+    return None
+
+
+def hands_of(recording: Recording, wait: Waiting, waiters: Mapping[Name, Waiter]) -> list[Hand]:
+    """The goroutines that wait to read and that pass on what they read. Each has put a value into a channel, and the
+    waiter's line received from that channel. A goroutine that is in a function which put such a value counts too. If no
+    goroutine has put such a value, these are the goroutines in functions with a line that can put one."""
+    readers = {name: waiter for name, waiter in waiters.items() if waiter.call and waiter.call.name == "Read"}
+    lines, own = recording.lines, wait.stack.own()
+    taken = {
+        number
+        for number, uses in lines.uses.items()
+        if any(use.what == TOOK and lines.stacks[use.stack].own() == own for use in uses)
+    }
+    found = dict[Name, Hand]()
+    for number in taken:
+        for use in lines.uses[number]:
+            name, line = name_of_goid(lines, use.goid), lines.stacks[use.stack].own()
+            if use.what == PUT and name in readers and line and line[0].of == OF_THE_PROGRAM:
+                found.setdefault(name, hand_of(readers[name], line[0]))
+    for hand in list(found.values()):
+        for name, reader in readers.items():
+            if any(call.function == hand.line.function for call in reader.stack.calls):
+                found.setdefault(name, hand_of(reader, hand.line))
+    return list(found.values()) or by_source(recording, wait, readers)
+
+
+def by_socket(hands: list[Hand]) -> dict[int, list[Hand]]:
+    """The goroutines, keyed by the sockets from which they read."""
+    found: dict[int, list[Hand]] = defaultdict(list)
+    for hand in hands:
+        found[hand.call.socket].append(hand)
+    return found
+
+
+def hand_of(reader: Waiter, line: LineCall) -> Hand:
+    assert reader.call is not None
+    return Hand(reader, reader.call, line)
+
+
+def by_source(recording: Recording, wait: Waiting, readers: Mapping[Name, Waiter]) -> list[Hand]:
+    """The goroutines that read in a function and have not yet reached the line at which it puts a value into a channel.
+    The waiter's line uses the same name for the channel."""
+    own = wait.stack.own()
+    name = RECEIVE.search(text_at(recording, own[0])) if own and own[0].of == OF_THE_PROGRAM else None
+    source = source_of(recording, own[0].file) if own and name else None
+    if not own or not name or not source:
+        return []
+    found = []
+    for reader in readers.values():
+        for call in reader.stack.calls:
+            for giving in givings_of(source, own[0], name[1], PUTS):
+                if call.file == own[0].file and call.line in giving.within and call.line < giving.number:
+                    found.append(hand_of(reader, call._replace(line=giving.number)))
+    return found
+
+
+def request_of(index: Index, wait: Waiting, socket: int) -> Optional[Call]:
+    """The last Write of a goroutine to a socket before it waits. If the waiter made no Write, the result is the first
+    Write of a goroutine that got the request from the waiter."""
+    calls = [] if wait.name.is_goid else index.by_goroutine.get(wait.name.number, [])
+    writes = [one for one in calls if one.name == "Write" and one.socket == socket and one.moved and one.last]
+    own = next((one for one in reversed(writes) if one.first <= wait.first), None)
+    return own or written_for(index, wait, socket)
+
+
+def read_since(index: Index, hand: Hand, wrote: Call) -> Optional[Call]:
+    """The last Read, after a Write, that got bytes for a goroutine; the Read in which the goroutine waits now doesn't
+    count."""
+    calls = [one for one in index.by_goroutine.get(hand.call.goroutine, []) if one.socket == hand.call.socket]
+    reads = [one for one in calls if one.name == "Read" and one.moved and one.last]
+    return next((one for one in reversed(reads) if wrote.first < one.last < hand.call.first), None)
+
+
+def has_put(recording: Recording, wait: Waiting, read: Call) -> bool:
+    """Whether a goroutine put a value into one of a wait's channels after a Read."""
+    uses = (use for at in wait.objects for use in recording.lines.uses.get(at.object, ()))
+    return any(use.what == PUT and use.last >= read.last for use in uses)
+
+
+def is_answered(index: Index, wrote: Call) -> bool:
+    """Whether, as far as known, all requests at a socket were answered. Either a goroutine at the other end read after
+    the request, wrote, and now reads again, or the other end made as many Writes as this end."""
+    other = index.other_end(wrote.socket)
+    if other is None:
+        return False
+    moved = [one for one in index.by_socket.get(other, ()) if one.name in MOVING and one.moved and one.last]
+    read = next((one for one in moved if one.name == "Read" and one.last > wrote.first), None)
+    answers = [one for one in moved if one.name == "Write" and read and one.first > read.last]
+    if not answers:
+        return False
+    writers = {one.goroutine for one in moved if one.name == "Write"}
+    asked = [one for one in index.by_socket[wrote.socket] if one.name == "Write" and one.moved]
+    is_serial = len(writers) == 1 and moved[-1].name == "Write" and reads_on(index, moved[-1].goroutine, other)
+    return is_serial or sum(one.name == "Write" for one in moved) >= len(asked)
+
+
+def reads_on(index: Index, goroutine: int, socket: int) -> bool:
+    """Whether a goroutine is in a Read on a socket at the end of the recording."""
+    now = index.inside(goroutine, index.recording.length)
+    return now is not None and now.name == "Read" and now.socket == socket
+
+
+def says_of(index: Index, wait: Waiting, hand: Hand, wrote: Call, read: Call) -> list[str]:
+    """The sentences about the request, the goroutine that read the answer, and the lines at which that goroutine
+    continues without passing the answer on."""
+    recording, name = index.recording, hand.reader.name
+    was = "was" if Name(wrote.goroutine) == wait.name else "was perhaps"
+    says = [
+        f"{told(recording, wrote)} in {wrote.steps()} {was} its request. {told(recording, read)} got {counted(read.moved or 0, 'byte')} after "
+        f"that, in step {read.last}, and reads on since step {hand.call.first}: it handed that to no goroutine that waits there."
+    ]
+    ways, place = ways_past(recording, hand.reader.stack, hand.line.file, hand.line.line), hand.line.place()
+    by = ways_words(hand.line.file, ways)
+    goes = f"{by} without {place}, where it hands values on" if ways else f"it hands values on at {place}"
+    return [*says, f"Perhaps {name} dropped the answer: {goes}.", *entry_says(recording, hand.line)]
+
+
+def ways_words(file: str, ways: list[int]) -> str:
+    """Text for the lines at which a goroutine continues: `a.go:3 goes on`."""
+    return f"{' and '.join(f'{file}:{number}' for number in ways)} {'go' if len(ways) > 1 else 'goes'} on"
+
+
+def ways_past(recording: Recording, stack: Stack, file: str, number: int) -> list[int]:
+    """The lines at which a goroutine continues after its wait without reaching a line that puts a value into a channel:
+    `continue`, `default:`, or the condition around that line."""
+    lines = source_of(recording, file)
+    calls = (
+        [call for call in stack.calls if call.file == file and call.of == OF_THE_PROGRAM and call.line < number]
+        if lines
+        else []
+    )
+    within = next((range_of(lines, call) for call in calls if lines and number in (range_of(lines, call) or ())), None)
+    if not lines or not within:
+        return []
+    begin = max((call.line for call in calls if call.line in within), default=within.start)
+    found = [at for at in range(begin + 1, number) if GOES_ON.match(lines[at - 1])]
+    found += conditions_round(lines, begin, number) + defaults_behind(lines, number)
+    return sorted(found)[-MOST_WAYS:]
+
+
+def defaults_behind(lines: Lines, number: int) -> list[int]:
+    """The `default:` of the select that has this line as a case."""
+    if not lines[number - 1].lstrip().startswith("case "):
+        return []
+    margin = indent_of(lines[number - 1])
+    for at in range(number + 1, len(lines) + 1):
+        if lines[at - 1].strip() and indent_of(lines[at - 1]) < margin:
+            return []
+        if lines[at - 1].strip() == "}" and indent_of(lines[at - 1]) == margin:
+            return []
+        if indent_of(lines[at - 1]) == margin and lines[at - 1].lstrip().startswith("default:"):
+            return [at]
+    return []
+
+
+def conditions_round(lines: Lines, begin: int, number: int) -> list[int]:
+    """The innermost condition around a line, if the condition comes after another line."""
+    margin = indent_of(lines[number - 1])
+    for at in range(number - 1, begin, -1):
+        if lines[at - 1].strip() and indent_of(lines[at - 1]) < margin:
+            margin = indent_of(lines[at - 1])
+            if CONDITION.match(lines[at - 1]):
+                return [at]
+    return []

@@ -1,0 +1,100 @@
+"""Goroutines that ended without doing what another goroutine waits for on a channel. According to the program's source,
+each was in a function with a line that puts a value into the channel or takes one, and ended before that line."""
+
+import re
+from typing import Iterator, Optional
+
+from netrev.findings.evidence.ended_goroutines import ended_where, goid_of
+from netrev.findings.evidence.index import Index
+from netrev.findings.evidence.need import Need
+from netrev.findings.evidence.siblings import lines_of
+from netrev.findings.pools.closed_later import DONE, channels_of
+from netrev.findings.pools.senders import PUTS, WORDS, Giving, givings_at, givings_of
+from netrev.findings.source.functions import source_of, text_at
+from netrev.recording.goroutines import A_SELECT, FOR_VALUE
+from netrev.recording.recording import Recording
+from netrev.recording.waits import Waiting, name_of_goid, of_names
+from netrev.recording.where import OF_THE_PROGRAM, Call
+
+STARTS = re.compile(r"\bgo (?:[\w.]+\.)?(\w+)\(")
+FUNCTION = re.compile(r"func (?:\([^)]*\) )?(\w+)[(\[]")
+MOST = 50  # the most goroutines to examine
+
+
+def ended_giver(index: Index, wait: Waiting) -> Optional[Need]:
+    """What a waiting goroutine needs: a value, or room for one, that other goroutines perhaps should have provided
+    before they ended. None if no such goroutine is found."""
+    own, recording = wait.stack.own(), index.recording
+    is_select = wait.kind == A_SELECT
+    if not own or own[0].of != OF_THE_PROGRAM or not wait.objects or wait.objects[0].use not in WORDS:
+        return None
+    if not is_select and len(wait.objects) != 1:
+        return None
+    givings = givings_of_select(recording, own[0]) if is_select else givings_at(recording, wait)
+    if not givings:
+        return None
+    found = dict[int, list[int]]()  # the goroutines, by the line that they should have reached
+    for goid, made in ended_before(recording, wait, own[0].file, givings):
+        number = upcoming(recording, goid, made, own[0].file, givings)
+        if number:
+            found.setdefault(number, []).append(goid)
+    first = next(iter(found), 0)
+    return need_of(index, wait, found[first], own[0], first) if first else None
+
+
+def givings_of_select(recording: Recording, call: Call) -> list[Giving]:
+    """The lines that put values into channels for which a select has a case."""
+    lines = source_of(recording, call.file)
+    names = [name for name in channels_of(lines, call.line) if not name.endswith(DONE)] if lines else []
+    return [giving for name in names for giving in givings_of(lines, call, name, PUTS)] if lines else []
+
+
+def need_of(index: Index, wait: Waiting, found: list[int], own: Call, number: int) -> Need:
+    """What a waiting goroutine needs. The goroutines in `found` ended before they reached the line that would have
+    ended the wait."""
+    lines, names = index.recording.lines, [name_of_goid(index.recording.lines, goid) for goid in found]
+    known = lines.goroutines[found[0]]
+    made = f", started at {known.made.place()}," if known.made else ","
+    does = WORDS[FOR_VALUE if wait.kind == A_SELECT else wait.objects[0].use][0]
+    if len(names) == 1:
+        ended = f"{names[0]}{made} which has ended after step {known.last}{ended_where(index, names[0])}"
+    else:
+        ended = f"{of_names(names)}{made} which have all ended"
+    says = f"Perhaps it waited for {ended}, without passing {own.file}:{number}, which {does}."
+    return Need([says], gone=names[0] if len(names) == 1 else None, is_odd=True, ended=tuple(names))
+
+
+def ended_before(recording: Recording, wait: Waiting, file: str, givings: list[Giving]) -> Iterator[tuple[int, Call]]:
+    """The goroutines that ended without passing one of these lines, latest first, each with the `go` statement that
+    started it. If the waiter started some of these goroutines, the result has only those."""
+    waiter, passed, numbers = goid_of(recording, wait.name), lines_of(recording), {one.number for one in givings}
+    known = recording.lines.goroutines
+    ended = [(goid, one.made) for goid, one in known.items() if one.last >= 0 and one.made]
+    mine = [(goid, made) for goid, made in ended if known[goid].maker == waiter] or ended
+    for goid, made in sorted(mine[-MOST:], key=lambda one: -known[one[0]].begin):
+        if not any(call.file == file and call.line in numbers for call in passed.of(goid)):
+            yield goid, made
+
+
+def upcoming(recording: Recording, goid: int, made: Call, file: str, givings: list[Giving]) -> int:
+    """The line at which a goroutine would next have given or taken a value; 0 if unknown. The goroutine passed earlier
+    lines of that function, or it started in the function and passed no known line of it."""
+    passed = lines_of(recording).of(goid)
+    for giving in givings:
+        last = max((call.line for call in passed if call.file == file and call.line in giving.within), default=0)
+        if 0 < last < giving.number or not last and starts(recording, made, file, giving):
+            return giving.number
+    return 0
+
+
+def starts(recording: Recording, made: Call, file: str, giving: Giving) -> bool:
+    """Whether a `go` statement starts the function of a line."""
+    if made.file != file:
+        return False
+    text = text_at(recording, made)
+    if "func(" in text:
+        return made.line == giving.within.start
+    named = STARTS.search(text)
+    head = text_at(recording, made._replace(line=giving.within.start)) if giving.within else ""
+    function = FUNCTION.match(head)
+    return bool(named and function and named[1] == function[1])

@@ -1,0 +1,301 @@
+"""What a goroutine that waits on a channel needs. The need is derived from how often goroutines took and gave back
+values, from the last goroutine that did the awaited operation, and from goroutines that ended without it."""
+
+from itertools import islice
+from typing import Any, Callable, Hashable, Iterable, Iterator, Mapping, Optional, TypeVar
+
+
+from netrev.findings.evidence.ended_goroutines import loop_words
+from netrev.findings.evidence.index import index_of
+from netrev.findings.evidence.ledger import GAVE_BEFORE, GIVES, GIVES_WORDS, Given, Ledger
+from netrev.findings.evidence.loop_variables import shared_variables
+from netrev.findings.evidence.need import Certainty, Need
+from netrev.findings.evidence.siblings import Kind, ended_words, kinds_of
+from netrev.findings.evidence.waiters import Waiter
+from netrev.findings.evidence.words import place_in
+from netrev.findings.locks.groups import outermost
+from netrev.findings.pools.balances import Balance, balances_of, give_back, has_ended
+from netrev.findings.pools.balances_in_words import excess_says, kept_says
+from netrev.findings.pools.kept_ways import gives_on_most_ways, ways_with_an_error
+from netrev.findings.pools.made_channels import is_filled_by_maker
+from netrev.findings.pools.new_channels import made_since
+from netrev.findings.pools.senders import later_giver
+from netrev.findings.pools.sibling_channels import giver_at_siblings
+from netrev.findings.pools.slots import of_slots
+from netrev.findings.pools.uncancelled import uncancelled
+from netrev.findings.pools.unclosed import unclosed
+from netrev.recording.goroutines import FOR_ROOM, FOR_VALUE, PUT, TOOK, At
+from netrev.recording.recording import Recording
+from netrev.recording.waits import Name, Waiting, Waits, name_of_goid
+from netrev.recording.where import OF_THE_PROGRAM, Stack
+
+from .dispatchers import perhaps_dropped
+from .dropped_notices import dropped_notices
+from .ended_givers import ended_giver
+from .givers import has_left, have_ended, is_in, only_itself, untouched
+
+DID = {PUT: "putting a value there", TOOK: "taking one there"}
+MOST_GIVEN = 50  # the most goroutines to examine for each waiter
+NOBODY = Name(-1)
+Found = TypeVar("Found")
+Rule = Callable[[Recording, Waiting, Iterable[tuple[Name, Stack]]], Optional[Need]]
+
+
+class NeedsOfChannels:
+    """Finds what goroutines need while they wait on channels. `stacks` has the stacks of all goroutines that wait or
+    sleep."""
+
+    def __init__(
+        self, recording: Recording, waits: Waits, ledger: Ledger, waiters: Mapping[Name, Waiter],
+        stacks: dict[Name, Stack], does: Callable[..., str],
+    ) -> None:  # fmt: skip
+        self._recording, self._waits, self._ledger = recording, waits, ledger
+        self._waiters, self._stacks, self._does = waiters, stacks, does
+        self._memo: dict[Hashable, Any] = {}  # results for a channel, at which many goroutines may wait
+
+    def _once(self, key: Hashable, find: Callable[[], Found]) -> Found:
+        if key not in self._memo:
+            self._memo[key] = find()
+        found: Found = self._memo[key]
+        return found
+
+    def _balances(self, number: int) -> list[Balance]:
+        """The balances of a channel; none unless goroutines take its values and give them back, as with a pool."""
+
+        def find() -> list[Balance]:
+            found = balances_of(self._recording, number, self._stacks)
+            return found if give_back(found) or gives_on_most_ways(self._recording, found) else []
+
+        return self._once(("balances", number), find)
+
+    def besides(self, wait: Waiting) -> list[str]:
+        """Further sentences about a channel: values that were lost or kept, or loop variables that goroutines share."""
+
+        def find() -> list[str]:
+            is_pool = any(self._balances(at.object) for at in wait.objects if self.is_buffered(at))
+            kept = [] if is_pool else ways_with_an_error(self._recording, wait)
+            own = wait.stack.own()
+            shared = shared_variables(self._recording, own[0].file) if own and self.is_new(wait) else []
+            return dropped_notices(self._recording, wait) or kept or shared
+
+        return self._once((wait.stack.own(), wait.objects, "besides"), find)
+
+    def of_balance(self, wait: Waiting) -> Optional[Need]:
+        """What a goroutine needs from a channel that is used like a pool. The sentences name calls that kept a value or
+        gave it back twice. `by` is a waiting goroutine that has a value. None if the channel isn't used this way."""
+        at, wanted = wait.objects[0], GIVES.get(wait.objects[0].use, "")
+        balances = self._balances(at.object) if self.is_buffered(at) else []
+        if not balances:
+            return self._of_slots(wait) or self._of_nested(wait) if self.is_buffered(at) else None
+        takes = balances[0].takes
+        if takes == wanted and is_filled_by_maker(self._recording, at):
+            return None
+        if takes == wanted:  # the goroutine waits to give back: the channel has too many values
+            return Need(excess_says(balances)) if any(one.missing < 0 for one in balances) else None
+        by = next((one.name for one in balances if self._is_holder(one, wait)), None)
+        says = self._once(("kept", at.object), lambda: kept_says(self._recording, balances))
+        if by is None:
+            return Need(says, is_kept=True) if says else None
+        return Need(
+            says,
+            by,
+            f"{{by}} {'put a value there' if takes == PUT else 'took a value there'}, and has that yet",
+            Certainty.LIKELY,
+        )
+
+    def _of_slots(self, wait: Waiting) -> Optional[Need]:
+        """What a goroutine needs while it waits for a slot of a semaphore. The need names a goroutine that holds a slot."""
+        key = "slots", wait.stack.own(), wait.objects
+        need = self._once(
+            key, lambda: of_slots(self._recording, wait._replace(name=NOBODY), self._stacks, self._waiters)
+        )
+        if need and need.by == wait.name:
+            return of_slots(self._recording, wait, self._stacks, self._waiters)
+        return need
+
+    def _of_nested(self, wait: Waiting) -> Optional[Need]:
+        """What a goroutine needs while it waits on a channel that was filled only once. Another goroutine took a value
+        and, still in the same call, waits for a second value."""
+        at = wait.objects[0]
+        found = self._once(("nested", at), lambda: list(islice(self._nested(at), MOST_GIVEN)))
+        return next((need for need in found if need.by != wait.name), None)
+
+    def _nested(self, at: At) -> Iterator[Need]:
+        lines = self._recording.lines
+        uses = lines.uses.get(at.object, ())
+        put = sum(use.often for use in uses if use.what == PUT)
+        takers, putters = ({use.goid for use in uses if use.what == what} for what in (TOOK, PUT))
+        if at.use != FOR_VALUE or put > lines.objects[at.object].room or takers & putters:
+            return
+        for use in uses:
+            name = name_of_goid(lines, use.goid)
+            other = self._waiters.get(name)
+            is_there = other is not None and other.wait is not None and at in other.wait.objects
+            taken = lines.stacks[use.stack].own() if use.what == TOOK else None
+            if other and is_there and taken and is_in(other.stack, taken[0]):
+                how = f"{{by}} took a value there{place_in(lines.stacks[use.stack])}, hasn't put it back, and waits for another"
+                yield Need([], name, f"perhaps {how}", Certainty.PERHAPS)
+
+    def excess_of(self, names: set[Name]) -> list[str]:
+        """Sentences about these goroutines' calls, if they gave values back to a channel more often than they took."""
+        for number in self._recording.lines.objects:
+            if self.is_buffered(At(number, "")) and (balances := self._balances(number)):
+                mine = [one for one in balances if one.name in names and one.takes == TOOK]
+                if says := excess_says(mine):
+                    return [f"{says[0]} So perhaps two goroutines have the same."]
+        return []
+
+    def is_buffered(self, at: At) -> bool:
+        known = self._recording.lines.objects.get(at.object)
+        return known is not None and known.room > 0
+
+    def _is_holder(self, balance: Balance, wait: Waiting) -> bool:
+        """Whether the balance's goroutine has a value and waits, and isn't the goroutine of `wait`."""
+        return balance.name in self._waiters and balance.name != wait.name and balance.has_one
+
+    def is_new(self, wait: Waiting) -> bool:
+        """Whether no goroutine has yet done what a goroutine waits for on its channels."""
+        since = self._made_since(wait)
+        given = (one for at in wait.objects for one in self._given(at))
+        return bool(wait.objects) and all(at.use for at in wait.objects) and not any(one.last >= since for one in given)
+
+    def _made_since(self, wait: Waiting) -> int:
+        """A step before which a goroutine's channel was made; 0 if unknown. The results of `made_since` are cached here."""
+        return self._once((wait.name, wait.objects, "made"), lambda: made_since(self._recording, wait))
+
+    def of(self, wait: Waiting) -> Need:
+        """What a goroutine needs from its channels, if possible from the last goroutine that did the awaited operation."""
+        is_one = len(wait.objects) == 1
+        since = self._made_since(wait)
+        given = [one for at in wait.objects for one in self._given(at) if one.name != wait.name and one.last >= since]
+        closing = self._closing(wait)
+        if (
+            not given
+            and not (closing and closing.by)
+            and (by := giver_at_siblings(self._recording, wait, self._waiters))
+        ):
+            return by._replace(more=self.more_of(wait, by.by)) if by.by else by
+        if closing and (closing.by or not given):
+            return closing
+        if one := next((one for one in given if one.name in self._waiters), None):
+            is_last = one.last >= max(other.last for other in given)
+            words = f"{(GIVES_WORDS if is_last else GAVE_BEFORE)[one.what]}{place_in(one.stack)}"
+            if not is_one:
+                return Need([], one.name, f"perhaps for {{by}}: it {words}", Certainty.PERHAPS)
+            is_over = has_left(self._waiters[one.name].stack, one.stack)
+            siblings, more = self._of_siblings(wait), self.more_of(wait, one.name)
+            ended = self._ended_siblings(wait)
+            begins, certainty = ("perhaps for {by}: it", Certainty.PERHAPS) if is_over else ("{by}", Certainty.LIKELY)
+            return Need(
+                siblings, one.name, f"{begins} {words}", certainty, more=more, is_odd=bool(siblings), ended=ended
+            )
+        if not is_one:
+            return self._of_ended_takers(wait)
+        if says := self._of_siblings(wait):
+            return Need(says, is_odd=True, ended=self._ended_siblings(wait))
+        return self._of_the_past(wait, given[:1], closing)
+
+    def _of_ended_takers(self, wait: Waiting) -> Need:
+        """What a goroutine in a select needs: room in a channel from which only ended goroutines took values."""
+        for at in wait.objects:
+            given = self._given(at) if at.use == FOR_ROOM else []
+            if given and all(has_ended(self._recording, one.name) for one in given):
+                one, stack = given[0], given[0].stack
+                did = f"{str(one.name).capitalize()} {GIVES_WORDS[one.what]}{place_in(stack)} (step {one.last})"
+                ended = have_ended(self._recording, wait._replace(objects=(at,)))
+                return Need([f"{did}; it {self._does(one.name, stack)}.", *ended], is_odd=True)
+        return ended_giver(index_of(self._recording), wait) or Need([])
+
+    def _of_the_past(self, wait: Waiting, given: list[Given], closing: Optional[Need]) -> Need:
+        """What a goroutine needs if no waiting goroutine did the awaited operation. The need says which other goroutine did it last, if any."""
+        for one in given:
+            loop = loop_words(self._recording, one.stack) if has_ended(self._recording, one.name) else ""
+            did = f"{str(one.name).capitalize()} {GIVES_WORDS[one.what]}{place_in(one.stack)} (step {one.last}{loop})"
+            ended = f"{did}; it {does}." if (does := self._does(one.name, one.stack)) else f"{did}."
+            gone = one.name if has_ended(self._recording, one.name) else None
+            return Need([ended, *((closing.more if closing else []) or have_ended(self._recording, wait))], gone=gone)
+        is_filled = any(is_filled_by_maker(self._recording, at) for at in wait.objects)
+        if not is_filled and (itself := only_itself(self._recording, wait)):
+            return Need([itself])
+        if left := self._once(("gone", wait.objects), lambda: self._gone(wait)):
+            return Need(left)
+        if context := self._by_source("context", uncancelled, wait):
+            return context
+        later = self._by_source("later", later_giver, wait)
+        if later is None or not later.by:
+            return (
+                ended_giver(index_of(self._recording), wait) or later or Need([], more=untouched(self._recording, wait))
+            )
+        return later
+
+    def _given(self, at: At) -> list[Given]:
+        """Some goroutines that did the awaited operation on a channel. Waiting goroutines come first."""
+
+        def find() -> list[Given]:
+            every = list(self._ledger.given(at))
+            return sorted(every, key=lambda one: one.name not in self._waiters)[:MOST_GIVEN]
+
+        return self._once(("given", at), find)
+
+    def _closing(self, wait: Waiting) -> Optional[Need]:
+        """What a goroutine needs while it waits for a channel to be closed, found from the source."""
+        return self._by_source("closing", unclosed, wait)
+
+    def _by_source(self, key: str, rule: Rule, wait: Waiting) -> Optional[Need]:
+        """The result of a rule that reads the source. The result is computed once for all waits at a line. If it names
+        the waiting goroutine itself, it is computed again for that wait."""
+        nobody = wait._replace(name=NOBODY)
+        place = wait.stack.own(), wait.objects, key
+        need = self._once(place, lambda: rule(self._recording, nobody, self._stacks.items()))
+        return rule(self._recording, wait, self._stacks.items()) if need and need.by == wait.name else need
+
+    def more_of(self, wait: Waiting, by: Name) -> list[str]:
+        """Further sentences about a wait: a channel isn't closed, or an answer wasn't passed on."""
+        closing = self._closing(wait)
+        return [*(closing.more if closing else []), *perhaps_dropped(self._recording, wait, self._waiters[by])]
+
+    def _of_siblings(self, wait: Waiting) -> list[str]:
+        """Sentences about goroutines that ended without doing what others of the same `go` statement did."""
+        what = GIVES.get(wait.objects[0].use, "")
+        return [ended_words(self._recording, kind, DID[what]) for kind in self._kinds_of(wait)]
+
+    def _ended_siblings(self, wait: Waiting) -> tuple[Name, ...]:
+        """The goroutines that ended without the awaited operation, unlike others of the same `go` statement."""
+        return tuple(name_of_goid(self._recording.lines, goid) for kind in self._kinds_of(wait) for goid in kind.ended)
+
+    def _kinds_of(self, wait: Waiting) -> list[Kind]:
+        """The first `go` statement in a function of the waiter, if some of its goroutines did the awaited operation
+        and others ended without it."""
+        what = GIVES.get(wait.objects[0].use, "")
+        if len(wait.objects) != 1 or not what:
+            return []
+        kinds = self._once(("kinds", wait.objects), lambda: self._kinds(wait.objects[0], what))
+        inside = {outermost(call.function) for call in wait.stack.calls if call.of == OF_THE_PROGRAM}
+        return [kind for kind in kinds if kind.ended and outermost(kind.made.function) in inside][:1]
+
+    def _kinds(self, at: At, what: str) -> list[Kind]:
+        did = {use.goid for use in self._recording.lines.uses.get(at.object, ()) if use.what == what}
+        return kinds_of(self._recording, did)
+
+    def left_without(self, wait: Waiting) -> list[str]:
+        """A sentence about a goroutine that waited for a value from a channel, and went on without it."""
+        if len(wait.objects) != 1 or not self.is_new(wait):
+            return []
+        return self._once(("gone", wait.objects), lambda: self._gone(wait))
+
+    def _gone(self, wait: Waiting) -> list[str]:
+        """A sentence about the goroutine that last waited for a value and went on without it."""
+        at = wait.objects[0]
+        if at.use != FOR_ROOM:
+            return []
+        left = [
+            one for some in self._waits.of.values() for one in some
+            if one.last is not None and any(other.object == at.object and other.use != FOR_ROOM for other in one.objects)
+        ]  # fmt: skip
+        if not left:
+            return []
+        last = max(left, key=lambda one: (one.first, one.begin))
+        name = str(last.name).capitalize()
+        return [
+            f"{name} waited for that{place_in(last.stack)} from step {last.first} to {last.last}, and went on without."
+        ]

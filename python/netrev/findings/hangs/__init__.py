@@ -1,0 +1,1 @@
+"""The needs of waiting goroutines, and the graph of their waits."""

@@ -1,0 +1,246 @@
+"""What each goroutine that waits outside the poller needs, and which goroutine could give it. Such a goroutine waits
+for a mutex, a channel, a WaitGroup, a descriptor in use, or a connection of net/http."""
+
+from typing import Hashable, Iterator, Optional
+
+from netrev.findings.evidence.ended_goroutines import ended_where
+from netrev.findings.evidence.index import READING, Index, back
+from netrev.findings.evidence.ledger import Ledger
+from netrev.findings.evidence.need import Certainty, Need
+from netrev.findings.evidence.responses import SERVE, has, server_of, socket_of
+from netrev.findings.evidence.waiters import Waiter
+from netrev.findings.evidence.words import told, waits_words
+from netrev.findings.handovers.dropped_answers import Hand, by_socket, dropped_answer, hands_of, is_for_values
+from netrev.findings.handovers.dropped_requests import dropped_request
+from netrev.findings.handovers.ended_hands import ended_hand
+from netrev.findings.handovers.needs_of_channels import NOBODY, NeedsOfChannels
+from netrev.findings.handovers.own_readers import of_own_reader
+from netrev.findings.http.bodies_left_open import open_bodies
+from netrev.findings.http.held_back import held_back
+from netrev.findings.http.rpc_calls import dropped_by_rpc
+from netrev.findings.locks.conditions import one_alone, unsignalled
+from netrev.findings.locks.groups import Groups
+from netrev.findings.locks.mutex_holders import MutexHolders
+from netrev.findings.locks.needs_of_mutexes import NeedsOfMutexes
+from netrev.findings.pools.closed_later import closed_later
+from netrev.findings.pools.made_channels import without_receiver
+from netrev.findings.pools.stopped_timers import of_timers, timers_of_select
+from netrev.findings.source.contextless import contextless_says
+from netrev.findings.streams.unaccepted import is_dialed
+from netrev.recording.goroutines import A_CONDITION, A_SELECT, A_WAIT_GROUP, MUTEXES
+from netrev.recording.waits import ALL_REQUESTS, A_CONNECTION, A_RESPONSE, LAST_USE, Name, Waiting, Waits
+from netrev.recording.where import OF_THE_PROGRAM, Stack
+
+
+class NeedsElsewhere:
+    """Finds what each goroutine needs while it waits outside the poller at a given position."""
+
+    def __init__(self, index: Index, waits: Waits, waiters: dict[Name, Waiter], position: int) -> None:
+        self._index, self._recording, self._position = index, index.recording, position
+        self._waiters, self._waits, self._ledger = waiters, waits, Ledger(index.recording, waits)
+        stacks = list(self._stacks())
+        self._groups = Groups(index, waits, stacks, position)
+        self._channels = NeedsOfChannels(self._recording, waits, self._ledger, waiters, dict(stacks), self._does)
+        # the goroutines that pass values on to the goroutines that wait at a line
+        self._hands: dict[Hashable, dict[int, list[Hand]]] = {}
+        self._later: dict[Hashable, Optional[Need]] = {}  # what ends the selects of each line
+        self._conditions: dict[Hashable, list[str]] = {}  # the sentences about waits, keyed by their lines and objects
+        self._mutexes = NeedsOfMutexes(self._recording, self._ledger, waiters, stacks, self._does)
+        self._holders = MutexHolders(self._recording, waiters, position, self._does)
+
+    def _stacks(self) -> Iterator[tuple[Name, Stack]]:
+        """The goroutines that wait or sleep, with their stacks."""
+        yield from ((name, waiter.stack) for name, waiter in self._waiters.items())
+        for wait in self._waits.left(self._position):
+            if wait.is_asleep and wait.name not in self._waiters:
+                yield wait.name, wait.stack
+
+    def of(self, waiter: Waiter, wait: Waiting) -> Need:
+        """What a waiting goroutine needs."""
+        need = self._of(waiter, wait)
+        if need.certainty == Certainty.PERHAPS or not (need.by or need.says):
+            need = of_own_reader(self._index, wait, self._position) or need
+        more = [*timers_of_select(self._recording, wait), *self._channels.besides(wait)]
+        more += without_receiver(self._index, wait, self._position)
+        beside = dropped_by_rpc(self._recording, wait)
+        return need._replace(more=[*need.more, *more], beside=(*need.beside, *beside))
+
+    def _of(self, waiter: Waiter, wait: Waiting) -> Need:
+        kind = wait.kind
+        if kind == LAST_USE:
+            return self._of_close(waiter)
+        if stopped := of_timers(self._recording, wait):
+            return stopped._replace(is_odd=True)
+        if certain := self._of_answer(wait):
+            return certain
+        if kind in MUTEXES and wait.objects and self._holders.are_known:
+            return self._holders.need(wait)
+        if kind in MUTEXES and (need := self._mutexes.of(waiter, wait)):
+            return need
+        if kind == A_CONNECTION and (bodies := open_bodies(self._recording, self._ledger, self._waits, self._position)):
+            return Need(bodies)
+        if kind == A_CONNECTION:
+            return self._of_connection()
+        if kind == ALL_REQUESTS:
+            return self._of_requests(waiter)
+        if kind == A_RESPONSE and (answer := self._of_response(wait)):
+            return answer
+        if len(wait.objects) == 1 and (balance := self._channels.of_balance(wait)):
+            return balance
+        more = self._of_condition(wait) if kind == A_CONDITION else []
+        if kind == A_SELECT and (later := self._closed_later(wait)):
+            return later
+        if by := self._ended_before(wait):
+            more = more or (self._channels.more_of(wait, by) if kind != A_CONDITION else [])
+            beside = tuple(more) if kind == A_CONDITION else ()
+            return Need([], by, "{by} ended its wait there before", Certainty.LIKELY, more=more, beside=beside)
+        if kind == A_CONDITION:
+            return Need([], more=more, is_odd=bool(more))
+        if kind == A_WAIT_GROUP and (need := self._groups.of(waiter, self._waiters, self._does)):
+            return need
+        if left := self._channels.left_without(wait):
+            return Need(left)
+        if self._channels.is_new(wait) and (by := self._ended_before(wait, elsewhere=True)):
+            how = "perhaps {by} ends it, as it ended a wait at that line before"
+            return Need([], by, how, Certainty.PERHAPS, more=self._channels.more_of(wait, by))
+        need = self._channels.of(wait)
+        if need == Need([]) and (by := self._reader_for(wait)):
+            how = "perhaps {by} reads the answer"
+            return Need([], by, how, Certainty.PERHAPS, more=self._channels.more_of(wait, by))
+        return need
+
+    def _reader_for(self, wait: Waiting) -> Optional[Name]:
+        """The goroutine that could give a value to a waiter, if the waiter wrote a request and no value was put into
+        its channel yet. The result is the goroutine that waits to read from the waiter's connection, as a client's
+        reader does."""
+        if wait.name.is_goid or not self._channels.is_new(wait) or not is_for_values(wait):
+            return None
+        wrote = next(back(self._index.by_goroutine[wait.name.number], wait.first), None)
+        if wrote is None or wrote.name != "Write" or not wrote.last or not is_dialed(self._index, wrote.socket):
+            return None
+        readers = (
+            one.name
+            for one in self._waiters.values()
+            if one.call and one.call.name in READING and one.call.socket == wrote.socket and not one.call.is_asking
+        )
+        return next(readers, None)
+
+    def _of_answer(self, wait: Waiting) -> Optional[Need]:
+        """What a goroutine needs while it waits for an answer. Another goroutine read the answer but didn't pass it on,
+        took the request but didn't answer it, or has ended."""
+        if not is_for_values(wait):
+            return None
+        own = wait.stack.own()
+        if own not in self._hands:
+            self._hands[own] = by_socket(hands_of(self._recording, wait, self._waiters))
+        found = dropped_answer(self._index, wait, self._hands[own])
+        return found or dropped_request(self._recording, wait, self._waiters) or ended_hand(self._index, wait)
+
+    def _closed_later(self, wait: Waiting) -> Optional[Need]:
+        """What a goroutine needs while it waits in a select: another goroutine that will later close a channel or
+        cancel a context. The result is computed once for all selects of a line."""
+        key = "later", wait.stack.own()
+        if key not in self._later:
+            self._later[key] = closed_later(self._recording, wait._replace(name=NOBODY), self._stacks())
+        need = self._later[key]
+        return closed_later(self._recording, wait, self._stacks()) if need and need.by == wait.name else need
+
+    def excess_of(self, names: set[Name]) -> list[str]:
+        """Sentences about these goroutines' calls, if they gave values back to a channel more often than they took
+        values from it."""
+        return self._channels.excess_of(names)
+
+    def _of_close(self, waiter: Waiter) -> Need:
+        """What a Close waits for: the call that still uses the descriptor."""
+        closes = None if waiter.name.is_goid else self._index.inside(waiter.name.number, self._position)
+        if closes is None:
+            return Need([])
+        users = [
+            one for one in self._index.by_socket[closes.socket]
+            if one.goroutine != closes.goroutine and one.first <= self._position < (one.last or self._position + 1)
+        ]  # fmt: skip
+        if not users:
+            return Need([])
+        says = f"{told(self._recording, users[-1])} uses socket {closes.socket} since step {users[-1].first}."
+        return Need([says], Name(users[-1].goroutine), "{by} uses the descriptor")
+
+    def _of_condition(self, wait: Waiting) -> list[str]:
+        """Sentences about a goroutine's wait on a sync.Cond. They name the function that should have woken this
+        goroutine, or that should have woken all waiters."""
+        key = wait.stack.own(), wait.objects
+        if key not in self._conditions:
+            alike = [one for one in self._waiters.values() if one.wait and one.wait.objects == wait.objects]
+            self._conditions[key] = unsignalled(self._recording, wait) or one_alone(self._recording, wait, len(alike))
+        return self._conditions[key]
+
+    def _of_connection(self) -> Need:
+        """What a net/http request needs while it waits for a connection: the goroutine that perhaps has the
+        connection."""
+        asking = (name for name, one in self._waiters.items() if one.wait and one.wait.kind == A_RESPONSE)
+        by = next(asking, None)
+        how = "perhaps {by} has the connection, and waits for the response"
+        return Need([], by, how, Certainty.PERHAPS) if by else Need([])
+
+    def _of_requests(self, waiter: Waiter) -> Need:
+        """What a Shutdown of net/http needs: the end of a request that its own goroutine serves, or that another
+        goroutine perhaps serves."""
+        if has(waiter.stack, SERVE):
+            return Need([], more=["It serves a request itself, for whose end Shutdown waits."])
+        serving = [
+            name
+            for name, stack in self._stacks()
+            if has(stack, SERVE) and any(call.of == OF_THE_PROGRAM for call in stack.calls)
+        ]
+        by = next((name for name in serving if name in self._waiters), None)
+        if by:
+            return Need([], by, "perhaps for {by}, which serves a request", Certainty.PERHAPS)
+        says = [
+            f"Perhaps it waits for {name}, which serves a request, and which {self._does(name)}."
+            for name in serving[:1]
+        ]
+        return Need(says)
+
+    def _of_response(self, wait: Waiting) -> Optional[Need]:
+        """What a goroutine needs while it waits for a net/http response: the goroutine that serves the request, if it
+        is in this recording."""
+        socket = socket_of(self._index, wait, self._position)
+        server = None if socket is None else server_of(self._index, socket, self._position)
+        if socket is None or server is None or self._reads_on(server):
+            return None
+        does = "" if server in self._waiters else self._does(server)
+        says = [f"{str(server).capitalize()} serves the request on socket {socket}; it {does}."] if does else []
+        held = held_back(self._index, socket, self._position)
+        beside = *held, *contextless_says(self._recording, wait)
+        return Need(says, server, "{by} serves the request", Certainty.LIKELY, more=held, beside=beside)
+
+    def _reads_on(self, server: Name) -> bool:
+        """Whether a server's goroutine waits for the next request, and so serves no request now."""
+        now = self._waiters.get(server)
+        return now is not None and now.is_of_go and now.call is not None and now.call.name in READING
+
+    def _ended_before(self, wait: Waiting, elsewhere: bool = False) -> Optional[Name]:
+        """The goroutine that ended this goroutine's last wait at the same line and now waits itself. Unless
+        `elsewhere`, only waits on the same channels or mutex count."""
+        earlier = (
+            one for one in reversed(self._waits.of[wait.name])
+            if one.last is not None and one.by is not None and one.last <= wait.first
+        )  # fmt: skip
+        same = (
+            one.by
+            for one in earlier
+            if one.reason == wait.reason
+            and one.stack.own() == wait.stack.own()
+            and (elsewhere or one.objects == wait.objects)
+        )
+        return next((by for by in same if by in self._waiters), None)
+
+    def _does(self, name: Name, stack: Optional[Stack] = None) -> str:
+        """Text for what a goroutine does now. If the goroutine has ended, the text says so and names its last place,
+        unless that place is the known stack. Empty if unknown."""
+        if wait := self._waits.at(name, self._position):
+            return f"{waits_words(wait)} since step {wait.first}"
+        lines = self._recording.lines
+        known = lines.goroutines.get(name.number if name.is_goid else lines.goid_of(name.number))
+        if known is None or not 0 <= known.last <= self._position:
+            return ""
+        return f"ended after step {known.last}{ended_where(self._index, name, stack)}"

@@ -1,0 +1,1 @@
+"""Requests and connections of net/http and net/rpc."""

@@ -1,0 +1,1 @@
+"""Waits for mutexes, conditions and WaitGroups."""

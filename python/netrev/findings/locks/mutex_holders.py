@@ -1,0 +1,156 @@
+"""The goroutine that holds a mutex for which another goroutine waits, found in the recorder's table of the mutexes that
+were locked at the end."""
+
+from typing import Callable, Iterator, Mapping, NamedTuple, Optional
+
+from netrev.findings.evidence.need import GOES_FIRST, Certainty, Need
+from netrev.findings.evidence.responses import has
+from netrev.findings.evidence.waiters import Waiter
+from netrev.findings.evidence.words import place_in, short
+from netrev.findings.source.copied_structs import copies_says
+from netrev.findings.source.functions import found_in, text_at
+from netrev.findings.source.left_locked import returns_locked
+from netrev.findings.source.locks import LOCK, UNLOCK
+from netrev.recording.goroutines import READ, Held
+from netrev.recording.recording import Recording
+from netrev.recording.waits import Name, Waiting, name_of_goid
+from netrev.recording.where import OF_THE_PROGRAM, Call, Stack
+from netrev.text.plurals import counted
+
+MUTEX_OF_GO, READS, WRITES = "sync.(*Mutex).", "sync.(*RWMutex).RLock", "sync.(*RWMutex).Lock"
+A_MOMENT = 50_000_000  # nanoseconds; a goroutine that got a mutex more recently may not have run since
+
+
+class Holder(NamedTuple):
+    """A goroutine that holds a mutex, the stack that locked the mutex, and the step after which the goroutine locked
+    it."""
+
+    name: Name
+    stack: Stack
+    step: int
+    is_reader: bool
+
+    @property
+    def call(self) -> Optional[Call]:
+        """The call of the program that locked the mutex."""
+        found = self.stack.own()
+        return found[0] if found and found[0].of == OF_THE_PROGRAM else None
+
+    @property
+    def locked(self) -> str:
+        """Text for the line that locked the mutex: `, locked at a.go:12`; empty if no line of the program locked
+        it."""
+        call = self.call
+        return f", locked at {call.place()}" if call else ""
+
+    @property
+    def how(self) -> str:
+        return "holds it for reading" if self.is_reader else "holds it"
+
+
+class MutexHolders:
+    """The holders of mutexes at a position."""
+
+    def __init__(
+        self, recording: Recording, waiters: Mapping[Name, Waiter], position: int, does: Callable[[Name], str]
+    ) -> None:
+        self._recording, self._waiters, self._position, self._does = recording, waiters, position, does
+
+    @property
+    def are_known(self) -> bool:
+        """Whether the recording says which goroutines hold mutexes at this position. A recording says so only for its
+        end."""
+        return self._recording.lines.held is not None and self._position == self._recording.length
+
+    def need(self, wait: Waiting) -> Need:
+        """What a goroutine needs while it waits for a mutex."""
+        holders = list(self._holders(wait))
+        mine = [one for one in holders if one.name == wait.name]
+        if mine and not self._is_pending(wait, mine[0]):
+            return self._of_itself(wait, mine[0])
+        others = [one for one in holders if one.name != wait.name]
+        return self._of_holder(wait, others[0], others[1:]) if others else self._of_nobody(wait)
+
+    def _holders(self, wait: Waiting) -> Iterator[Holder]:
+        """The holders for which a goroutine waits: the writer; or the readers, if the goroutine is itself a writer that
+        already has the mutex. The goroutine itself is among the holders if it also holds the mutex."""
+        held = [one for at in wait.objects for one in (self._recording.lines.held or {}).get(at.object, ())]
+        writers = [self._holder(one) for one in held if one.how != READ]
+        readers = [self._holder(one) for one in held if one.how == READ]
+        is_writer_to_be = any(one.name == wait.name and self._is_pending(wait, one) for one in writers)
+        if is_writer_to_be or not writers:
+            yield from readers
+        else:
+            yield from writers
+            yield from (one for one in readers if one.name == wait.name and not has(wait.stack, READS))
+
+    def _holder(self, held: Held) -> Holder:
+        lines = self._recording.lines
+        return Holder(name_of_goid(lines, held.goid), lines.stacks[held.stack], held.step, held.how == READ)
+
+    @staticmethod
+    def _is_pending(wait: Waiting, holder: Holder) -> bool:
+        """Whether a goroutine in RWMutex.Lock has the mutex already and waits only for its readers."""
+        inside = [call.function for call in wait.stack.calls if call.of != OF_THE_PROGRAM]
+        is_in_mutex = any(MUTEX_OF_GO in function for function in inside)
+        return not holder.is_reader and not is_in_mutex and any(WRITES in one for one in inside)
+
+    def _of_itself(self, wait: Waiting, holder: Holder) -> Need:
+        """What a waiting goroutine needs if it has already locked the mutex itself."""
+        if left := self._left_locked(holder, wait.stack):
+            return left
+        return Need([f"It {holder.how} itself{holder.locked}: Lock waits for its own goroutine."], is_odd=True)
+
+    def _of_holder(self, wait: Waiting, holder: Holder, more: list[Holder]) -> Need:
+        """What a waiting goroutine needs if another goroutine holds the mutex."""
+        call, does = holder.call, self._does(holder.name)
+        if does.startswith("ended"):
+            left = returns_locked(self._recording, call) if call else []
+            says = [f"{locked_words(holder)} and {does}, without unlocking it.", *left]
+            return Need(says, is_odd=True, gone=holder.name)
+        waiter = self._waiters.get(holder.name)
+        if waiter and (need := self._left_locked(holder, waiter.stack)):
+            return need
+        do = "does" if len(more) == 1 else "do"
+        others = f" (so {do} {counted(len(more), 'more reader')})" if more and holder.is_reader else ""
+        if (
+            waiter
+            and waiter.wait
+            and self._is_pending(waiter.wait, holder)
+            and set(waiter.wait.objects) & set(wait.objects)
+        ):
+            return Need([], holder.name, GOES_FIRST, Certainty.KNOWN)
+        if waiter:
+            return Need([], holder.name, f"{{by}} {holder.how}{holder.locked}{others}", Certainty.KNOWN)
+        doing = f", which {does}" if does else ""
+        return Need([f"{str(holder.name).capitalize()} {holder.how}{holder.locked}{others}{doing}."], is_odd=True)
+
+    def _left_locked(self, holder: Holder, now: Stack) -> Optional[Need]:
+        """What a waiting goroutine needs if the holder's stack shows that the holder has left the function that locked
+        the mutex. On other paths, that function unlocks the mutex. Else None."""
+        call = holder.call
+        if call is None or not now.calls or any(one.function == call.function for one in now.calls):
+            return None
+        name = LOCK.search(text_at(self._recording, call))
+        if name is None or name[1] not in [found[1] for _, found in found_in(self._recording, call, UNLOCK)]:
+            return None
+        says = f"{locked_words(holder)}, and returned from {short(call.function)} with it locked."
+        return Need([says, *returns_locked(self._recording, call)], is_odd=True, gone=holder.name)
+
+    def _of_nobody(self, wait: Waiting) -> Need:
+        """What a goroutine needs if no goroutine holds the mutex. If the waiter has waited for more than a moment, the mutex may be
+        a copy of a locked mutex."""
+        times = self._recording.lines.times
+        if not times or times[-1] - wait.begin < A_MOMENT:
+            return Need([])
+        own = wait.stack.own()
+        at = copies_says(self._recording, own[0]) if own else ""
+        return Need(
+            [f"No goroutine has locked it. Perhaps it is a copy of a mutex that was locked as it was copied{at}."],
+            is_odd=True,
+        )
+
+
+def locked_words(holder: Holder) -> str:
+    """Text for the goroutine that locked a mutex, and for the line at which it did so."""
+    return f"{str(holder.name).capitalize()} locked it{place_in(holder.stack)} (step {holder.step})"

@@ -1,0 +1,1 @@
+"""The program's source, and the mistakes that it shows."""

@@ -1,0 +1,238 @@
+"""Paths of a function that skip what it should do. One line takes or begins something, and another line gives it back
+or finishes it. The paths lead from the first line past the second line. Such a path goes through a `return`, a
+`continue`, a `break` or the condition of a block."""
+
+import re
+from typing import Callable, NamedTuple, Optional
+
+from .functions import Lines
+from .statements import Statement, statements_of
+
+Test = Callable[[str], bool]
+DIES = re.compile(r"(?:panic|os\.Exit|log\.Fatal\w*|runtime\.Goexit|goto|\w\.Fatal\w*)\b")
+LEAVES = re.compile(r"(return|(?:continue|break)(?: \w+)?)\b")
+ENDLESS = re.compile(r"(?:\w+: *)?for \{$")
+IS_THERE = re.compile(r"if (?!err)\w+ != nil \{$")  # tests whether something was taken
+GOT = re.compile(r"(?:if |case )?(?:[\w.]+, )*(\w+) :?= ")
+DOES = {"return": "returns", "continue": "goes on", "break": "breaks off", "end": "ends"}
+MANY = {"returns": "return", "goes on": "go on", "breaks off": "break off", "ends": "end"}
+PASSES = "passes by"
+MOST_WAYS = 3
+
+
+def nothing(_: str) -> bool:
+    return False
+
+
+def is_text(text: str) -> Test:
+    """A test of whether a statement has this text."""
+    return lambda other: other == text
+
+
+def has(pattern: str) -> Test:
+    """A test of whether a statement matches a pattern."""
+    found = re.compile(pattern)
+    return lambda text: found.search(text) is not None
+
+
+class Way(NamedTuple):
+    """A path that leaves without doing what should be done: its line, and a verb for what the line does. The verb for a
+    condition is `passes by`."""
+
+    number: int
+    does: str
+
+
+class State(NamedTuple):
+    """The possible states at a place. The function has perhaps taken something and not given it back (`is_open`), or it
+    has perhaps given it back (`is_done`). `block` is the block that decides between these two states (0: no block
+    does). If `is_deferred`, the function always gives it back when it ends."""
+
+    is_open: bool = False
+    is_done: bool = False
+    block: int = 0
+    is_deferred: bool = False
+
+
+class Exit(NamedTuple):
+    """A line that leaves a block, how it leaves the block (`end`, or the statement: `return`, `break all`), and the
+    state at the line."""
+
+    kind: str
+    number: int
+    state: State
+
+
+Result = tuple[Optional[State], list[Exit]]
+BEFORE, OPEN, DONE = State(), State(is_open=True), State(is_done=True)
+
+
+class Walk(NamedTuple):
+    """A walk through a function from statements that take something to statements that give it back. `keeps` finds
+    statements that pass on what was taken, so that other code must give it back. The walk fills `ways` and `given`. The
+    statements in `given` give back what their path has taken."""
+
+    begins: Test
+    ends: Test
+    keeps: Test
+    ways: list[Way]
+    given: list[str]
+
+    def body(self, statements: list[Statement], state: State, got: str) -> Result:
+        """The state after some statements (None if no path passes all of them), and the exits. `got` is the variable
+        that says whether something was taken; empty if no variable does."""
+        exits, now = list[Exit](), state
+        for one in statements:
+            after, left = self.block(one, now, got) if one.kind else self.simple(one, now)
+            exits += left
+            if after is None:
+                return None, exits
+            now, got = after, self.got_by(one, got)
+        return now, exits
+
+    def got_by(self, one: Statement, got: str) -> str:
+        """The variable that says, after a statement, whether something was taken."""
+        if one.kind:
+            return got
+        name = name_of(one.text)
+        return name if self.does_begin(one.text) else "" if name == got else got
+
+    def does_begin(self, text: str) -> bool:
+        return "func(" not in text and self.begins(text)
+
+    def of_text(self, text: str, now: State) -> State:
+        """The state after a statement of one line, or after the head of a block."""
+        if now.is_deferred:
+            return now
+        if self.ends(text):
+            self.given.extend([text] if now.is_open else [])
+            return DONE._replace(is_deferred=text.startswith("defer "))
+        if self.does_begin(text):
+            return OPEN
+        return DONE if now.is_open and self.keeps(text) else now
+
+    def simple(self, one: Statement, now: State) -> Result:
+        """The same as `body`, for a statement that isn't a block."""
+        now = self.of_text(one.text, now)
+        if DIES.match(one.text):
+            return None, []
+        if found := LEAVES.match(one.text):
+            return None, [Exit(found[1], one.number, now)]
+        return now, []
+
+    def block(self, one: Statement, now: State, got: str) -> Result:
+        """The same as `body`, for a block."""
+        if one.kind == "for":
+            return self.loop(one, now, got)
+        now, exits = self.of_text(one.text, now), list[Exit]()
+        is_taken = self.is_taken(one, got)
+        afters = [] if one.is_whole or is_missing(one.text, now) else [BEFORE if is_taken else now]
+        for branch in one.branches:
+            begin = now if branch.number == one.number else self.of_text(branch.text, now)
+            begin = BEFORE if branch.number == one.number and is_taken is False else begin
+            mine = name_of(branch.text) if self.does_begin(branch.text) else got
+            after, left = self.body(branch.body, begin, mine)
+            afters += [after] if after is not None else []
+            if one.kind != "if":
+                afters += [exit.state for exit in left if exit.kind == "break"]
+                left = [exit for exit in left if exit.kind != "break"]
+            exits += left
+        return joined(afters, one.number), exits
+
+    def is_taken(self, one: Statement, got: str) -> Optional[bool]:
+        """True if the first branch of a block runs exactly when something was taken, False if it runs exactly when
+        nothing was; else None."""
+        head, _, condition = one.text.removesuffix(" {").removeprefix("if ").rpartition("; ")
+        begins = self.does_begin(one.text)
+        if one.kind != "if" or (head and not begins and name_of(head) == got):
+            return None
+        if begins and not head:
+            return not condition.startswith("!")
+        name = name_of(head) if begins else got
+        is_error = name.startswith("err")
+        if not name or condition not in (name, f"!{name}", f"{name} == nil", f"{name} != nil"):
+            return None
+        return (condition in (name, f"{name} != nil")) is not is_error
+
+    def loop(self, one: Statement, now: State, got: str) -> Result:
+        """The same as `body`, for a loop. In each iteration, a loop should give back what it took in that iteration."""
+        begins = self.does_begin(one.text) and not now.is_deferred
+        after, left = self.body(one.branches[-1].body, OPEN if begins else now, got)
+        left += [Exit("end", one.number, after)] if after is not None else []
+        exits = [exit for exit in left if exit.kind not in ("continue", "break", "end")]
+        rounds = [exit for exit in left if exit.kind in ("continue", "end")]
+        behind = [exit.state for exit in left if exit.kind == "break"]
+        if not ENDLESS.match(one.text):
+            behind += [now, *(exit.state for exit in rounds if now.is_open)]
+        for exit in rounds if not now.is_open else ():
+            self.leave(exit)
+        return joined(behind, one.number), exits
+
+    def leave(self, exit: Exit) -> None:
+        """Records a path if it exits without giving back what it took."""
+        if exit.state.is_open and exit.state.block:
+            self.ways.append(Way(exit.state.block, PASSES))
+        elif exit.state.is_open:
+            self.ways.append(Way(exit.number, DOES[exit.kind.partition(" ")[0]]))
+
+
+def name_of(text: str) -> str:
+    """The last variable that a statement sets."""
+    found = GOT.match(text)
+    return found[1] if found else ""
+
+
+def is_missing(head: str, now: State) -> bool:
+    """Whether a path can't pass by a block: the path has taken something, and the block's condition tests for that, as
+    in `if c != nil`."""
+    return now.is_open and IS_THERE.match(head) is not None
+
+
+def joined(states: list[State], number: int) -> Optional[State]:
+    """The possible states after the branches of a block."""
+    if not states:
+        return None
+    is_open, is_done = any(one.is_open for one in states), any(one.is_done for one in states)
+    block = next((one.block for one in states if one.block), 0)
+    if not is_open:
+        return states[0]._replace(is_deferred=all(one.is_deferred for one in states))
+    return State(is_open, is_done, block or (number if is_done else 0))
+
+
+def skipped_ways(lines: Lines, within: range, begins: Optional[Test], ends: Test, keeps: Test = nothing) -> list[Way]:
+    """The paths of a function that skip the statements matched by `ends`. They begin at a statement matched by
+    `begins`, or at the beginning of the function if `begins` is None. The list is empty if no path leads from such a
+    beginning to a statement matched by `ends`."""
+    if any(lines[number - 1].count("`") % 2 for number in within):
+        return []
+    walk = Walk(begins or nothing, ends, keeps, [], [])
+    after, left = walk.body(statements_of(lines, within), BEFORE if begins else OPEN, "")
+    for exit in [*left, *([Exit("end", within[-1], after)] if after else [])]:
+        walk.leave(exit)
+    return sorted(set(walk.ways)) if walk.given else []
+
+
+def that_stay(ways: list[Way]) -> list[Way]:
+    """The paths on which a goroutine continues in a function instead of leaving the function."""
+    return [one for one in ways if one.does not in (DOES["return"], DOES["end"])]
+
+
+def ways_are(ways: list[Way]) -> str:
+    """The words that introduce paths: `on this way`, or `on these ways`."""
+    return "on these ways" if len(ways) > 1 else "on this way"
+
+
+def ways_words(file: str, ways: list[Way]) -> str:
+    """Paths as text: `a.go:3 returns`, `a.go:3 and a.go:7 return`, `the way past a.go:3 goes on`."""
+    by_kind: dict[str, list[str]] = {}
+    for one in ways[:MOST_WAYS]:
+        by_kind.setdefault(one.does, []).append(f"{file}:{one.number}")
+    return " and ".join(kind_words(does, places) for does, places in by_kind.items())
+
+
+def kind_words(does: str, places: list[str]) -> str:
+    """Text for paths that all do the same, such as `a.go:3 and a.go:7 return`."""
+    is_past, lines = does == PASSES, " and ".join(places)
+    if len(places) == 1:
+        return f"the way past {lines} goes on" if is_past else f"{lines} {does}"
+    return f"the ways past {lines} go on" if is_past else f"{lines} {MANY[does]}"

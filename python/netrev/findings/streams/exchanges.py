@@ -1,0 +1,249 @@
+"""Requests and answers on a connection, matched by the order of its Writes and Reads. The module finds a Read that
+waits for an answer without a request, a request that was read and not answered, and a Read that asks for more bytes
+than the other end wrote."""
+
+from typing import Iterator, NamedTuple, Optional
+
+from netrev.findings.evidence.asked import Asked, asked_of
+from netrev.findings.evidence.index import MOVING, Index, back
+from netrev.findings.evidence.sizes import are_known, moved_at, size_of
+from netrev.findings.evidence.words import place_of, told
+from netrev.recording.call import OPEN, Call
+from netrev.recording.recording import Recording
+from netrev.text.plurals import counted
+
+from .ends_of_reads import line_reader_of
+from .flushes import ways_round_a_flush, ways_without_an_answer, writes_through_a_buffer
+from .frame_lengths import is_of_a_body, length_says
+from .left_in_buffers import never_flushed
+from .unaccepted import is_dialed
+
+MOST_ASKED = 65_536  # the most bytes that a Read counts
+FEW_ASKED = 256  # bytes that a Read may ask for at once, as for a header
+FEWEST = 2  # the fewest earlier exchanges that show a habit
+READ_FULL = "io.ReadAtLeast"
+
+
+class Exchange(NamedTuple):
+    """Writes of a goroutine to a socket, and the Reads after them that got bytes."""
+
+    writes: list[Call]
+    reads: list[Call]
+
+
+def exchanges_of(index: Index, goroutine: int, socket: int, until: int) -> list[Exchange]:
+    """The exchanges of a goroutine at a socket, up to a step."""
+    found: list[Exchange] = []
+    for call in index.by_socket.get(socket, ()):
+        if (
+            call.goroutine != goroutine
+            or call.name not in MOVING
+            or call.first > until
+            or not call.moved
+            or not call.last
+        ):
+            continue
+        if call.name == "Write":
+            if not found or found[-1].reads:
+                found.append(Exchange([], []))
+            found[-1].writes.append(call)
+        elif found:
+            found[-1].reads.append(call)
+    return found
+
+
+def is_client(index: Index, goroutine: int, socket: int) -> bool:
+    """Whether only this goroutine reads and writes on a socket, and the socket was dialed. If the recording doesn't
+    show whether the socket was dialed, a goroutine that wrote before it got bytes counts as the dialer."""
+    calls = index.by_socket.get(socket, [])
+    moved = [call for call in calls if call.name in MOVING and call.moved]
+    stack = index.recording.lines.of(calls[0].first) if calls else None
+    is_known = stack is not None and calls[0].name == OPEN and bool(stack.calls)
+    asks = is_dialed(index, socket) if is_known else bool(moved) and moved[0].name == "Write"
+    return bool(moved) and asks and all(call.goroutine == goroutine for call in moved)
+
+
+def unasked(index: Index, call: Call) -> list[str]:
+    """Sentences about a Read that waits for an answer without a request: its goroutine wrote a request before each
+    earlier answer, but no request before this Read."""
+    found = exchanges_of(index, call.goroutine, call.socket, call.first)
+    *before, last = found or [Exchange([], [])]
+    if not is_client(index, call.goroutine, call.socket):
+        return []
+    if len(before) < FEWEST or not last.reads or any(not one.reads for one in before):
+        return []
+    firsts = {index.recording.lines.of(one.reads[0].first).own() for one in found}
+    if len(last.reads) < max(len(one.reads) for one in before):
+        return []
+    if index.recording.lines and index.recording.lines.of(call.first).own() not in firsts:
+        return []  # the goroutine is in the middle of an answer
+    wrote = last.writes[-1]
+    return [
+        f"Before each of its {len(found)} answers there goroutine {call.goroutine} wrote; since the last of them it has written nothing: its last "
+        f"Write was{place_of(index.recording, wrote.first)} (step {wrote.first}). Perhaps the request is still in a buffer that wasn't flushed."
+    ]
+
+
+def unanswered(index: Index, call: Call, other: int, position: int) -> list[str]:
+    """Sentences about a Read whose request was read and not answered: the goroutine that read the request had answered
+    earlier requests. After the last request, that goroutine read again or did something else, without a Write."""
+    wrote = index.last_use(call.socket, call.first, ("Write",))
+    if wrote is None or wrote.goroutine != call.goroutine or not wrote.moved:
+        return []
+    if not is_client(index, call.goroutine, call.socket):
+        return []
+    read = reader_of(index, other, wrote, position)
+    if read is None:
+        return []
+    written = [
+        one for one in index.by_goroutine[read.goroutine] if one.name == "Write" and read.first < one.first <= position
+    ]
+    answers = [
+        one for one in index.by_socket[other] if one.goroutine == read.goroutine and one.name == "Write" and one.moved
+    ]
+    now = index.inside(read.goroutine, position)
+    if any(one.socket == other for one in written):
+        return []
+    if now is None or now.name != "Read" or now.socket != other or now.first <= read.first:
+        return []
+    if not answers:
+        return unended(index, wrote, read, now)
+    if len(answers) < FEWEST and not ways_round_a_flush(index.recording, index.recording.lines.of(now.first)):
+        return []
+    return [
+        f"The request, {told(index.recording, wrote)} in {wrote.steps()}, was read by {told(index.recording, read)} in step {read.last}. "
+        f"That goroutine has written there {counted(len(answers), 'time')} before; now it reads on since step {now.first}, without an answer."
+        + perhaps_why(index, call, now)
+    ]
+
+
+def unended(index: Index, wrote: Call, read: Call, now: Call) -> list[str]:
+    """Sentences about a first request that was read but not answered: its reader still looks for the end of a line."""
+    line = line_reader_of(index, now)
+    if not line or line_reader_of(index, read) != line:
+        return []
+    recording, made = index.recording, never_flushed(index.recording, now)
+    kept = f"the answer is in the buffer that {made} makes, and no line flushes it; or " if made else ""
+    return [
+        f"The request, {told(recording, wrote)} in {wrote.steps()}, was read by {told(recording, read)} in step {read.last}, and nothing has been "
+        f"written there yet. That goroutine reads on since step {now.first}: {line} looks for the end of a line. Perhaps {kept}the request lacks "
+        "that."
+    ]
+
+
+def perhaps_why(index: Index, call: Call, now: Call) -> str:
+    """Why a goroutine that looks for the end of a line perhaps reads on: an answer was skipped or is still in a buffer,
+    or the request lacks its end. If a path skips the answer or its Flush, the text begins with the answer, and leaves
+    out the request if an earlier request like it was answered. Otherwise the text has both reasons. It begins with the
+    answer if the function writes through a buffer. If the source isn't available, it does so if an earlier request with
+    the same number of Writes was answered."""
+    line = line_reader_of(index, now)
+    if not line:
+        return ""
+    *before, last = exchanges_of(index, call.goroutine, call.socket, call.first)
+    stack = index.recording.lines.of(now.first)
+    is_buffered = writes_through_a_buffer(index.recording, stack)
+    if is_buffered is None:
+        is_buffered = any(one.reads and len(one.writes) == len(last.writes) for one in before)
+    lacks = f"the request lacks what ends it, for which {line} reads on"
+    ways = ways_round_a_flush(index.recording, stack)
+    kept = f"the answer is in a buffer that wasn't flushed{ways}"
+    skips = "" if ways else skips_an_answer(index, now)
+    if ways or skips:
+        is_whole = any(one.reads and are_alike(index, one.writes, last.writes) for one in before)
+        return f" Perhaps {skips or kept}." if is_whole else f" Perhaps {skips or kept}; or {lacks}."
+    return f" Perhaps {kept}; or {lacks}." if is_buffered else f" Perhaps {lacks}; or {kept}."
+
+
+def skips_an_answer(index: Index, now: Call) -> str:
+    """Text for a path on which a goroutine perhaps reads on without an answer; empty if the source has no such
+    path."""
+    calls = (one for one in index.by_socket[now.socket] if one.goroutine == now.goroutine and one.name == "Write")
+    stacks = {index.recording.lines.of(one.first) for one in calls}
+    ways = ways_without_an_answer(index.recording, index.recording.lines.of(now.first), stacks)
+    return f"it gives no answer there: {ways}" if ways else ""
+
+
+def are_alike(index: Index, writes: list[Call], others: list[Call]) -> bool:
+    """Whether the same lines wrote two requests."""
+    places = [[index.recording.lines.of(one.first).own() for one in some] for some in (writes, others)]
+    return places[0] == places[1]
+
+
+def reader_of(index: Index, other: int, wrote: Call, position: int) -> Optional[Call]:
+    """The last Read at the other end that got bytes from a Write."""
+    reads = (one for one in back(index.by_socket.get(other, ()), position) if one.name == "Read")
+    read = next((one for one in reads if one.moved and one.last and one.last > wrote.first), None)
+    return read if read and read.goroutine != wrote.goroutine else None
+
+
+def lacking(index: Index, call: Call, other: int) -> list[str]:
+    """Sentences about a Read that waits in an io.ReadFull. The sentences say how many bytes the Read asked for, how
+    many bytes came, and that the other end wrote no more."""
+    recording = index.recording
+    stack = recording.lines.of(call.first)
+    if call.name != "Read" or not any(one.function == READ_FULL for one in stack.calls):
+        return []
+    asked, wrote = asked_of(recording), index.last_use(other, recording.length, ("Write",))
+    rest, begin = asked.of(call), begin_of_full(index, asked, call)
+    whole = asked.of(begin)
+    if (
+        not rest
+        or not whole
+        or not wrote
+        or not wrote.last
+        or (begin is call and rest < MOST_ASKED and rest <= size_of(index, wrote))
+    ):
+        return []
+    is_of_a_buffer = rest & (rest - 1) == 0 and any(one.function.startswith("bufio.") for one in stack.calls)
+    if begin is call and is_of_a_buffer and is_of_a_body(recording, call):
+        return [
+            f"It waits for the rest of a message: {told(recording, wrote)} was the last there.",
+            *length_says(recording, wrote, call),
+        ]
+    if begin is call and (rest < FEW_ASKED or is_of_a_buffer):
+        return []
+    if is_cut(recording, index, (call.socket, other)) and not are_known(index):
+        return (
+            []
+            if begin is call
+            else [
+                f"Perhaps fewer bytes were sent than it was told to read: it asked for {whole} and has {whole - rest}, so {rest} more must come. "
+                f"{told(recording, wrote)}, the last there, ended in step {wrote.last}, and nobody writes there now.",
+                *length_says(recording, wrote, begin),
+            ]
+        )
+    if moved_at(index, call.socket, "Read", recording.length) != moved_at(index, other, "Write", recording.length):
+        return []
+    if begin is call:
+        return [
+            f"It asks for {'at least ' if rest >= MOST_ASKED else ''}{counted(rest, 'byte')}: {told(recording, wrote)}, the last there, put {counted(size_of(index, wrote), 'byte')}, and all "
+            "of them are read.",
+            *length_says(recording, wrote, begin),
+        ]
+    return [
+        f"It asked for {counted(whole, 'byte')} and has {whole - rest}: {told(recording, wrote)}, the last there, put {counted(size_of(index, wrote), 'byte')}, and all of them are read. "
+        f"{counted(rest, 'byte')} more must come.",
+        *length_says(recording, wrote, begin),
+    ]
+
+
+def begin_of_full(index: Index, asked: Asked, call: Call) -> Call:
+    """The first Read of the io.ReadFull that a Read belongs to. If a Read's bytes are counted only in part, the next
+    Read shows how many bytes came, because it asks for the rest."""
+    lines, most = index.recording.lines, index.recording.lines.bytes
+    begin = asked.begin_of(call)
+    while (before := asked.before(begin)) and lines.of(before.first) == lines.of(begin.first):
+        whole, rest = asked.of(before), asked.of(begin)
+        is_part = most is not None and (before.moved or 0) >= most and whole and rest and whole - rest >= most
+        if not is_part:
+            break
+        begin = asked.begin_of(before)
+    return begin
+
+
+def is_cut(recording: Recording, index: Index, sockets: tuple[int, ...]) -> bool:
+    """Whether the recording counts fewer bytes than the reads or writes at these sockets moved."""
+    most = recording.lines.bytes
+    calls: Iterator[Call] = (call for socket in sockets for call in index.by_socket.get(socket, ()))
+    return most is not None and any((call.moved or 0) >= most for call in calls)

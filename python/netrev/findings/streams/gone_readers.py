@@ -1,0 +1,89 @@
+"""Goroutines that were the only readers of a connection and have ended. The connection is still open, and more bytes
+may have come."""
+
+from typing import Iterator, NamedTuple, Optional
+
+from netrev.findings.evidence.ended_goroutines import left_by
+from netrev.findings.evidence.index import Cause, Index
+from netrev.findings.evidence.long_lines import long_line_says
+from netrev.findings.evidence.words import came_of, is_of_go, told
+from netrev.recording.call import CLOSE, Call, Outcome
+
+
+class GoneReader(NamedTuple):
+    """The last Read on a socket, the step after which its goroutine ended, and the first Write at the other end after
+    that step, if any."""
+
+    read: Call
+    ended: int
+    wrote: Optional[Call]
+
+    def says(self, index: Index) -> list[str]:
+        """The sentences about the reader."""
+        recording, read = index.recording, self.read
+        says = [
+            f"nobody reads on socket {read.socket} any more: goroutine {read.goroutine}, which alone had read there, ended after step {self.ended}.",
+            f"Its last was {told(recording, read)}, {read.steps()}, {came_of(recording, read)}.",
+        ]
+        says += long_line_says(index, read)
+        if self.wrote:
+            says.append(f"{told(recording, self.wrote)} came after that, in {self.wrote.steps()}: nobody has read it.")
+        return says
+
+
+def gone_readers(index: Index, position: int) -> Iterator[GoneReader]:
+    """The readers that have ended at a position, except the readers of connections that were closed at this end."""
+    for socket in sorted(index.recording.lines.peers):
+        gone = gone_reader(index, socket, position)
+        if gone is not None:
+            yield gone
+
+
+def gone_reader(index: Index, socket: int, position: int) -> Optional[GoneReader]:
+    """The only goroutine that read from a socket, if it had ended by a position. The result is None if no such
+    goroutine exists or if the socket was closed at this end."""
+    other = index.recording.lines.peers.get(socket)
+    if other is None:
+        return None
+    calls = [one for one in index.by_socket.get(socket, ()) if one.first <= position]
+    reads = [one for one in calls if one.name == "Read"]
+    if not reads or len({one.goroutine for one in reads}) > 1 or any(one.name == CLOSE for one in calls):
+        return None
+    last, ended = reads[-1], ended_behind(index, reads[-1], position)
+    if ended is None or is_of_go(index.recording, last):
+        return None
+    writes = (one for one in index.by_socket.get(other, ()) if one.name == "Write" and one.moved and one.last)
+    return GoneReader(last, ended, next((one for one in writes if ended < one.first <= position), None))
+
+
+def ended_behind(index: Index, call: Call, position: int) -> Optional[int]:
+    """The step after which a call's goroutine ended, if it had ended by a position; None if it hadn't, or if the step
+    is unknown."""
+    lines = index.recording.lines
+    known = lines.goroutines.get(lines.goid_of(call.goroutine, call.first))
+    return known.last if known is not None and 0 <= known.last <= position else None
+
+
+def without_reader(index: Index) -> Iterator[Cause]:
+    """Possible causes at the end of the recording: readers that ended before more bytes came, although their last Read
+    neither failed nor reached the end of the stream."""
+    for one in gone_readers(index, index.recording.length):
+        if not one.wrote or not one.read.moved or one.read.outcome is not Outcome.DONE:
+            continue
+        looks = [f"goto {one.read.last}", f"calls sock {one.read.socket}"]
+        yield Cause(one.read, one.says(index), [one.read.first, one.wrote.first], looks, one.read.last)
+
+
+def ended_reader(index: Index, call: Call, other: int, position: int) -> list[str]:
+    """Sentences about a Read that waits for an answer: the only goroutine that had read at the other end has ended. The
+    sentences name the lines at which it left its loop."""
+    gone = gone_reader(index, other, position)
+    wrote = index.last_use(call.socket, position, ("Write",))
+    if gone is None or gone.read.outcome is not Outcome.DONE or wrote is None or wrote.goroutine != call.goroutine:
+        return []
+    read = gone.read
+    return [
+        f"Nobody reads at socket {other} any more: goroutine {read.goroutine}, whose last was {told(index.recording, read)}, ended after step "
+        f"{gone.ended}{left_by(index, read)}.",
+        *long_line_says(index, read),
+    ]

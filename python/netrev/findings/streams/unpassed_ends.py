@@ -1,0 +1,73 @@
+"""An end of a stream that a relay didn't pass on. The relay is a goroutine that only read from one socket and only
+wrote to another. The relay reached the end of its input, had written everything, and never closed the other socket for
+writing, so the reader at that socket's other end hangs."""
+
+from typing import Iterator, NamedTuple, Optional
+
+from netrev.findings.evidence.index import MOVING, Index
+from netrev.findings.evidence.waiters import is_waiting
+from netrev.findings.evidence.words import is_of_go, told
+from netrev.findings.pools.balances import has_ended
+from netrev.recording.call import Call, Outcome
+from netrev.recording.recording import Recording
+from netrev.recording.waits import Name
+
+SETTLED = 16  # a relay would have closed the other socket within this many steps after the end of the stream
+
+
+class UnpassedEnd(NamedTuple):
+    """A relay's Read that reached the end of a stream, the relay's last Write, and the Read that hangs at the other end
+    of that Write's socket."""
+
+    met: Call
+    wrote: Call
+    waits: Call
+
+    def says(self, recording: Recording) -> list[str]:
+        """The sentences about the end of a stream that a relay didn't pass on."""
+        socket, reader = self.wrote.socket, told(recording, self.waits)
+        ended = " The goroutine has ended." if has_ended(recording, Name(self.met.goroutine)) else ""
+        return [
+            f"The end of a stream isn't passed on: {told(recording, self.met)} met it on socket {self.met.socket} in step {self.met.last}, and "
+            f"socket {socket}, to which that goroutine wrote, is never closed for writing.{ended}",
+            f"{reader} waits for it at the other end, socket {self.waits.socket}, since step {self.waits.first}.",
+        ]
+
+
+def unpassed_ends(index: Index) -> Iterator[UnpassedEnd]:
+    """The ends of streams that relays didn't pass on."""
+    for call in index.book.calls:
+        if call.outcome is not Outcome.EOF or call.name != "Read" or is_of_go(index.recording, call):
+            continue
+        wrote = last_write_of_relay(index, call)
+        if wrote is None or index.closing(wrote.socket, index.recording.length):
+            continue
+        if waits := reader_of(index, wrote.socket):
+            yield UnpassedEnd(call, wrote, waits)
+
+
+def last_write_of_relay(index: Index, met: Call) -> Optional[Call]:
+    """A relay's last Write, if it came after the relay's last Read that got something. The relay's Reads are all on one
+    socket, its Writes are all on another, and its last call is this Read. The result is None if the goroutine isn't
+    such a relay."""
+    calls = [one for one in index.by_goroutine[met.goroutine] if one.name in MOVING]
+    reads, writes = ([one for one in calls if one.name == name] for name in MOVING)
+    if not writes or calls[-1] is not met or len({one.socket for one in reads}) > 1 or not is_over(index, met):
+        return None
+    if len({one.socket for one in writes}) > 1 or writes[-1].socket == met.socket:
+        return None
+    got = [one for one in reads if one.moved]
+    return writes[-1] if not got or got[-1].first < writes[-1].first else None
+
+
+def is_over(index: Index, met: Call) -> bool:
+    """Whether a goroutine has had a chance to close the other socket: it has ended, or enough steps have passed
+    since."""
+    return index.recording.length - met.last >= SETTLED or has_ended(index.recording, Name(met.goroutine))
+
+
+def reader_of(index: Index, socket: int) -> Optional[Call]:
+    """The Read at the other end of a socket, if it waits at the end of the recording."""
+    other = index.other_end(socket)
+    calls = () if other is None else index.by_socket.get(other, ())
+    return next((one for one in calls if one.name == "Read" and not one.last and is_waiting(index, one)), None)

@@ -1,0 +1,67 @@
+"""Bytes that were written and that no goroutine reads: the socket that has them is open, and no Read on it is in
+progress."""
+
+from typing import Iterable, Iterator, NamedTuple
+
+from netrev.findings.evidence.index import Index
+from netrev.findings.evidence.sizes import are_known, moved_at
+from netrev.findings.evidence.words import is_of_go, told
+from netrev.recording.call import CLOSE, Call
+from netrev.recording.waits import Name
+from netrev.text.plurals import counted
+
+from .exchanges import is_cut
+
+
+class Unread(NamedTuple):
+    """The last Write of bytes that no goroutine reads, their number, and the socket that has them."""
+
+    wrote: Call
+    bytes: int
+    socket: int
+
+
+def unread(index: Index, position: int) -> Iterator[Unread]:
+    """The unread bytes at a position. The number of unread bytes is unknown if the recording counts fewer bytes than
+    the reads or writes moved."""
+    for socket, other in sorted(index.recording.lines.peers.items()):
+        count = moved_at(index, socket, "Write", position) - moved_at(index, other, "Read", position)
+        wrote = index.last_use(socket, position, ("Write",))
+        calls = [
+            one for one in (*index.by_socket.get(socket, ()), *index.by_socket.get(other, ())) if one.first <= position
+        ]
+        is_read = any(one.socket == other and one.name == "Read" and not 0 < one.last <= position for one in calls)
+        if count > 0 and wrote and not is_read and not any(one.name == CLOSE for one in calls):
+            if (
+                wrote.last
+                and not is_of_go(index.recording, wrote)
+                and (are_known(index) or not is_cut(index.recording, index, (socket, other)))
+            ):
+                yield Unread(wrote, count, other)
+
+
+def unread_says(index: Index, names: Iterable[Name], position: int) -> list[str]:
+    """Sentences about the first unread bytes that one of these goroutines wrote."""
+    every = set(names)
+    for found in unread(index, position):
+        if Name(found.wrote.goroutine) in every:
+            many, is_one = counted(found.bytes, "byte"), found.bytes == 1
+            return [
+                f"{many} of {told(index.recording, found.wrote)} {'is' if is_one else 'are'} unread: nobody reads on socket {found.socket}."
+            ]
+    return []
+
+
+def unread_answers(index: Index, call: Call, other: int, position: int) -> list[str]:
+    """Sentences about a Write that waits for room: its own goroutine hasn't read what was written at the other end."""
+    count = moved_at(index, other, "Write", position) - moved_at(index, call.socket, "Read", position)
+    wrote, calls = index.last_use(other, position, ("Write",)), index.by_socket.get(call.socket, ())
+    readers = {one.goroutine for one in calls if one.name == "Read"}
+    if count <= 0 or wrote is None or readers - {call.goroutine}:
+        return []
+    if not are_known(index) and is_cut(index.recording, index, (call.socket, other)):
+        return []
+    return [
+        f"{counted(count, 'byte')} of {told(index.recording, wrote)} {'is' if count == 1 else 'are'} unread on socket {call.socket}: goroutine "
+        f"{call.goroutine}, which reads there, writes on."
+    ]

@@ -1,0 +1,18 @@
+"""Close without evict: the goroutine that closed a socket hasn't evicted its descriptor, and has paused too long or
+held its reference too long."""
+
+# A pause or a hold is too long if it lasts more than twice as long as the longest of its kind that ended in this
+# recording.
+
+from typing import Iterator
+
+from netrev.findings.suspects.found import Suspect, Weight
+from netrev.findings.suspects.keeping import kept
+from netrev.findings.suspects.run import Run
+
+
+def rule(run: Run) -> Iterator[Suspect]:
+    for one in kept(run):
+        if one.is_unevicted(run):
+            how = f"and hasn't evicted its descriptor: {one.pause or one.age}"
+            yield one.suspect(run, how, (Weight.LIKELY, Weight.STRONG))

@@ -1,0 +1,28 @@
+"""Leaked reference: the goroutine that holds a reference is gone, has paused too long, or has held it too long.
+References that Go's own calls hold over a system call are left out."""
+
+# A pause or a hold is too long if it lasts more than twice as long as the longest of its kind that ended in this
+# recording.
+
+from typing import Iterator
+
+from netrev.findings.suspects.found import Suspect, Weight
+from netrev.findings.suspects.keeping import kept
+from netrev.findings.suspects.run import Run
+from netrev.findings.suspects.weighing import of_a_holder
+
+
+def rule(run: Run) -> Iterator[Suspect]:
+    for one in kept(run):
+        weights = (Weight.LIKELY, Weight.STRONG)
+        if one.is_gone:
+            weights, how = (Weight.STRONG, Weight.CERTAIN), "and is gone"
+        elif one.is_unevicted(run):
+            continue
+        elif one.pause:
+            how = f"and has done nothing since step {run.notes.goroutines[one.hold.goroutine].last}: {one.pause}"
+        elif one.age and not one.hold.side:
+            weights, how = (Weight.POSSIBLE, Weight.STRONG), f"and has gone on since: {one.age}"
+        else:
+            continue
+        yield of_a_holder(run, one.suspect(run, how, weights))

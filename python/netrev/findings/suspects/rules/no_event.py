@@ -1,0 +1,24 @@
+"""No event: a goroutine is parked for reading, bytes are unread or the peer has closed, and no event came since."""
+
+from typing import Iterator
+
+from netrev.findings.suspects.coming import waiting_for_what_came
+from netrev.findings.suspects.found import Evidence, Suspect, Weight
+from netrev.findings.suspects.run import Run
+
+JUST_NOW = 3  # bytes or a close that came within this many steps of the end may still get their event
+
+
+def rule(run: Run) -> Iterator[Suspect]:
+    for waits in waiting_for_what_came(run):
+        if waits.has_event or waits.has_stale_event(run):
+            continue
+        d, came, event = waits.use.descriptor, waits.came, waits.use.last_event("r")
+        last = f" (the last at step {event})" if event else ""
+        weight = Weight.LIKELY if run.end - came > JUST_NOW else Weight.SHOWN
+        says = [f"{waits.begins} since step {came}", f"no event came for descriptor {d} after it{last}"]
+        suspect = waits.suspect(run, came, weight, says)
+        cell = f"in {waits.use.socket}"
+        suspect.evidence.append(Evidence(run.end, cell, run.notes.now[cell]))
+        suspect.looks, suspect.steps = [f"goto {came}", f"history rg {d}"], [came, waits.since]
+        yield suspect

@@ -1,0 +1,22 @@
+"""Stale event: a goroutine is parked for reading, bytes are unread or the peer has closed, and an event came with an
+old tag."""
+
+from typing import Iterator
+
+from netrev.findings.suspects.coming import waiting_for_what_came
+from netrev.findings.suspects.found import Evidence, Suspect, Weight
+from netrev.findings.suspects.run import Run
+
+
+def rule(run: Run) -> Iterator[Suspect]:
+    for waits in waiting_for_what_came(run):
+        if not waits.has_stale_event(run):
+            continue
+        d, came = waits.use.descriptor, waits.came
+        step, tag = run.notes.stale[d]
+        own = run.notes.now[f"fdseq {d}"]
+        dropped = f"the event of step {step} was dropped: its tag is {tag}, and descriptor {d}'s is {own}"
+        suspect = waits.suspect(run, step, Weight.CERTAIN, [f"{waits.begins} since step {came}", dropped])
+        suspect.evidence.append(Evidence(run.end, f"fdseq {d}", own))
+        suspect.looks, suspect.steps = [f"goto {step}", f"history fdseq {d}"], [came, step]
+        yield suspect

@@ -1,0 +1,39 @@
+"""Two readers: a goroutine's Read had to wait for the lock of another goroutine's Read on the same connection, and both
+got bytes, so chance decides which goroutine gets which bytes. Listeners and datagram sockets are left out."""
+
+from typing import Iterator
+
+from netrev.findings.evidence.index import Index, went_well
+from netrev.findings.evidence.words import is_of_go, told
+from netrev.findings.suspects.found import Evidence, Suspect, Weight
+from netrev.findings.suspects.run import Run
+from netrev.recording.call import Call
+
+
+def rule(run: Run) -> Iterator[Suspect]:
+    index = run.calls  # (other ends and names show which sockets are streams)
+    for socket, calls in index.by_socket.items():
+        if index.other_end(socket) is None:
+            continue
+        reads = [one for one in calls if one.name == "Read" and went_well(one)]
+        for first, second in zip(reads, reads[1:]):
+            overlap = first.goroutine != second.goroutine and second.first < first.last
+            if overlap and not is_of_go(index.recording, first) and not is_of_go(index.recording, second):
+                yield suspect_of(index, first, second)
+
+
+def suspect_of(index: Index, first: Call, second: Call) -> Suspect:
+    says = [
+        f"perhaps: two goroutines read socket {first.socket} at once, and each got bytes",
+        f"{told(index.recording, first)}, {first.steps()}",
+        f"{told(index.recording, second)}, {second.steps()}",
+    ]
+    return Suspect(
+        second.first,
+        Weight.SHOWN,
+        says,
+        socket=first.socket,
+        evidence=[Evidence(second.first, f"lock {first.socket}")],
+        looks=[f"goto {second.first}", f"calls sock {first.socket}"],
+        steps=[first.first, second.first],
+    )

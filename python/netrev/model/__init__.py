@@ -1,0 +1,1 @@
+"""The model of netrev's program, over the machine of `netrev.machine`."""

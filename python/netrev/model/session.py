@@ -1,0 +1,83 @@
+"""A model of a session of `netrev run`: the debugger of debugger.py over the states of the machine."""
+
+from typing import Optional, Sequence
+
+from netrev.machine.cells import look
+from netrev.machine.debugger import FULL, Recording, Reply, State, is_command, read_line
+from netrev.machine.machine import World
+from netrev.machine.observer import Observer
+from netrev.text.contents import Step
+
+ROOM = 65_536
+
+
+class Looked:
+    """The results of one query, by position."""
+
+    def __init__(self, worlds: Sequence[World], asked: str) -> None:
+        self.worlds = worlds
+        self.asked = asked
+
+    def __getitem__(self, position: int) -> str:
+        return look(self.worlds[position], self.asked)
+
+
+class Shown(dict[str, Looked]):
+    """The results of each query, by the query's line."""
+
+    def __init__(self, worlds: Sequence[World]) -> None:
+        super().__init__()
+        self.worlds = worlds
+
+    def __missing__(self, asked: str) -> Looked:
+        self[asked] = Looked(self.worlds, asked)
+        return self[asked]
+
+
+def recording_of(steps: Sequence[Step], worlds: Sequence[World]) -> Recording:
+    """The debugger's data for a recording with these steps, whose positions have these states."""
+    return Recording(None, tuple(step[0] for step in steps), Shown(worlds))
+
+
+class Session:
+    """Answers lines one after another."""
+
+    def __init__(self, recording: Recording, observer: Observer) -> None:
+        self.recording = recording
+        self.state, self.placed, self.has_ended = State(), 0, False
+        self._observer = observer
+
+    def answer(self, line: bytes) -> Optional[Reply]:
+        """The reply to a line; None for a blank line."""
+        asked = read_line(line)
+        if asked is None:
+            return None
+        reply: Reply = (FULL,)
+        if not is_command(asked) or self.placed < ROOM:
+            self.placed += is_command(asked)
+            self.state, reply = self.recording.answer(self.state, asked)
+        self._observer.asked(asked, reply)
+        self.has_ended = asked.sort == "quit"
+        return reply
+
+    def close(self) -> None:
+        """Drops the caches."""
+        Recording.hits_of.cache_clear()
+        Recording.nearest.cache_clear()
+
+
+def lines_of(script: bytes) -> list[bytes]:
+    """The lines of a script without their newlines; the last line may lack one."""
+    lines = script.split(b"\n")
+    return lines if lines[-1] else lines[:-1]
+
+
+def replies_to(session: Session, script: bytes) -> list[str]:
+    """The lines that `netrev run` prints for this script."""
+    replies: list[str] = []
+    for line in lines_of(script):
+        replies += session.answer(line) or ()
+        if session.has_ended:
+            break
+    session.close()
+    return replies

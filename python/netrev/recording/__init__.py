@@ -1,0 +1,1 @@
+"""A recording, the file of source lines beside it, and what netrev prints about it."""

@@ -1,0 +1,59 @@
+"""The commands `reduce` and `report`."""
+
+from pathlib import Path
+
+from netrev.findings.suspects.ranking import suspects_of
+from netrev.messages import searches as messages
+from netrev.recording.recording import Recording
+from netrev.session.files import written
+from netrev.session.session import Misused, Session
+
+from .hang_report import Story, hang_report, story_of
+from .reduced import reduced, wanted_by
+from .report import report_of
+
+USAGE = "reduce OUT.jsonl [N | CELL VALUE]"
+
+
+def reduced_file(session: Session, words: list[str]) -> str:
+    """Writes the reduced recording to the file that the first word names, and returns the lines about the file."""
+    if not words or not words[0].endswith(".jsonl"):
+        raise Misused(messages.REDUCE.format(usage=USAGE))
+    made = reduced(session, words[0], wanted_by(session, words[1:]))
+    said = made.words(session.text().length)
+    found = [suspect for suspect in suspects_of(Recording.read(made.path)).suspects if suspect.is_shown]
+    return "\n".join([said, *(f"{one.rule}: {one.sentence()}" for one in found[:1])])
+
+
+def answer_reduce(session: Session, words: list[str]) -> None:
+    session.printer.note(reduced_file(session, words))
+
+
+def answer_report(session: Session, words: list[str]) -> None:
+    if not words or not words[0].endswith(".md"):
+        raise Misused(messages.REPORT)
+    story = None if words[1:] or has_suspects(session) else story_of(session)
+    if story:
+        return report_hang(session, words[0], story)
+    wanted = wanted_by(session, words[1:])
+    made = reduced(session, str(Path(words[0]).with_suffix(".jsonl")), wanted)
+    text, picture = report_of(session, wanted, made)
+    drawn = str(Path(words[0]).with_suffix(".svg"))
+    written(drawn, session.path, picture.encode())
+    written(words[0], session.path, text.encode())
+    session.printer.note(f"{words[0]} with {Path(drawn).name}, and {made.words(session.text().length)}")
+
+
+def has_suspects(session: Session) -> bool:
+    """Whether a rule about cells found the suspect, so that the recording can be reduced to it."""
+    return any(suspect.is_shown for suspect in suspects_of(session.text()).suspects)
+
+
+def report_hang(session: Session, name: str, story: Story) -> None:
+    """Writes the report of a hang or a failed call."""
+    drawn = Path(name).with_suffix(".svg")
+    text, picture = hang_report(session, story, drawn)
+    if picture:
+        written(str(drawn), session.path, picture.encode())
+    written(name, session.path, text.encode())
+    session.printer.note(f"{name}{f' with {drawn.name}' if picture else ''}: {story.says[0]}")

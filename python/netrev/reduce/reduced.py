@@ -1,0 +1,139 @@
+"""Reduces the recording of a session to the steps that still show a target, and reports what was removed."""
+
+from collections import Counter
+from fnmatch import fnmatchcase
+from typing import Callable, NamedTuple, Optional
+
+from netrev.findings.suspects.ranking import suspects_of
+from netrev.messages import searches as messages
+from netrev.recording.recording import Recording
+from netrev.session.files import spare
+from netrev.session.session import Misused, Session
+from netrev.text.contents import Limits
+from netrev.text.vocabulary import cell_of, number_of
+
+from .events import Events
+from .replay import Player
+from .shrinking import NotReproduced, Shrinking
+from .targets import CellTarget, HangTarget, StepsTarget, SuspectTarget, Target
+from .units import Sort, units_of
+from .writing import answered_by, taken, write_recording
+
+
+class Wanted(NamedTuple):
+    """The target of a reduction: the suspect with this number, a cell with a value at a step, a goroutine that hangs,
+    or only the steps in `behind`. These steps must also stay if a goroutine hangs."""
+
+    suspect: int
+    cell: str
+    value: str
+    until: int
+    hangs: int = -1
+    behind: tuple[int, ...] = ()
+
+
+class Reduced(NamedTuple):
+    """A reduced recording: the numbers that its steps had in the original, the number of removed units of each kind,
+    and whether the reduction ran to its end."""
+
+    path: str
+    numbers: list[int]
+    left_out: Counter[Sort]
+    is_done: bool
+
+    def words(self, steps: int) -> str:
+        """The size of the result, and what the reduction removed, as text."""
+        said = [f"{self.left_out[sort]} {sort.value[self.left_out[sort] != 1]}" for sort in Sort if self.left_out[sort]]
+        left = f"left out {', '.join(said)}" if said else "nothing could be left out"
+        more = "" if self.is_done else "; stopped early, so reduce what is left once more"
+        return f"{self.path}: {len(self.numbers)} of {steps} steps, accepted by netrev; {left}{more}"
+
+
+class Reducing(NamedTuple):
+    """The input of a reduction: a recording and its file, netrev's program, and the check for Ctrl-C."""
+
+    recording: Recording
+    path: str
+    program: str
+    check: Callable[[], None]
+
+
+def reduced(session: Session, path: str, wanted: Wanted) -> Reduced:
+    """Writes the reduced recording to the path, with its NAME.where; raises Misused if a replay of the recording
+    doesn't show the target."""
+    spare(path, session.path)
+    return reduced_of(Reducing(session.text(), session.path, session.program, session.interrupts.check), path, wanted)
+
+
+def reduced_of(reducing: Reducing, path: str, wanted: Wanted) -> Reduced:
+    """Writes the reduced form of any recording to the path, as `reduced` does for a session's recording."""
+    recording, of, program, check = reducing
+    answered = answered_recording(program, recording, wanted.until)
+    events = Events(answered)
+    units = units_of(events)
+    limits = Limits(*(answered.limits[key] for key in Limits._fields))
+    player = Player(events, units, limits, check)
+    shrinking = Shrinking(player, events, units, _target(events, answered, wanted))
+    try:
+        kept = shrinking.run()
+    except NotReproduced:
+        raise Misused(messages.NOT_SHOWN) from None
+    data = taken(program, player, recording.has_answers)
+    numbers = [events.all[place].number for place in player.chosen]
+    write_recording(path, of, data, recording.lines, numbers)
+    left_out = Counter(unit.sort for at, unit in enumerate(units) if at not in kept)
+    return Reduced(path, numbers, left_out, not shrinking.is_done)
+
+
+def answered_recording(program: str, recording: Recording, until: int) -> Recording:
+    """The recording's steps up to `until`, with netrev's answers."""
+    status, text = answered_by(program, "upgrade", recording.data)
+    if status:
+        raise Misused(messages.REFUSED.format(fault=text.decode("utf-8", "replace").strip()))
+    return Recording(b"".join(text.splitlines(keepends=True)[: until + 1]))
+
+
+def _target(events: Events, recording: Recording, wanted: Wanted) -> Target:
+    if wanted.hangs >= 0:
+        return HangTarget(events, wanted.hangs, wanted.behind, wanted.until)
+    if wanted.behind:
+        return StepsTarget(events, wanted.behind)
+    if wanted.cell:
+        return CellTarget(events, wanted.cell, wanted.value, wanted.until)
+    found = [suspect for suspect in suspects_of(recording).suspects if suspect.is_shown]
+    if not found:
+        raise Misused(messages.NO_SUSPECTS)
+    if not 0 < wanted.suspect <= len(found):
+        raise Misused(messages.SUSPECT_NUMBERS.format(count=len(found)))
+    return SuspectTarget(events, found[wanted.suspect - 1], wanted.suspect)
+
+
+def wanted_by(session: Session, words: list[str]) -> Wanted:
+    """The target that the words after the file name describe."""
+    length = session.text().length
+    if not words:
+        return Wanted(1, "", "", length)
+    if (number := number_of(" ".join(words))) is not None:
+        return Wanted(number, "", "", length)
+    cell = cell_of(words[:2]) or cell_of(words[:1])
+    value = " ".join(words[2 if cell_of(words[:2]) else 1 :])
+    if cell is None or not value:
+        raise Misused(messages.AFTER_FILE)
+    return Wanted(0, cell, value, _last_with(session, cell, value))
+
+
+def _last_with(session: Session, cell: str, value: str) -> int:
+    """The session's position, if the cell has this value there, else the last position at which it has the value. A
+    missing object has no value."""
+    changes, length = session.changes(), session.text().length
+
+    def is_wanted(shown: str) -> bool:
+        return shown != "absent" and (fnmatchcase(shown, value) or fnmatchcase(session.words_of(cell, shown), value))
+
+    for position in (session.stands().position, length):
+        if is_wanted(changes.value(cell, position)):
+            return position
+    found: Optional[int] = changes.nearest([cell], lambda values: is_wanted(values[0]), length, True)
+    if found is None:
+        raise Misused(messages.NO_STEP_GIVES.format(cell=cell, value=value))
+    return found

@@ -1,0 +1,156 @@
+"""Replays some of a recording's units with the Python model of the machine. The objects of the steps get new numbers.
+If a step of a unit doesn't apply or has a different answer, the unit is removed too."""
+
+from bisect import bisect_left
+from typing import Any, Callable, Iterable, Optional
+
+from netrev.machine.machine import Refused, World
+from netrev.machine.steps import apply
+from netrev.text.contents import Answer, Limits
+from netrev.text.vocabulary import KINDS
+
+from .events import NUMBERED, Event, Events, Timer
+from .units import Needs, Unit
+
+MADE = {"spawn": "g", "sockopen": "s", "pollopen": "d"}
+COPIES = 2_000  # the maximum number of copies of the world that are kept for going back
+DONE = ("done",)
+
+Step = tuple[Any, ...]
+
+
+class Player:
+    """The Python model of the machine after some of the events. The player keeps the last replay, so that the next
+    replay can continue after their common beginning."""
+
+    def __init__(self, events: Events, units: list[Unit], limits: Limits, check: Callable[[], None]) -> None:
+        self.events, self.units, self.limits, self.check = events, units, limits, check
+        self.needs = Needs(events, units)
+        self.owner = {place: at for at, unit in enumerate(units) for place in unit.events}
+        self.played = 0  # the number of all steps replayed so far
+        self.chosen: list[int] = []  # the events that were replayed
+        self.steps: list[tuple[Step, Answer]] = []
+        self.numbers: dict[str, dict[int, int]] = {"g": {0: 0}, "s": {}, "d": {}}
+        self.firings: list[Timer] = []
+        self._next = {"g": 1, "s": 0, "d": 0}
+        self._identity = self._identities()
+        self._every = 1
+        self._copies: list[tuple[World, list[Timer]]] = []
+        self.world = World(limits)
+
+    def _identities(self) -> dict[int, int]:
+        """For each event that makes a goroutine, a socket or a use, the object's number."""
+        counts = {"spawn": 1, "sockopen": 0, "pollopen": 0}
+        found = {}
+        for place, event in enumerate(self.events.all):
+            if event.kind in counts:
+                found[place] = counts[event.kind]
+                counts[event.kind] += 1
+        return found
+
+    def settle(self, kept: Iterable[int]) -> set[int]:
+        """Replays these units, drops the units that no longer apply, and returns the replayed units."""
+        left = set(kept)
+        wanted = sorted(place for unit in left for place in self.units[unit].events)
+        at = self._common(wanted)
+        self._rewind(at)
+        if not self.chosen:
+            self._every = max(1, len(wanted) // COPIES)
+        while at < len(wanted):
+            place = wanted[at]
+            if self.owner[place] not in left:
+                at += 1
+            elif self._step(place):
+                at += 1
+            else:
+                gone = self.needs.with_needing([self.owner[place]]) & left
+                left -= gone
+                first = min(self.units[unit].events[0] for unit in gone)
+                if first < place:
+                    self._rewind(bisect_left(self.chosen, first))
+                    at = bisect_left(wanted, self.chosen[-1]) + 1 if self.chosen else 0
+        return left
+
+    def _common(self, wanted: list[int]) -> int:
+        """The number of events at the start of this replay that are the same as in the last replay."""
+        at = 0
+        for one, other in zip(self.chosen, wanted):
+            if one != other:
+                break
+            at += 1
+        return at
+
+    def _rewind(self, to: int) -> None:
+        """Goes back to the state after this number of events."""
+        if to >= len(self.chosen):
+            return
+        again = to - to % self._every
+        replayed = self.chosen[again:to]
+        for place in self.chosen[again:]:
+            if place in self._identity:
+                del self.numbers[MADE[self.events.all[place].kind]][self._identity[place]]
+        del self.chosen[again:], self.steps[again:]
+        self.world, firings = self._copies[again // self._every]
+        self.firings = list(firings)
+        del self._copies[again // self._every :]
+        for place in replayed:
+            self._step(place)
+
+    def _step(self, place: int) -> bool:
+        """Replays an event. Returns False if the event doesn't apply or has a different answer."""
+        event = self.events.all[place]
+        step = self._renumbered(event)
+        if step is None:
+            return False
+        try:
+            world, answer = apply(self.world, step)
+        except Refused:
+            return False
+        if event.kind not in NUMBERED and answer != event.answer:
+            return False
+        if len(self.chosen) % self._every == 0:
+            self._copies.append((self.world, list(self.firings)))
+        self.played += 1
+        if self.played % 1_000 == 0:
+            self.check()
+        if event.kind in NUMBERED:
+            self.numbers[MADE[event.kind]][self._identity[place]] = answer[1]
+        elif event.kind == "pop":
+            assert event.timer
+            self.firings.append(event.timer)
+        elif event.kind == "fire":
+            self.firings.pop(step[1])
+        self.world = world
+        self.chosen.append(place)
+        self.steps.append((step, answer))
+        return True
+
+    def _renumbered(self, event: Event) -> Optional[Step]:
+        """The step of an event with the new numbers of its objects; None if an object doesn't exist."""
+        if event.kind == "pop":
+            return ("pop",) if self._is_next(event) else None
+        if event.kind == "fire":
+            return ("fire", self.firings.index(event.timer)) if event.timer in self.firings else None
+        step: list[Any] = [event.kind]
+        for form, value in zip(KINDS[event.kind].arguments, event.arguments):
+            if form in self.numbers:
+                value = self.numbers[form].get(value)
+                if value is None:
+                    return None
+            step.append(value)
+        if event.kind == "pollevent":
+            step[2] = self._tag(event, step[1])
+        return tuple(step)
+
+    def _is_next(self, event: Event) -> bool:
+        """Whether the first timer in the machine is the timer of the event."""
+        assert event.timer
+        first = self.world.timers[0] if self.world.timers else None
+        return first is not None and (self.numbers["d"].get(event.timer[0]), event.timer[1]) == (first.desc, first.side)
+
+    def _tag(self, event: Event, descriptor: int) -> int:
+        """The tag of an event. If the descriptor exists, the tag differs from the descriptor's own tag by as much as in
+        the recording."""
+        own = self.world.descs[descriptor].fdseq
+        tag = own - event.behind
+        return tag if tag >= 0 else event.arguments[1] if event.arguments[1] != own else own + 1

@@ -1,0 +1,125 @@
+"""A report in Markdown: the target, netrev's answers, and the steps of the reduced recording side by side."""
+
+import re
+import shlex
+from pathlib import Path
+from typing import Optional
+from urllib.parse import quote
+
+from netrev.connection.netrev import Own
+from netrev.connection.output import Table
+from netrev.connection.scout import Scout
+from netrev.findings.suspects.table import suspects_table
+from netrev.recording.answers import answer_text
+from netrev.recording.recording import Recording, Step
+from netrev.session.session import Session
+from netrev.system.command_lines import file_word
+from netrev.text.plain import plain
+from netrev.text.vocabulary import OF_A_GOROUTINE
+from netrev.timeline.calls import Data
+from netrev.timeline.drawing import drawing
+from netrev.timeline.sequence import sequence
+from netrev.timeline.stories import suspects_data
+
+from .reduced import Reduced, Wanted
+from .writing import answered_by
+
+MEANS = re.compile(r"([\\`*_{}\[\]<>|#&~])")  # characters that have a meaning in Markdown
+MOST_COLUMNS = 6
+
+
+def shown(text: str) -> str:
+    """Text from outside, escaped for Markdown."""
+    return MEANS.sub(r"\\\1", plain(text))
+
+
+def shell_words(*words: str) -> str:
+    """A command line that the report's reader can type."""
+    return plain(shlex.join(words))
+
+
+def code(text: str) -> str:
+    """Text as a span of code. The span's delimiters have more backticks than any run of backticks in the text."""
+    fence = "`" * (1 + max(map(len, re.findall("`+", text)), default=0))
+    return f"{fence}{plain(text)}{fence}" if len(fence) == 1 else f"{fence} {plain(text)} {fence}"
+
+
+def report_of(session: Session, wanted: Wanted, reduced: Reduced) -> tuple[str, str]:
+    """The report of a reduced recording, and its picture."""
+    recording = Recording.read(reduced.path)
+    file = file_word(Path(reduced.path).name)
+    name = shown(file)
+    scout = Scout(lambda: Own(session.program, reduced.path, session.interrupts))
+    try:
+        table = suspects_table(scout, recording)
+        parts = _of_cell(scout, recording, wanted) if wanted.cell else _of_suspect(session, table, wanted)
+        story = None if wanted.cell else next(suspects_data(scout, recording), None)
+    finally:
+        scout.drop()
+    _, checked = answered_by(session.program, "check", recording.data)
+    parts += [
+        f"![The calls of {name}, with the steps of the story numbered]({quote(Path(reduced.path).with_suffix('.svg').name)})",
+        "## The steps",
+        f"{recording.length} of the {session.text().length} steps of {shown(Path(session.path).name)}, in {name}: each "
+        f"goroutine in its column, the network and the clock in the last. {code(shell_words('netrev', 'check', file))} prints "
+        f"{code(checked.decode('utf-8', 'replace').strip())}, so this is a run of the machine. What netrev answers is proved; that "
+        "this is a bug, and the lines of the program, are not.",
+        "\n".join(_steps(recording, reduced)),
+        *_diagram(recording, story),
+        "## To look",
+        f"    {shell_words('nrdb', file, '-ex', 'info suspects', '-ex', 'continue', '-ex', 'info goroutines')}",
+    ]
+    return "\n\n".join(parts) + "\n", drawing(recording, story)
+
+
+def _diagram(recording: Recording, story: Optional[Data]) -> list[str]:
+    """The steps as a diagram, unless the recording has too many steps."""
+    told = sequence(recording, story)
+    return [f"```mermaid\n{told}\n```"] if told else []
+
+
+def _of_cell(scout: Scout, recording: Recording, wanted: Wanted) -> list[str]:
+    """The head of a report about a cell."""
+    return [
+        f"# {wanted.cell} has the value {shown(wanted.value)}",
+        f"So it has at the end of {recording.length} steps.",
+    ]
+
+
+def _of_suspect(session: Session, table: Table, wanted: Wanted) -> list[str]:
+    """The head of a report about a suspect."""
+    before = suspects_table(session.looks(), session.text()).rows
+    whole = [row.values for row in before if row.values][wanted.suspect - 1]
+    here = next(row.values for row in table.rows if row.values and row.values["rule"] == whole["rule"])
+    parts = [f"# {here['rule']}", shown(f"{here['says'][:1].upper()}{here['says'][1:]}.")]
+    parts.append("\n".join(f"- netrev: `{one}`" for one in here["netrev"]))
+    if here["lines"]:
+        parts.append("\n".join(f"- {shown(one)}" for one in here["lines"]))
+    parts.append(f"In the whole recording: {shown(whole['says'])}.")
+    return parts
+
+
+def _steps(recording: Recording, reduced: Reduced) -> list[str]:
+    """The table rows of the steps."""
+    steps = [recording.step(number) for number in range(1, recording.length + 1)]
+    who = sorted({g for step in steps if (g := step.argument("g")) is not None})
+    is_wide = len(who) <= MOST_COLUMNS
+    columns = [*(f"goroutine {g}" for g in who), "others"] if is_wide else ["step"]
+    heads = ["", "was", *columns, *(["line"] if recording.lines else [])]
+    rows = [f"| {' | '.join(heads)} |", f"|{'--:|--:|' + '---|' * (len(heads) - 2)}"]
+    for step, was in zip(steps, reduced.numbers):
+        at = who.index(step.argument("g")) if step.argument("g") in who else len(who)
+        cells = [
+            f"`{_told(step, is_wide)}`" if column == (at if is_wide else 0) else "" for column in range(len(columns))
+        ]
+        line = [shown(recording.lines.words(step.number))] if recording.lines else []
+        rows.append(f"| {' | '.join([str(step.number), str(was), *cells, *line])} |")
+    return rows
+
+
+def _told(step: Step, is_wide: bool) -> str:
+    """A step with its answer. The goroutine is left out if it has a column of its own."""
+    words = str(step).split()
+    if is_wide and step.kind in OF_A_GOROUTINE:
+        del words[1]
+    return " ".join(words) + (f" = {answer_text(step.answer)}" if step.answer not in (None, "done") else "")

@@ -1,0 +1,96 @@
+"""Writes a reduced recording that netrev accepts, with a NAME.where if the original has one."""
+
+import json
+import os
+import subprocess
+import tempfile
+from pathlib import Path
+from typing import Any, Sequence
+
+from netrev.machine.machine import World
+from netrev.messages import searches as messages
+from netrev.recording.where import Call, Lines, Stack
+from netrev.session.files import spare, written
+from netrev.session.session import Misused
+from netrev.text.contents import Answer, Limits, Step
+from netrev.text.files import forget_where
+from netrev.text.writing import line_of
+
+from .replay import Player
+
+
+def answered_by(program: str, command: str, data: bytes) -> tuple[int, bytes]:
+    """The exit status and the output of `netrev COMMAND` on a file with these data."""
+    handle, path = tempfile.mkstemp(suffix=".jsonl")
+    try:
+        with open(handle, "wb") as file:
+            file.write(data)
+        ended = subprocess.run([program, command, path], capture_output=True, check=False, start_new_session=True)
+        return ended.returncode, ended.stdout
+    finally:
+        os.unlink(path)
+
+
+def taken(program: str, player: Player, has_answers: bool) -> bytes:
+    """The text of the replayed steps, in the form that netrev accepts. If the recording has answers, the text has
+    netrev's own answers."""
+    text = text_of(player.world, player.limits.buf, player.steps, has_answers)
+    status, said = answered_by(program, "upgrade" if has_answers else "check", text)
+    if status:
+        fault = said.decode("utf-8", "replace").strip()
+        raise Misused(messages.REDUCED_REFUSED.format(fault=fault))
+    return said if has_answers else text
+
+
+def text_of(world: World, buf: int, steps: Sequence[tuple[Step, Answer]], has_answers: bool) -> bytes:
+    """The text of the steps that led to this state, with the limits that the steps need."""
+    gor, sock, desc = (max(len(made), 1) for made in (world.goroutines, world.sockets, world.descs))
+    limits = Limits(gor, sock, desc, buf)
+    header = {"netrev": 2 if has_answers or _needs_answers(steps) else 1, **limits._asdict()}
+    lines = [json.dumps(header, separators=(",", ":"))]
+    lines += [line_of(step, answer if header["netrev"] == 2 else None) for step, answer in steps]
+    return "".join(f"{line}\n" for line in lines).encode()
+
+
+def _needs_answers(steps: Sequence[tuple[Step, Answer]]) -> bool:
+    """Whether one of these steps can only be in a recording of version 2."""
+    return any(step[0] == "closewrite" for step, _ in steps)
+
+
+def where_text(lines: Lines, numbers: Sequence[int]) -> str:
+    """NAME.where for these steps, which are renumbered from 1."""
+    calls: dict[Call, int] = {}
+    stacks: dict[Stack, int] = {}
+    told: list[dict[str, Any]] = [{"where": 1, "steps": len(numbers)}]
+    of_steps = []
+    for number in numbers:
+        stack = lines.of(number)
+        if not stack.calls and not stack.made:
+            of_steps.append(0)
+            continue
+        if stack not in stacks:
+            for call in (*stack.calls, *([stack.made] if stack.made else [])):
+                if call not in calls:
+                    calls[call] = len(calls) + 1
+                    told.append({"call": calls[call], **call._asdict()})
+            stacks[stack] = len(stacks) + 1
+            made = {"made": calls[stack.made]} if stack.made else {}
+            told.append({"stack": stacks[stack], "calls": [calls[call] for call in stack.calls], **made})
+        of_steps.append(stacks[stack])
+    told.append({"step": 1, "stacks": of_steps})
+    if lines.times:
+        times = [lines.times[number - 1] for number in numbers]
+        told.append({"times": [after - before for before, after in zip([0, *times], times)]})
+    return "".join(f"{json.dumps(one, separators=(',', ':'))}\n" for one in told)
+
+
+def write_recording(path: str, of: str, data: bytes, lines: Lines, numbers: Sequence[int]) -> None:
+    """Writes these steps of the recording `of` as a recording, with its NAME.where. An existing NAME.where is removed,
+    because it belongs to another recording."""
+    beside = Path(path).with_suffix(".where")
+    spare(str(beside), of)
+    written(path, of, data)
+    if lines:
+        written(str(beside), of, where_text(lines, numbers).encode())
+    else:
+        forget_where(beside)

@@ -1,0 +1,1 @@
+"""What happened in a recording: its notes, Go's calls, its timers, and the owners of its steps."""

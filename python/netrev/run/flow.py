@@ -1,0 +1,122 @@
+"""Go's control flow for a socket (internal/poll, runtime/netpoll): the next step of a goroutine, given its status and its operation, and
+what follows each answer. A call is a list of operations; `Read` locks, resets, reads and unlocks."""
+
+from enum import Enum, auto
+from typing import Any, NamedTuple, Optional
+
+from netrev.machine.machine import Status
+from netrev.text.contents import Answer, Step
+from netrev.text.vocabulary import KINDS
+
+
+class Sort(Enum):
+    """The type of an operation, named by the kind of its first step. A read, a write and a wait repeat until they are
+    done."""
+
+    MAKE = "sockopen"
+    OPEN = "pollopen"
+    LOCK = "rwlock"
+    UNLOCK = "rwunlock"
+    RESET = "pollreset"
+    WAIT = "waitbegin"
+    READ = "sysread"
+    WRITE = "syswrite"
+    REFER = "incref"
+    GIVE_UP = "decref"
+    CLOSE = "increfclose"
+    EVICT = "evict"
+    DESTROY = "pollclose"
+    SET = "setdeadline"
+    SHUT = "closewrite"
+    EXIT = "exit"
+
+
+SORTS = {sort.value: sort for sort in Sort}  # by the kind of the first step
+ENDS = {Sort.UNLOCK: (Sort.LOCK,), Sort.GIVE_UP: (Sort.REFER, Sort.CLOSE)}  # for each key, the operations that it ends
+# the operations between the first and the last of a call; they are skipped if an earlier operation failed
+TRIES = (Sort.RESET, Sort.WAIT, Sort.READ, Sort.WRITE)
+
+# the step that a goroutine with this status makes, whatever its operation; a sleeping goroutine makes no step
+BY_STATUS = {
+    "acquiring": "acquire",
+    "relock": "rwlock",
+    "owing": "release",
+    "entering": "blockarm",
+    "armed": "blockcheck",
+    "parking": "parkcommit",
+    "swapping": "blockswap",
+    "checking": "waitcheck",
+}
+ASLEEP = ("parked", "queued")
+
+
+class Names(NamedTuple):
+    """The objects that the first step of an operation names: a goroutine, a socket or a descriptor, and a side or a mode."""
+
+    goroutine: bool
+    of: str
+    side: bool
+
+
+def _names(sort: Sort) -> Names:
+    forms = KINDS[sort.value].arguments
+    return Names("g" in forms, next((form for form in forms if form in "sd"), ""), "side" in forms or "mode" in forms)
+
+
+NAMES = {sort: _names(sort) for sort in Sort}
+
+
+def step_by_status(g: int, status: Status) -> Optional[Step]:
+    """The next step of a goroutine by its status; None if it is idle, has ended or sleeps."""
+    if status[0] not in BY_STATUS:
+        return None
+    kind = BY_STATUS[status[0]]
+    return (kind, g, *status[1:]) if kind in SORTS else (kind, g)
+
+
+def first_step(sort: Sort, g: int, which: int, side: str, values: tuple[Any, ...]) -> Step:
+    """The step with which an operation begins or tries again; if the operation names a socket or a descriptor, the step
+    is at that object."""
+    names = NAMES[sort]
+    named = (*((g,) if names.goroutine else ()), *((which,) if names.of else ()), *((side,) if names.side else ()))
+    return sort.value, *named, *values
+
+
+class Came(Enum):
+    """The consequence of an answer."""
+
+    # the operation, or a part of it, is over; it continues if something is left to read, write or release
+    OVER = auto()
+    STAYS = auto()  # the status determines the next step
+    WAITS = auto()  # it waits first
+    READY = auto()  # the wait is over
+    FAILS = auto()
+
+
+LAST = ("last",)  # the goroutine gave up the last reference to the closed descriptor and must destroy it
+CODES = {"code 0": Came.OVER, "code": Came.FAILS}
+STAYS = {"yes": Came.STAYS, "no": Came.STAYS, "wait": Came.STAYS}
+# the consequence, by the kind of a step and its answer (`code` is any code but 0), if the operation isn't over
+ANSWERS = {
+    "incref": {"no": Came.FAILS},
+    "increfclose": {"no": Came.FAILS},
+    "rwlock": {"no": Came.FAILS, "wait": Came.STAYS},
+    "acquire": STAYS,
+    "pollreset": CODES,
+    "waitbegin": CODES | {"code 0": Came.WAITS},
+    "blockarm": STAYS | {"code 0": Came.READY},
+    "blockcheck": {"code 0": Came.STAYS, "code": Came.STAYS},
+    "parkcommit": STAYS,
+    "blockswap": STAYS | {"yes": Came.READY},
+    "waitcheck": CODES | {"code 0": Came.STAYS},
+    "sysread": {"again": Came.WAITS, "eof": Came.FAILS},
+    "syswrite": {"again": Came.WAITS, "pipe": Came.FAILS},
+}
+
+
+def came(kind: str, answer: Answer) -> Came:
+    """The consequence of an answer to a step of this kind."""
+    row = ANSWERS.get(kind)
+    if row is None:
+        return Came.OVER
+    return row.get("code 0" if answer == ("code", 0) else answer[0], Came.OVER)

@@ -1,0 +1,50 @@
+"""The changes made by a recording's steps, for schedules of `explore` and candidates of `reduce`. They are computed
+without netrev, by the Python model of the machine, in the form of `netrev changes`."""
+
+from typing import Any, Callable, Iterable, Iterator, Optional
+
+from netrev.machine.in_place import Machine
+from netrev.model.changes import lines_of
+from netrev.recording.changes import RecordedChanges
+from netrev.recording.recording import Recording, Row
+from netrev.text.contents import Limits, Step
+from netrev.text.vocabulary import KINDS, MOST
+
+WIDE = Limits(MOST, MOST, MOST, MOST)  # (the steps were made within the limits)
+OF_BYTES = frozenset(kind for kind, row in KINDS.items() if "bytes" in row.arguments)
+
+
+class PlayedSteps(Recording):
+    """Steps of the model, as the rules need them."""
+
+    def __init__(self, steps: Iterable[Step]) -> None:
+        super().__init__(b"")
+        self._steps = list(steps)
+
+    @property
+    def has_answers(self) -> bool:
+        return False
+
+    def rows(self, made: Callable[[list[Any]], Row], begin: int = 1, end: Optional[int] = None) -> Iterator[Row]:
+        steps = self._steps[begin - 1 : end]
+        return (made([part.hex() if isinstance(part, bytes) else part for part in step]) for step in steps)
+
+
+def changes_of(recording: Recording) -> RecordedChanges:
+    """The changes of a recording's steps, from netrev if it is available, else from the model."""
+    if recording.changes is None:
+        recording.changes = RecordedChanges.read(["\n".join((*_lines(recording), "")).encode()])
+    return recording.changes
+
+
+def _lines(recording: Recording) -> Iterator[str]:
+    """The lines that netrev would print."""
+    machine, number = Machine(WIDE), 0
+    for number, (kind, *arguments) in enumerate(recording.arrays(), 1):
+        if recording.has_answers:
+            arguments.pop()
+        if kind in OF_BYTES:
+            arguments[-1] = bytes.fromhex(arguments[-1])
+        machine.step((kind, *arguments))
+        yield from lines_of(machine, number)
+    yield f"ok {number} steps"

@@ -1,0 +1,1 @@
+"""A session, which sends lines to netrev or answers them itself, and explains faults."""

@@ -1,0 +1,95 @@
+"""Writes the page: its data, its style and its script in one file."""
+
+import json
+import sys
+from pathlib import Path
+from typing import Any, Optional
+
+from netrev.messages import searches as messages
+from netrev.session.files import writing
+from netrev.session.session import Misused, Session
+from netrev.system.long_passes import take_all_as_kept, without_collections
+from netrev.text.plain import plain
+
+from .calls import Data
+from .cell_runs import Window
+from .picture import MOST, Shown, collected
+
+PAGE = Path(__file__).parents[1] / "page"
+of_json = json.JSONEncoder(separators=(",", ":")).encode
+NUMBERS = frozenset((int, float, bool, type(None)))
+SCRIPTS = (
+    "data",
+    "calls",
+    "waits",
+    "rows",
+    "axis",
+    "view",
+    "finding",
+    "draw",
+    "above",
+    "standing",
+    "span",
+    "saving",
+    "tips",
+    "panel",
+    "input",
+)
+
+
+def write_timeline(session: Session, path: str, first: Optional[int] = None, last: Optional[int] = None) -> str:
+    """Writes the page, and returns the line that reports it."""
+    recording = session.text()
+    window = None
+    if first is not None and last is not None:
+        window = Window(first, last)
+        if not 0 <= first <= last <= recording.length:
+            raise Misused(messages.POSITIONS.format(last=recording.length))
+        if last - first > MOST:
+            raise Misused(messages.PAGE_IS_FULL.format(most=MOST, path=path))
+    with without_collections():
+        data = collected(Shown.by(session, told_at_the_terminal), window)
+        told_at_the_terminal("")
+        with writing(path, session.path) as file:
+            file.write(page(data))
+        take_all_as_kept()
+    return f"{path}: positions {data['first']} to {data['last']}, {len(data['cells'])} cells; {data['calls']['count']} calls"
+
+
+def told_at_the_terminal(text: str) -> None:
+    """Prints the progress on a line of the terminal, which the next call overwrites. Prints nothing if errors don't go
+    to a terminal."""
+    if sys.stderr.isatty():
+        sys.stderr.write(f"\r\x1b[K{text}")
+        sys.stderr.flush()
+
+
+def page(data: Data) -> str:
+    """The HTML page for this data."""
+    told = plain_json(data).replace("<", "\\u003c")
+    script = "\n".join(read_part(f"{name}.js") for name in SCRIPTS)
+    text = read_part("timeline.html").replace("/*STYLE*/", read_part("timeline.css")).replace("/*SCRIPT*/", script)
+    return text.replace("/*DATA*/", told)
+
+
+def read_part(name: str) -> str:
+    """The text of a file that pages are built from."""
+    return (PAGE / name).read_text(encoding="utf-8")
+
+
+def plain_json(value: Any) -> str:
+    """The value in JSON. Each text in the value is escaped."""
+    told = of_json(value)
+    # (if a character of a text must be escaped, its JSON has a backslash)
+    return of_json(plainly(value)) if "\\" in told else told
+
+
+def plainly(value: Any) -> Any:
+    """The value, with each text in it escaped."""
+    if isinstance(value, str):
+        return plain(value)
+    if isinstance(value, dict):
+        return {plainly(key): plainly(one) for key, one in value.items()}
+    if not isinstance(value, (list, tuple)):
+        return value
+    return value if NUMBERS.issuperset(map(type, value)) else [plainly(one) for one in value]  # (columns are long)

@@ -1,0 +1,1 @@
+"""The tables and texts of the commands that show a position or a part of a run."""

@@ -1,0 +1,218 @@
+"""`steps` and `calls`: what a goroutine did, what happened to a socket or a descriptor, and all steps of a kind. The
+module also finds the destinations of `next` and `finish`."""
+
+from itertools import chain
+from typing import Callable, Iterator, NamedTuple, Optional
+
+from netrev.connection.output import Row, Table
+from netrev.messages import session as messages
+from netrev.recording.answers import answer_text
+from netrev.recording.call import Call
+from netrev.recording.recording import Recording, Step
+from netrev.run.calls import Book, book_of
+from netrev.run.returns import function_at, position_of_return
+from netrev.run.timers import timer_of, timer_words
+from netrev.text.vocabulary import KINDS, number_of
+
+MOST = 40
+SUBJECTS = {"gor": "goroutine", "sock": "socket", "desc": "descriptor"}
+
+
+class Subject(NamedTuple):
+    """The subject of `steps` or `calls`: a goroutine, a socket, a descriptor, a kind of step, or everything."""
+
+    name: str = ""
+    number: int = 0
+
+    def __str__(self) -> str:
+        return f"{SUBJECTS[self.name]} {self.number}" if self.is_numbered else self.name
+
+    @property
+    def is_numbered(self) -> bool:
+        """Whether the subject is a goroutine, a socket or a descriptor, which have numbers."""
+        return self.name in SUBJECTS
+
+    @classmethod
+    def of(cls, words: list[str]) -> Optional[tuple["Subject", list[str]]]:
+        """The subject at the beginning of these words, and the words after it; None if the words don't begin with a
+        subject."""
+        number = number_of(words[1]) if len(words) > 1 else None
+        if words[:1] and words[0] in SUBJECTS:
+            return None if number is None else (cls(words[0], number), words[2:])
+        return (cls(words[0]), words[1:]) if words[:1] and words[0] in KINDS else None
+
+    def has(self, call: Call) -> bool:
+        """Whether the subject has a call."""
+        numbers = {"gor": call.goroutine, "sock": call.socket, "desc": call.descriptor}
+        return not self.name or numbers[self.name] == self.number
+
+
+def steps_table(recording: Recording, subject: Subject, position: int, most: Optional[int]) -> Table:
+    """The last steps of the subject up to the position: at most `most` steps, or all if `most` is None."""
+    found = list(_numbers(recording, subject, position))
+    shown = found if most is None else found[-most:]
+    rows = [_step_row(recording, recording.step(number)) for number in shown]
+    return Table("steps", rows, _rest(len(found), len(shown), "step", f"steps {_typed(subject)}", subject, position))
+
+
+def _numbers(recording: Recording, subject: Subject, position: int) -> Iterator[int]:
+    """The numbers of the subject's steps up to the position."""
+    if subject.name in KINDS:
+        yield from (step.number for step in recording.steps_of((subject.name,), position))
+        return
+    book = book_of(recording).whose
+    whose = {"gor": book.goroutines, "sock": book.sockets, "desc": book.descriptors}[subject.name]
+    for number, one in enumerate(whose[:position], 1):
+        if one == subject.number:
+            yield number
+
+
+def _typed(subject: Subject) -> str:
+    return f"{subject.name} {subject.number}" if subject.name in SUBJECTS else subject.name
+
+
+def _step_row(recording: Recording, step: Step) -> Row:
+    """The row of a step: the step, its answer (if any), and the program's line or else the owner of the step's
+    timer."""
+    timer, at = timer_of(recording, step), recording.lines.words(step.number)
+    values = {"step": step.number, "line": step.line, "does": str(step), "timer": timer and timer._asdict()}
+    answered = f", answered {answer_text(step.answer)}" if step.answer not in (None, "done") else ""
+    told = f"{step.number:>7}  {step}{answered}"
+    return Row(
+        values | ({"at": at} if recording.lines else {}), f"{told:<56} {at or timer_words(recording, step)}".rstrip()
+    )
+
+
+def _rest(count: int, shown: int, name: str, line: str, subject: Subject, position: int) -> str:
+    """The line that says how many rows are omitted, or that there are none."""
+    if shown < count:
+        return f"{count - shown} earlier ones: {line} all"
+    return "" if count else f"no {name} of {subject} up to position {position}"
+
+
+def calls_table(recording: Recording, subject: Subject, position: int, most: Optional[int]) -> Table:
+    """The subject's calls that began at or before the position. If there are more than `most`, only the last ones."""
+    found = [call for call in book_of(recording).calls if call.first <= position and subject.has(call)]
+    shown = found if most is None else found[-most:]
+    rows = [call_row(recording, call, position) for call in shown]
+    line = f"calls {_typed(subject)}" if subject.name else "calls"
+    return Table("calls", rows, _rest(len(found), len(shown), "call", line, subject, position))
+
+
+def call_row(recording: Recording, call: Call, position: int) -> Row:
+    """The row of a call. If the call ends after the position, the row shows it as unfinished."""
+    seen = call if call.last <= position else call.as_begun()
+    at = recording.lines.words(call.first)
+    values = {
+        "goroutine": seen.goroutine,
+        "call": seen.name,
+        "socket": seen.socket,
+        "descriptor": seen.descriptor if seen.descriptor >= 0 else None,
+        "first": seen.first,
+        "last": seen.last or None,
+        "waited": seen.waited,
+        "slept": seen.slept,
+        "bytes": seen.moved,
+        "outcome": seen.outcome.value if seen.last else None,
+    }
+    told = f"gor {seen.goroutine:<4} {seen.words()}"
+    return Row(values | ({"at": at} if recording.lines else {}), f"{told:<72} {at}".rstrip())
+
+
+class Stay(Exception):
+    """Raised, with the reason, if no destination exists."""
+
+
+class Goal(NamedTuple):
+    """The position at which a move ends. If the move covers a whole call, `call` is that call."""
+
+    position: int
+    call: Optional[Call] = None
+
+
+def goroutine_at(recording: Recording, position: int) -> int:
+    """The goroutine that made the last step up to the position. At the start, the goroutine that makes the next step.
+    Steps that no goroutine made don't count."""
+    whose = book_of(recording).whose.goroutines
+    for at in chain(range(position - 1, -1, -1), range(position, len(whose))):
+        if whose[at] >= 0:
+            return whose[at]
+    raise Stay(messages.NO_GOROUTINE_MOVES)
+
+
+def next_goal(recording: Recording, goroutine: int, position: int) -> Goal:
+    """The position after the goroutine's next step, or after the whole call that begins with it."""
+    book = book_of(recording)
+    step = _own_step(book, goroutine, range(position + 1, recording.length + 1))
+    call = next((call for call in book.calls if call.first == step), None)
+    return Goal(step) if call is None else Goal(call.last or recording.length, call)
+
+
+def previous_goal(recording: Recording, goroutine: int, position: int) -> Goal:
+    """The position before the goroutine's last step, or before the whole call that it ended."""
+    book = book_of(recording)
+    step = _own_step(book, goroutine, range(position, 0, -1))
+    call = next((call for call in book.calls if call.goroutine == goroutine and call.last == step), None)
+    return Goal(step - 1) if call is None else Goal(call.first - 1, call)
+
+
+def finish_goal(recording: Recording, goroutine: int, position: int) -> Goal:
+    """The position after the call that the goroutine is in. Between two calls, the position before the goroutine's
+    first step outside the program's function."""
+    inside = calls_at(book_of(recording), goroutine, position)
+    if not inside:
+        return return_goal(recording, goroutine, position)
+    call = inside[-1]
+    if not call.last:
+        raise Stay(messages.CALL_HANGS.format(goroutine=goroutine, call=call.words()))
+    return Goal(call.last, call)
+
+
+def return_goal(recording: Recording, goroutine: int, position: int) -> Goal:
+    """The position just before the goroutine's first step outside the program's function that it is now in."""
+    found = position_of_return(recording, goroutine, position)
+    if found is not None:
+        return Goal(found)
+    if function := function_at(recording, goroutine, position):
+        raise Stay(messages.NO_RETURN.format(goroutine=goroutine, function=function))
+    raise Stay(messages.IN_NO_CALL.format(goroutine=goroutine))
+
+
+def start_goal(recording: Recording, goroutine: int, position: int) -> Goal:
+    """The position before the call that the goroutine is in."""
+    call = _call_at(book_of(recording), goroutine, position)
+    return Goal(call.first - 1, call)
+
+
+def _own_step(book: Book, goroutine: int, numbers: range) -> int:
+    """The first step of the goroutine among these."""
+    found = next((number for number in numbers if book.whose.goroutines[number - 1] == goroutine), None)
+    if found is None:
+        way = "later" if numbers.step > 0 else "earlier"
+        raise Stay(messages.NO_OTHER_STEP.format(goroutine=goroutine, way=way))
+    return found
+
+
+def _call_at(book: Book, goroutine: int, position: int) -> Call:
+    """The innermost call that the goroutine is in; raises Stay if it is in no call."""
+    inside = calls_at(book, goroutine, position)
+    if not inside:
+        raise Stay(messages.IN_NO_CALL.format(goroutine=goroutine))
+    return inside[-1]
+
+
+def calls_at(book: Book, goroutine: int, position: int) -> list[Call]:
+    """The calls that a goroutine is in, innermost last."""
+    return [
+        call
+        for call in book.calls
+        if call.goroutine == goroutine and call.first <= position and (not call.last or call.last > position)
+    ]
+
+
+GOALS: dict[str, Callable[[Recording, int, int], Goal]] = {
+    "next": next_goal,
+    "reverse-next": previous_goal,
+    "finish": finish_goal,
+    "reverse-finish": start_goal,
+}

@@ -1,0 +1,1 @@
+"""The installed Go, its changed copy, and runs of its command."""

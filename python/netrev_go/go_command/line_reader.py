@@ -1,0 +1,62 @@
+"""The program that reads source lines, Go's own `addr2line`. Up to Go 1.24 it comes with Go. Later releases build the program on first
+use, so netrev-go builds it once for each release, before the first recording, and stores it."""
+
+from __future__ import annotations
+
+import contextlib
+import fcntl
+import hashlib
+import pathlib
+import re
+
+from netrev.messages import recorder as messages
+
+from .toolchain import Go, Trouble, cache, quiet_go
+
+NAME = "addr2line"
+PACKAGE = "cmd/addr2line"
+
+
+def shipped(go: Go) -> pathlib.Path:
+    """The path of the addr2line that some releases of Go contain."""
+    return go.root / "pkg/tool" / go.system.replace("/", "_") / NAME
+
+
+def kept(go: Go) -> pathlib.Path:
+    """The path at which netrev-go keeps the program that it built."""
+    digest = hashlib.sha256(f"{go.version} {go.root}".encode()).hexdigest()
+    return cache() / f"{NAME}-{re.sub(r'[^0-9A-Za-z.+-]', '_', go.version)}-{digest[:12]}" / NAME
+
+
+def line_reader(go: Go) -> list[str]:
+    """The command that reads lines: Go's own program, or the program that netrev-go built; if neither exists, `go tool` builds it now."""
+    for path in (shipped(go), kept(go)):
+        if path.exists():
+            return [str(path)]
+    return [go.program, "tool", NAME]
+
+
+def build_line_reader(go: Go) -> pathlib.Path:
+    """The program, built if it is missing; raises Trouble if Go can't build it."""
+    if shipped(go).exists():
+        return shipped(go)
+    made = kept(go)
+    try:
+        made.parent.mkdir(parents=True, exist_ok=True)
+        with (made.parent / "lock").open("w") as lock:
+            fcntl.flock(lock, fcntl.LOCK_EX)
+            if not made.exists():  # no other process has built it meanwhile
+                part = made.with_name("part")
+                run = quiet_go(go, made.parent, "build", "-o", str(part), PACKAGE)
+                if run.returncode != 0:
+                    raise Trouble(messages.READER_NOT_BUILT.format(package=PACKAGE, why=run.stderr.strip()[-600:]))
+                part.rename(made)
+    except OSError as fault:
+        raise Trouble(messages.READER_UNWRITABLE.format(folder=made.parent, why=fault.strerror)) from None
+    return made
+
+
+def prepare_line_reader(go: Go) -> None:
+    """Builds the program if it is missing. Otherwise Go builds the program each time that lines are read."""
+    with contextlib.suppress(Trouble):
+        build_line_reader(go)

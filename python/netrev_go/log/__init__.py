@@ -1,0 +1,1 @@
+"""The log of a process: its points, sockets, goroutines and orders."""

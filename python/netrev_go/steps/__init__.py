@@ -1,0 +1,1 @@
+"""The steps of a recording, made from a log, and the report about it."""

@@ -1,0 +1,160 @@
+"""Machine-readable test results: JSON lines, GitHub annotations and JUnit XML (docs/reference/OPTIONS.md)."""
+
+from __future__ import annotations
+
+import json
+import re
+from collections.abc import Iterable
+from dataclasses import asdict, dataclass, field
+from xml.etree import ElementTree
+
+from netrev.text.plain import plain
+from netrev_go.log.ran import Ran, Went
+
+# A file's name begins at the start of a word; otherwise a long word would be searched from each of its letters.
+LINE = re.compile(r"(?<![\w./@+~-])([\w./@+~-]+\.go):(\d+)\b")
+WORST = (Went.FAILED, Went.UNFINISHED, Went.PASSED, Went.SKIPPED)
+
+
+@dataclass
+class Cause:
+    """A line of the report that names a line of the program."""
+
+    file: str
+    line: int
+    text: str
+
+
+@dataclass
+class Told:
+    """The result of one test in all its runs."""
+
+    package: str
+    test: str
+    status: str = Went.SKIPPED.value
+    runs: int = 0
+    failed: int = 0
+    seconds: float = 0.0
+    file: str | None = None
+    line: int | None = None
+    recording: str | None = None
+    accepted: bool | None = None  # by netrev; None without a recording
+    page: str | None = None
+    suspects: list[str] = field(default_factory=list)
+    causes: list[Cause] = field(default_factory=list)
+    possible: list[str] = field(default_factory=list)
+    says: list[str] = field(default_factory=list)
+
+    def add(self, test: Ran) -> None:
+        """Adds a run."""
+        self.runs += 1
+        self.failed += test.is_red()
+        self.seconds = round(self.seconds + test.seconds(), 6)
+        if self.file is None and test.place is not None:
+            self.file, self.line = test.place
+        self.status = min(Went(self.status), test.went(), key=WORST.index).value
+
+    def is_red(self) -> bool:
+        return self.failed > 0
+
+    def outcome(self) -> str:
+        """The test's outcome: `failed`, or `failed in 1 of 3 runs`."""
+        return f"{self.status} in {self.failed} of {self.runs} runs" if self.runs > 1 else self.status
+
+    def place(self) -> tuple[str, int] | None:
+        """The line at which the test failed, or else the first line of the program in the report."""
+        if self.file is not None and self.line is not None:
+            return self.file, self.line
+        return (self.causes[0].file, self.causes[0].line) if self.causes else None
+
+    def say(self, lines: list[str]) -> None:
+        """Adds the report about the test's recording."""
+        self.says = lines
+        self.suspects = suspects_in(lines)
+        self.causes = causes_in(lines)
+
+
+def suspects_in(lines: list[str]) -> list[str]:
+    """The suspects, each by its first line."""
+    return [found[1] for line in lines if (found := re.match(r"\s+\d+\. (.+)", line))]
+
+
+def causes_in(lines: list[str]) -> list[Cause]:
+    """Each source line that the report names, with the first line of the report that names it."""
+    found: dict[tuple[str, int], Cause] = {}
+    for line in lines:
+        if at := LINE.search(line):
+            cause = Cause(at[1], int(at[2]), line.strip().removeprefix("cause:").strip())
+            found.setdefault((cause.file, cause.line), cause)
+    return list(found.values())
+
+
+def json_lines(told: Iterable[Told]) -> str:
+    """A line for each test."""
+    return "".join(json.dumps(asdict(one)) + "\n" for one in told)
+
+
+def of_data(text: str) -> str:
+    """Escapes a text for the part after the colons of a GitHub annotation."""
+    return text.replace("%", "%25").replace("\r", "%0D").replace("\n", "%0A")
+
+
+def of_property(text: str) -> str:
+    """Escapes a text for a property of a GitHub annotation."""
+    return of_data(text).replace(":", "%3A").replace(",", "%2C")
+
+
+def annotation(one: Told) -> str:
+    """The GitHub annotation for a failed test."""
+    title = f"title={of_property(plain(f'{one.package} {one.test}'))}"
+    words = [one.outcome(), *one.says]
+    place = one.place()
+    where = f"file={of_property(plain(place[0]))},line={place[1]}," if place else ""
+    return f"::error {where}{title}::{of_data(chr(10).join(map(plain, words)))}"
+
+
+def github_lines(told: Iterable[Told]) -> list[str]:
+    """Annotations for the failed tests, without those that have a failed subtest."""
+    red = [one for one in told if one.is_red()]
+    parts = [(one.package, one.test) for one in red]
+    return [
+        annotation(one)
+        for one in red
+        if not any(package == one.package and test.startswith(f"{one.test}/") for package, test in parts)
+    ]
+
+
+def junit(told: list[Told]) -> str:
+    """JUnit XML: a suite for each package, and a case for each test."""
+    top = ElementTree.Element("testsuites", counts(told))
+    for package in dict.fromkeys(one.package for one in told):
+        cases = [one for one in told if one.package == package]
+        suite = ElementTree.SubElement(top, "testsuite", {"name": plain(package), **counts(cases)})
+        for one in cases:
+            add_case(suite, one)
+    ElementTree.indent(top)
+    return '<?xml version="1.0" encoding="UTF-8"?>\n' + ElementTree.tostring(top, encoding="unicode") + "\n"
+
+
+def counts(told: list[Told]) -> dict[str, str]:
+    how = [Went(one.status) for one in told]
+    return {
+        "tests": str(len(told)),
+        "failures": str(how.count(Went.FAILED)),
+        "errors": str(how.count(Went.UNFINISHED)),
+        "skipped": str(how.count(Went.SKIPPED)),
+        "time": f"{sum(one.seconds for one in told):.6f}",
+    }
+
+
+def add_case(suite: ElementTree.Element, one: Told) -> None:
+    """Adds a test. A failed test has a failure, and a test that never ended has an error."""
+    words = {"classname": plain(one.package), "name": plain(one.test), "time": f"{one.seconds:.6f}"}
+    case = ElementTree.SubElement(suite, "testcase", words)
+    if one.status == Went.SKIPPED.value:
+        ElementTree.SubElement(case, "skipped")
+    if not one.is_red():
+        return
+    sort = "failure" if one.status == Went.FAILED.value else "error"
+    message = one.outcome()
+    ElementTree.SubElement(case, sort, {"message": message}).text = "\n".join(map(plain, one.says))

@@ -1,0 +1,1 @@
+"""What an editor sees of a recording."""

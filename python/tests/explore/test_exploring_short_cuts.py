@@ -1,0 +1,126 @@
+"""The optimizations of exploring change nothing: the findings are the same as when each schedule runs from its first step to its last, the
+model makes each step, and all waiting actors check at each turn."""
+
+import unittest
+from pathlib import Path
+from typing import Any, Optional
+from unittest.mock import patch
+
+import pytest
+from dev.fuzz.generators.injections import Traffic
+from netrev.explore.findings import Exploring, Played
+from netrev.explore.player import Player
+from netrev.explore.schedules import Schedule, schedules
+from netrev.explore.scripts.board import Board
+from netrev.explore.scripts.control import GOROUTINE, Place
+from netrev.explore.scripts.making import script_of
+from netrev.explore.scripts.runs import Delay, Impossible, Made
+from netrev.machine.machine import Status
+from netrev.machine.steps import apply
+from netrev.recording.recording import Recording
+from netrev.text.contents import Answer, Step
+
+from .test_exploring import EXAMPLES, answered, with_answers
+
+pytestmark = pytest.mark.long
+REAL = sorted((EXAMPLES / "real").glob("*.jsonl"))
+RACES = sorted((EXAMPLES / "races").glob("*.jsonl"))
+MOST, AT_ONCE = 200, 9  # the greatest number of schedules; every ninth is run
+TRAFFIC, LENGTH = (720, 726), 400  # seeds, and the length of their recordings
+
+
+class PlainBoard(Board):
+    """A board whose machine makes each step. Each answer and state is compared with the model's."""
+
+    def make(self, step: Step, number: int) -> Made:
+        behind = apply(self.world(), step)
+        made = Made(step, self.step(step), number)
+        assert (self.world(), made.answer) == behind
+        return made
+
+
+class PlainPlayer(Player):
+    """A player that doesn't reuse the recorded run, and in which every waiting goroutine checks again."""
+
+    def _note(self, g: int, place: Place, answer: Answer, status: Status) -> None:
+        pass
+
+    def _passes(self, g: int) -> None:
+        waiting = self.passing.waiting.pop(g, None)
+        for actor, which in waiting.row() if waiting else ():
+            if actor == GOROUTINE:
+                self._push_goroutine(which)
+            else:
+                self._push(self.now, actor, which)
+
+
+class PlainExploring(Exploring):
+    """An exploration that runs each schedule from its beginning to its end."""
+
+    def ends_of(self, delays: tuple[Delay, ...]) -> Optional[Played]:
+        player = PlainPlayer(self.script, delays)
+        player.end(self._most)
+        places, numbers = player.places, player.numbers
+        return Played(player.steps, player.board.world(), places, numbers.sockets, player.has_news)
+
+
+def outcome(exploring: Exploring, schedule: Schedule) -> Any:
+    """The result of a schedule: its findings and its run, or None if the run is given up."""
+    keys = exploring.play(schedule)
+    try:
+        return keys, exploring.ends_of(schedule.delays)
+    except Impossible as impossible:
+        return keys, str(impossible)
+
+
+class ShortCuts(unittest.TestCase):
+    def setUp(self) -> None:
+        self.came_back = self.had_rest = 0
+
+    def assert_the_same(self, recording: Recording) -> None:
+        """Explores a recording in both ways."""
+        script = script_of(recording)
+        short = Exploring(script, recording.lines.words)
+        with patch("netrev.explore.findings.Player", PlainPlayer), patch("netrev.explore.state.Board", PlainBoard):
+            plain = PlainExploring(script, recording.lines.words)
+            self.assertEqual(short.recorded, plain.recorded)
+            for schedule in list(schedules(short.delays, MOST))[::AT_ONCE]:
+                self.assert_ends_the_same(short, plain, schedule)
+        for name in ("found", "times", "known", "played", "left", "seed", "delays"):
+            self.assertEqual(getattr(short, name), getattr(plain, name), name)
+        self.assertEqual(list(short.found), list(plain.found))
+
+    def assert_ends_the_same(self, short: Exploring, plain: Exploring, schedule: Schedule) -> None:
+        with patch.object(short, "_with_the_rest", side_effect=short._with_the_rest) as with_the_rest:
+            keys, played = outcome(short, schedule)
+        self.had_rest += with_the_rest.called
+        plain_keys, plain_played = outcome(plain, schedule)
+        self.assertEqual(keys, plain_keys, schedule)
+        if played is not None:
+            self.assertEqual(played, plain_played, schedule)
+        else:
+            self.came_back += 1
+            self.assertLessEqual(plain_played.has_news, plain.recorded.has_news)
+            statuses, recorded = plain_played.world.goroutines, plain.recorded.world.goroutines
+            self.assertEqual([one[0] for one in statuses], [one[0] for one in recorded])
+            self.assertEqual(plain_played.places, plain.recorded.places)
+
+    def test_in_recordings_of_real_programs(self) -> None:
+        self.in_all(REAL)
+
+    def test_in_races(self) -> None:
+        self.in_all(RACES)
+        self.assertGreater(self.had_rest, 5)
+
+    def in_all(self, paths: list[Path]) -> None:
+        self.assertGreater(len(paths), 5)
+        for path in paths:
+            with self.subTest(path.stem):
+                self.assert_the_same(answered(path))
+        self.assertGreater(self.came_back, len(paths))
+
+    def test_in_random_traffic(self) -> None:
+        for seed in TRAFFIC:
+            with self.subTest(seed):
+                self.assert_the_same(with_answers(Recording(Traffic(seed, None, LENGTH).run().text())))
+        self.assertGreater(self.came_back, 5)

@@ -1,0 +1,157 @@
+"""The text about findings in terms of calls, and the target of a finding's reduced recording and of a report."""
+
+from collections import Counter
+from typing import Any, Optional, cast
+from unittest import mock
+
+import pytest
+
+from netrev.connection.output import Row, Table
+from netrev.explore import commands
+from netrev.explore.commands import Keeping
+from netrev.explore.scripts.making import script_of
+from netrev.explore.scripts.runs import Delay
+from netrev.explore.sentences import Telling, summary
+from netrev.findings.suspects.found import Suspect, Weight
+from netrev.reduce import report
+from netrev.reduce.reduced import Reduced, Wanted
+from netrev.reduce.units import Sort
+from netrev.run.calls import book_of
+from tests.suspects.test_suspects import COMES, OPEN, READ, Steps, recording_of
+
+READS: Steps = [*READ, ["rwunlock", 1, 0, "r"]]
+SETS: Steps = [["incref", 0, 0], ["setdeadline", 0, 0, "r", 5], ["decref", 0, 0]]
+# steps 1 to 3, 4, 5 to 8, 9 to 11, 12, 13 and 14, 15 to 17
+INSIDE: Steps = [*OPEN, ["incref", 1, 0], *READS, *SETS, ["decref", 1, 0], *COMES, *READ]
+
+
+def telling_of(steps: Steps) -> Telling:
+    recording = recording_of(steps)
+    return Telling(recording, book_of(recording), script_of(recording))
+
+
+@pytest.mark.parametrize(
+    ("g", "number", "wanted"),
+    [
+        (0, 2, None), (0, 3, ("Open", 3)), (0, 4, None), (1, 3, None), (1, 4, ("Control", 4)), (1, 5, ("Read", 5)), (1, 8, ("Read", 5)), (0, 8, None),
+        (1, 9, ("Control", 4)), (0, 9, ("SetReadDeadline", 9)), (0, 11, ("SetReadDeadline", 9)), (0, 12, None), (1, 12, ("Control", 4)), (1, 13, None),
+        (1, 15, ("Read", 15)), (1, 17, ("Read", 15)), (2, 9, None),
+    ],
+)  # fmt: skip
+def test_the_innermost_call_around_a_step(g: int, number: int, wanted: Optional[tuple[str, int]]) -> None:
+    call = telling_of(INSIDE).call_of(g, number)
+    assert (call and (call.name, call.first)) == wanted
+
+
+@pytest.mark.parametrize(
+    ("before", "until", "says"),
+    [
+        (5, 11, "goroutine 1 pauses before Read on socket 0 (step 5) until goroutine 0 has made decref in SetReadDeadline on socket 0 (step 11)"),
+        (7, 12, "goroutine 1, in Read on socket 0, pauses before sysread (step 7) until goroutine 1 has made decref in Control on socket 0 (step 12)"),
+        (9, 13, "goroutine 0 pauses before SetReadDeadline on socket 0 (step 9) until after arrive 0 6869 (step 13)"),
+        (10, 17, "goroutine 0, in SetReadDeadline on socket 0, pauses before setdeadline (step 10) until goroutine 1 has made sysread in Read on socket 0 (step 17)"),
+        (16, 18, "goroutine 1, in Read on socket 0, pauses before pollreset (step 16) until its deadline has passed"),
+    ],
+)  # fmt: skip
+def test_a_delay_is_described_by_its_calls(before: int, until: int, says: str) -> None:
+    assert telling_of(INSIDE).delay(Delay(before, until)) == says
+
+
+@pytest.mark.parametrize(
+    ("played", "delays", "seed", "taken_over", "left", "found", "stopped", "says"),
+    [
+        (5, 8, 0, 0, 0, 0, False, "5 schedules near the recorded one in 1.5 s (one delay: 5 of 8); nothing found"),
+        (1, 1, 0, 0, 0, 1, False, "1 schedule near the recorded one in 1.5 s (one delay: 1 of 1); 1 finding"),
+        (9, 8, 3, 0, 2, 2, True, "stopped: 9 schedules near the recorded one in 1.5 s (one delay: 8 of 8; two and three: seeds 1 to 3); in 2 of them a step didn't apply; 2 findings"),
+        (9, 9, 0, 1, 0, 0, False, "9 schedules near the recorded one in 1.5 s (one delay: 9 of 9); 1 of the processes that played them ended early, and nrdb played the rest; nothing found"),
+    ],
+)  # fmt: skip
+def test_the_summary_of_all_schedules(
+    played: int, delays: int, seed: int, taken_over: int, left: int, found: int, stopped: bool, says: str
+) -> None:
+    exploring = mock.Mock(played=played, delays=[None] * delays, seed=seed, taken_over=taken_over, left=left)
+    exploring.found = dict.fromkeys(range(found))
+    assert summary(exploring, 1.5, stopped) == says
+
+
+# ---- the target of the reduced recording
+
+
+def suspect(rule: str, is_shown: bool = True, goroutine: Optional[int] = None, socket: Optional[int] = None) -> Suspect:
+    return Suspect(4, Weight.SHOWN if is_shown else Weight.DOUBTFUL, ["it says"], goroutine, None, socket, rule=rule)
+
+
+FOUND = [suspect("a", False), suspect("b"), suspect("b", socket=1), suspect("c", goroutine=2)]
+
+
+@pytest.mark.parametrize(
+    ("one", "number"),
+    [(FOUND[1], 1), (FOUND[2], 2), (FOUND[3], 3), (FOUND[0], 1), (suspect("c", goroutine=3), 1), (suspect("d"), 1)],
+)
+def test_a_suspect_is_reduced_by_its_number(one: Suspect, number: int) -> None:
+    """The number counts only the shown suspects of the finding's own recording. A suspect that isn't among them gets 1."""
+    with mock.patch.object(commands, "suspects_of", return_value=mock.Mock(suspects=FOUND)):
+        wanted = Keeping(mock.Mock(), mock.Mock())._wanted(mock.Mock(length=9), mock.Mock(suspect=one))
+    assert wanted == Wanted(number, "", "", 9)
+
+
+@pytest.mark.parametrize(
+    ("failed", "reason", "wanted"),
+    [
+        (7, 8, Wanted(0, "", "", 9, behind=(1, 2))), (7, None, Wanted(0, "", "", 9, 3, (4, 5))), (None, None, Wanted(0, "", "", 9, 3, (4, 5))),
+    ],
+)  # fmt: skip
+def test_a_failure_or_a_hang_is_reduced_with_its_steps(failed: Any, reason: Any, wanted: Wanted) -> None:
+    finding = mock.Mock(suspect=None, reason=reason, hangs=3, played=mock.Mock(failed=failed, places=[0, 1, 2, 3]))
+    with mock.patch.object(commands, "stays_of", return_value=(1, 2)) as stays:
+        with mock.patch.object(commands, "moved_by", return_value=(4, 5)) as moved:
+            telling, whole = mock.Mock(), mock.Mock(length=9)
+            assert Keeping(mock.Mock(), telling)._wanted(whole, finding) == wanted
+    if wanted.hangs == 3:
+        moved.assert_called_once_with(telling.script, 3, 3, finding.played.steps)
+    else:
+        stays.assert_called_once_with(telling.script, 7, 8, finding.played.steps)
+
+
+# ---- reports
+
+
+def table_of(*rules: str) -> Table:
+    """A table with a line after each suspect."""
+    rows = [
+        row
+        for at, rule in enumerate(rules, 1)
+        for row in (
+            Row({"rule": rule, "says": f"{rule} at {at}", "netrev": [f"answer {at}"], "lines": ["main.go:7"][at - 1 :]}, rule),
+            Row({}, "the next command"),
+        )
+    ]  # fmt: skip
+    return Table("suspects", rows)
+
+
+@pytest.mark.parametrize(
+    ("number", "head"),
+    [
+        (1, ["# one", "One at 3.", "- netrev: `answer 3`", "In the whole recording: one at 1."]),
+        (2, ["# two", "Two at 2.", "- netrev: `answer 2`", "In the whole recording: two at 2."]),
+        (3, ["# three", "Three at 1.", "- netrev: `answer 1`", "- main.go:7", "In the whole recording: three at 3."]),
+    ],
+)
+def test_a_report_begins_with_its_own_suspect(number: int, head: list[str]) -> None:
+    """The reduced recording may show the suspects in another order."""
+    session = cast(Any, mock.Mock())
+    with mock.patch.object(report, "suspects_table", return_value=table_of("one", "two", "three")):
+        found = report._of_suspect(session, table_of("three", "two", "one"), Wanted(number, "", "", 9))
+    assert [line.replace("\\", "") for line in found] == head
+
+
+@pytest.mark.parametrize(
+    ("left_out", "is_done", "says"),
+    [
+        ({}, True, "x.jsonl: 3 of 9 steps, accepted by netrev; nothing could be left out"),
+        ({Sort.CALL: 1}, True, "x.jsonl: 3 of 9 steps, accepted by netrev; left out 1 call"),
+        ({Sort.TICK: 2, Sort.CALL: 0, Sort.SOCKET: 1}, False, "x.jsonl: 3 of 9 steps, accepted by netrev; left out 1 socket, 2 ticks; stopped early, so reduce what is left once more"),
+    ],
+)  # fmt: skip
+def test_what_a_reduction_removed(left_out: dict[Sort, int], is_done: bool, says: str) -> None:
+    assert Reduced("x.jsonl", [1, 2, 5], Counter(left_out), is_done).words(9) == says

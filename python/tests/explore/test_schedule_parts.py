@@ -1,0 +1,496 @@
+"""The parts of a schedule: who waits for whom, when the network acts, the schedules that are kept, and how far a run goes."""
+
+import io
+import pickle
+from collections import Counter
+from typing import Any, Optional
+
+import pytest
+
+from netrev.explore.failures import Failed, Reason, Why, ends_of, failing_delays, reason_of, stays_of, watched
+from netrev.explore.findings import Exploring
+from netrev.explore.hangs import ended_by
+from netrev.explore.player import Player
+from netrev.explore.schedules import Schedule
+from netrev.explore.scripts.actors import MOST_TRIES, Others
+from netrev.explore.scripts.board import Board
+from netrev.explore.scripts.control import CLOCK, GOROUTINE, NETWORK, NEVER, NotMade, Numbers, Place
+from netrev.explore.scripts.making import script_of
+from netrev.explore.scripts.orders import Passing, Waiting, causes_of, orders_of
+from netrev.explore.scripts.runs import Delay, Made
+from netrev.explore.scripts.scripts import Cause, Item, Operation, Order, Script
+from netrev.explore.workers import LENGTH, Best, Share, Told, tell_of
+from netrev.reduce.events import Event
+from netrev.run.flow import Sort
+from netrev.text.contents import Limits, Step
+from tests.suspects.test_suspects import COMES, OPEN, PARK, READ, Steps, recording_of
+
+from .test_exploring_failures import CLOSES, READS, sets
+
+# ---- who waits for whom
+
+
+@pytest.mark.parametrize(
+    ("made", "row"),
+    [
+        ("g1 s5 s6", "g1 s5 s6"),
+        ("s5 g1", "s5 g1"),  # goroutine 1 came after socket 5, so it checks after socket 5
+        ("s5 g1 s6 g2", "s5 g1 s6 g2"),
+        ("g1 s5 g2 look", "g1 g2"),  # socket 5 waits for the network's next check, so it isn't in the row
+        ("g1 look s5", "g1 s5"),  # no socket waited for that check, so socket 5 is in the row
+        ("g1 s5 look g2 g3", "g1 g2 g3"),
+        ("g1 s5 look s6 g2", "g1 s6 g2"),
+        ("g1 s5 look before", "g1"),
+        ("g1 s5 look at", "g1"),
+        ("g1 s5 look after", "g1 s5"),
+        ("g1 s5 look s6 g2 at", "g1 s6 g2"),
+        ("g1 s5 look s6 g2 after", "g1 s6 g2 s5"),
+        ("g1 s5 look s6 g2 after look", "g1 g2"),
+        ("g1 s5 look s6 g2 look after", "g1 g2 s5 s6"),
+        ("s5 look", ""),
+        ("s5 look s6 after", "s6 s5"),
+        ("s5 look g1 s6 after", "g1 s6 s5"),
+        ("g1", "g1"),
+    ],
+)
+def test_waiters_check_in_the_order_in_which_they_came(made: str, row: str) -> None:
+    """`look`: all checked without success, and the network's next check is due at (7, 3); then checks before, at or after that time."""
+    waiting = Waiting()
+    for word in made.split():
+        if word == "look":
+            waiting.look_again((7, 3))
+        elif word in ("before", "at", "after"):
+            waiting.settle({"before": (7, 2), "at": (7, 3), "after": (7, 4)}[word])
+        else:
+            waiting.add(GOROUTINE if word[0] == "g" else NETWORK, int(word[1:]))
+    for one in (waiting, waiting.copy()):
+        assert [f"{'g' if actor == GOROUTINE else 's'}{which}" for actor, which in one.row()] == row.split()
+        assert not one.is_empty() and one.has_network() == ("s" in made)
+
+
+def test_the_networks_later_checks_are_counted() -> None:
+    waiting = Waiting()
+    assert waiting.is_empty() and not waiting.look_again((1, 1)) and waiting.again is None
+    waiting.add(NETWORK, 5)
+    waiting.add(NETWORK, 6)
+    assert (waiting.look_again((7, 3)), waiting.again) == (2, (7, 3))
+    assert (waiting.look_again((8, 1)), waiting.again) == (0, (7, 3))  # (they haven't checked yet)
+
+
+def test_operations_are_ordered_as_the_program_ordered_their_steps() -> None:
+    goroutines = [
+        [Operation(Sort.REFER, 0, steps=[1]), Operation(Sort.GIVE_UP, 0, steps=[5])],
+        [Operation(Sort.LOCK, 0, steps=[2]), Operation(Sort.READ, 0, steps=[3, 4]), Operation(Sort.UNLOCK, 0, steps=[9])],
+    ]  # fmt: skip
+    pairs = [(1, 4), (1, 2), (4, 5), (2, 3), (1, 77), (77, 4)]
+    assert orders_of(goroutines, pairs) == [[Order(1, 1, 1)], [Order(0, 0, 0), Order(1, 0, 0)]]
+    assert orders_of(goroutines, None) is None
+
+
+@pytest.mark.parametrize(
+    ("operations", "waits_for"), [((0, 0), None), ((1, 0), 0), ((1, 2), 0), ((1, 3), None), ((2, 3), 0), ((2, 5), None)]
+)
+def test_a_goroutine_waits_for_the_operations_before_its_own(
+    operations: tuple[int, int], waits_for: Optional[int]
+) -> None:
+    """Goroutine 1 begins operation 1 after operation 2 of goroutine 0, and operation 2 after operation 4."""
+    places = [Place(operations[1]), Place(operations[0])]
+    passing = Passing([[], [Order(1, 0, 2), Order(2, 0, 4)]], [], places)
+    assert passing.has_still_to_go_on(1) == waits_for
+    assert passing.has_still_to_go_on(0) is None
+    assert Passing(None, [], places).has_still_to_go_on(1) is None
+    if waits_for == 0:
+        passing.wait(0, GOROUTINE, 1, (0, 0))
+        assert passing.waiting[0].until == (2 if operations[0] == 1 else 4)
+        assert passing.is_still_awaited(0, passing.waiting[0])
+
+
+@pytest.mark.parametrize(
+    ("places", "number", "waits_for"),
+    [
+        ([Place(0), Place(0)], 4, None),  # (an action before the cause)
+        ([Place(0), Place(0)], 5, 0),
+        ([Place(2, 0), Place(0)], 9, 0),
+        ([Place(2, 1), Place(0)], 9, 0),
+        ([Place(2, 2), Place(0)], 9, 1),
+        ([Place(3), Place(0)], 9, 1),
+        ([Place(3), Place(0)], 6, None),
+        ([Place(3), Place(1)], 9, None),
+    ],
+)
+def test_the_network_waits_for_the_steps_to_which_it_may_react(
+    places: list[Place], number: int, waits_for: Optional[int]
+) -> None:
+    """Step 4 is the second of operation 2 of goroutine 0; step 6 is the first of operation 0 of goroutine 1."""
+    passing = Passing(None, [Cause(4, 0, 2, 1), Cause(6, 1, 0, 0)], places)
+    assert passing.has_still_to_cause(number) == waits_for
+    if number == 9:
+        assert [passing.holds_network_back(g) for g in (0, 1)] == [g == waits_for for g in (0, 1)]
+
+
+@pytest.mark.parametrize(
+    ("operation", "waiters", "is_awaited"),
+    [
+        (2, "g1", True), (3, "g1", False), (2, "g1 s5", True), (2, "s5", True), (1, "s5", True), (3, "s5", False), (2, "g1 s5 look", True), (2, "g1 s5 look s6", False),
+        (2, "g1 s5 s6 look", True), (5, "s5", False),
+    ],
+)  # fmt: skip
+def test_waiters_check_only_if_one_may_continue(operation: int, waiters: str, is_awaited: bool) -> None:
+    """Goroutine 1 waits for operation 2 of goroutine 0, and the network for the first step of its operation 2."""
+    passing = Passing([[], [Order(0, 0, 2)]], [Cause(4, 0, 2, 0)], [Place(operation), Place()])
+    for word in waiters.split():
+        if word == "look":
+            passing.waiting[0].look_again((7, 3))
+        else:
+            passing.wait(0, GOROUTINE if word[0] == "g" else NETWORK, int(word[1:]), (0, 0))
+    assert passing.is_still_awaited(0, passing.waiting[0]) == is_awaited
+
+
+def test_copies_wait_by_themselves() -> None:
+    one = Passing([[], [Order(0, 0, 2)]], [Cause(4, 0, 2, 0)], [Place(), Place()])
+    one.wait(0, GOROUTINE, 1, (0, 0))
+    other = one.copy(list(one.places))
+    assert one.is_as(other) and other.waiting[0].until == 2
+    other.wait(0, NETWORK, 5, (0, 0))
+    assert not one.is_as(other) and one.waiting[0].row() == [(GOROUTINE, 1)]
+
+
+def test_the_networks_causes_are_in_their_order() -> None:
+    goroutines = [[Operation(Sort.WRITE, 0, steps=[7, 8, 9], kinds=["syswrite", "waitbegin", "syswrite"])], [Operation(Sort.SHUT, 0, steps=[3], kinds=["closewrite"])]]  # fmt: skip
+    assert causes_of(goroutines, ["syswrite", "closewrite"]) == [
+        Cause(3, 1, 0, 0),
+        Cause(7, 0, 0, 0),
+        Cause(9, 0, 0, 2),
+    ]
+
+
+def test_all_due_waiters_have_checked() -> None:
+    """Socket 5 has checked. Therefore it now waits after socket 6, which came later."""
+    passing = Passing([[Order(9, 1, 9)], []], [], [Place(9), Place()])
+    passing.wait(1, NETWORK, 5, (0, 0))
+    passing.waiting[1].look_again((7, 3))
+    passing.wait(1, NETWORK, 6, (7, 2))
+    passing.settle()
+    assert passing.waiting[1].row() == [(NETWORK, 6), (NETWORK, 5)]
+
+
+# ---- the network and the clock
+
+
+def item(kind: str, *arguments: Any, timer: Any = None, number: int = 9) -> Item:
+    return Item(9.0, Event(number, kind, arguments, ("done",), timer), timer)
+
+
+OPENED: list[Step] = [("spawn",), ("sockopen", 4, 3), ("sockopen", 4, 3), ("pollopen", 0, 0), ("pollopen", 0, 1)]
+FULL: list[Step] = [("arrive", 1, b"abc")]
+WRITTEN: list[Step] = [("syswrite", 0, 1, b"ab")]
+TIMED: list[Step] = [("setdeadline", 0, 0, "r", 5), ("setdeadline", 0, 1, "rw", 6), ("setdeadline", 0, 0, "w", 9)]
+
+
+def begun(steps: list[Step], ordinals: list[int]) -> tuple[Others, Board, Numbers]:
+    """Socket 5 of the recording is the schedule's socket 1, and uses 0 and 1 are its descriptors 1 and 0."""
+    board, numbers = Board(Limits(4, 3, 3, 16), False), Numbers()
+    for step in (*OPENED, *steps):
+        board.step(step)
+    numbers.has_socket(5, 1)
+    numbers.descriptors, numbers.fdseqs = {0: 1, 1: 0}, {0: 1, 1: 1}
+    return Others(Script(Limits(4, 3, 3, 16), 20, [], {}, [], [], [5, 0], ordinals, [], [])), board, numbers
+
+
+@pytest.mark.parametrize(
+    ("action", "steps", "wanted"),
+    [
+        (item("spawn"), [], [("spawn",)]),
+        (item("sockopen", 8, 4), [], [("sockopen", 8, 4)]),
+        (item("tick", 6), [], [("tick", 6)]),
+        (item("tick", 6), [("tick", 6)], [("tick", 6)]),
+        (item("tick", 6), [("tick", 7)], []),
+        (item("arrive", 5, b"a"), FULL, [("arrive", 1, b"a")]),
+        (item("arrive", 5, b"ab"), FULL, None),  # there is no room yet
+        (item("arrive", 5, b"a"), [("peerclose", 1)], []),
+        (item("peerclose", 5), [], [("peerclose", 1)]),
+        (item("peerclose", 5), [("peerclose", 1)], []),
+        (item("drain", 5, 2), WRITTEN, [("drain", 1, 2)]),
+        (item("drain", 5, 1), WRITTEN, [("drain", 1, 1)]),
+        (item("drain", 5, 3), WRITTEN, None),  # 3 bytes haven't been written yet
+        (item("drain", 5, 2), [*WRITTEN, ("peerclose", 1)], [("drain", 1, 2)]),
+        (item("pollevent", 0, 1, "r", 0), [], [("pollevent", 1, 1, "r", 0)]),
+        (item("pollevent", 1, 4, "rw", 1), [], [("pollevent", 0, 4, "rw", 1)]),
+        (item("pop", timer=(0, "r")), [*TIMED, ("tick", 6)], [("pop",)] * 2),
+        (item("pop", timer=(1, "r")), [*TIMED, ("tick", 6)], [("pop",)]),
+        (item("pop", timer=(1, "w")), [*TIMED, ("tick", 8)], []),
+        (item("pop", timer=(1, "r")), [*TIMED, ("tick", 4)], []),
+        (item("fire", 0, timer=(0, "r")), [*TIMED, ("tick", 6), ("pop",), ("pop",)], [("fire", 1)]),
+        (item("fire", 0, timer=(0, "r")), [*TIMED, ("tick", 6), ("pop",)], []),
+    ],
+)  # fmt: skip
+def test_an_action_has_the_numbers_of_the_schedule(
+    action: Item, steps: list[Step], wanted: Optional[list[Step]]
+) -> None:
+    others, board, numbers = begun(steps, [0, 0])
+    assert others.steps_of(action, board, numbers) == wanted
+    for step in wanted or ():
+        board.step(step)  # (each applies)
+
+
+@pytest.mark.parametrize(("tag", "given"), [(3, 1), (4, 2), (2, 0), (1, 0)])
+def test_an_events_tag_is_as_far_from_its_descriptors(tag: int, given: int) -> None:
+    """In the recording, use 0 was its descriptor's third use. In the schedule, it is another descriptor's first use."""
+    others, board, numbers = begun([], [2, 0])
+    assert others.steps_of(item("pollevent", 0, tag, "r", 0), board, numbers) == [("pollevent", 1, given, "r", 0)]
+
+
+@pytest.mark.parametrize("action", [item("arrive", 6, b"a"), item("drain", 0, 1), item("pollevent", 2, 1, "r", 0)])
+def test_an_action_waits_for_its_object(action: Item) -> None:
+    others, board, numbers = begun([], [0, 0])
+    with pytest.raises(NotMade):
+        others.steps_of(action, board, numbers)
+
+
+def test_an_action_waits_for_room_only_so_often() -> None:
+    others, board, numbers = begun(FULL, [0, 0])
+    found = [others.steps_of(item("arrive", 5, b"ab"), board, numbers) for _ in range(MOST_TRIES + 1)]
+    assert found == [None] * (MOST_TRIES - 1) + [[], []]
+    assert others.steps_of(item("arrive", 5, b"ab", number=10), board, numbers) is None  # (each action by itself)
+
+
+@pytest.mark.parametrize(
+    ("steps", "left"),
+    [
+        ([], []),
+        ([("setdeadline", 0, 0, "r", 5)], []),
+        ([("setdeadline", 0, 0, "r", 5), ("tick", 5)], [("pop",)]),
+        ([("setdeadline", 0, 0, "r", 5), ("setdeadline", 0, 0, "w", 9), ("tick", 5)], [("pop",)]),
+        ([("setdeadline", 0, 0, "r", 5), ("tick", 5), ("pop",)], [("fire", 0)]),
+        ([("waitbegin", 1, 1, "r"), ("blockarm", 1), ("blockcheck", 1), ("parkcommit", 1)], []),
+        ([("waitbegin", 1, 1, "r"), ("blockarm", 1), ("blockcheck", 1), ("parkcommit", 1), ("arrive", 1, b"a")], [("pollevent", 1, 1, "r", 0)]),
+        ([("waitbegin", 1, 1, "r"), ("blockarm", 1), ("blockcheck", 1), ("parkcommit", 1), ("peerclose", 1)], [("pollevent", 1, 1, "r", 0)]),
+        ([("waitbegin", 1, 1, "r"), ("blockarm", 1), ("blockcheck", 1), ("parkcommit", 1), ("arrive", 0, b"a")], []),
+        ([("waitbegin", 1, 1, "w"), ("blockarm", 1), ("blockcheck", 1), ("parkcommit", 1), ("arrive", 1, b"a")], []),
+        ([("syswrite", 0, 1, b"a"), ("waitbegin", 1, 1, "w"), ("blockarm", 1), ("blockcheck", 1), ("parkcommit", 1), ("drain", 1, 1)], [("pollevent", 1, 1, "w", 0)]),
+        ([("waitbegin", 1, 1, "r"), ("blockarm", 1), ("arrive", 1, b"a")], []),
+    ],
+)  # fmt: skip
+def test_what_is_left_when_no_goroutine_continues(steps: list[Step], left: list[Step]) -> None:
+    others, board, numbers = begun([], [0, 0])
+    for step in steps:
+        board.step(step)
+        others.see(step, board)
+    assert list(others.left(board, numbers)) == left
+
+
+def test_an_event_reports_what_came_to_its_own_descriptor() -> None:
+    waits: list[Step] = [
+        ("arrive", 1, b"a"),
+        ("waitbegin", 1, 1, "r"),
+        ("blockarm", 1),
+        ("blockcheck", 1),
+        ("parkcommit", 1),
+    ]
+    for event, is_left in (((1, 1, "r"), False), ((1, 1, "w"), True), ((1, 7, "r"), True), ((0, 1, "r"), True)):
+        others, board, numbers = begun([], [0, 0])
+        for step in (waits[0], ("pollevent", *event, 0), *waits[1:]):
+            others.see(step, board)
+            if step[0] != "pollevent":
+                board.step(step)
+        assert bool(list(others.left(board, numbers))) == is_left, event
+
+
+@pytest.mark.parametrize(
+    ("steps", "other_steps", "is_alike"),
+    [
+        ([("arrive", 1, b"a")], [("arrive", 1, b"b")], True),
+        ([("arrive", 1, b"a")], [], False),
+        ([("arrive", 1, b"a")], [("peerclose", 1)], True),
+        ([("arrive", 1, b"a")], [("arrive", 0, b"a")], False),
+        ([("syswrite", 0, 1, b"ab"), ("drain", 1, 2)], [], False),
+        ([("syswrite", 0, 1, b"ab"), ("drain", 1, 2)], [("syswrite", 0, 0, b"ab"), ("drain", 0, 2)], False),
+        ([("syswrite", 0, 1, b"ab"), ("drain", 1, 2)], [("arrive", 1, b"a")], False),
+        ([("arrive", 1, b"a"), ("pollevent", 1, 1, "r", 0)], [], True),
+        ([("arrive", 1, b"a"), ("pollevent", 1, 1, "w", 0)], [], False),
+        ([("arrive", 1, b"a"), ("increfclose", 0, 1)], [], True),  # (no goroutine can wait for them)
+        ([("arrive", 1, b"a"), ("increfclose", 0, 0)], [], False),
+    ],
+)  # fmt: skip
+def test_what_no_event_has_reported_yet_is_compared(steps: list[Step], other_steps: list[Step], is_alike: bool) -> None:
+    made = []
+    for row in (steps, other_steps):
+        others, board, _ = begun([], [0, 0])
+        for step in row:
+            board.step(step)
+            others.see(step, board)
+        made.append(others)
+    one, other = made
+    assert one.is_as(other) == other.is_as(one) == is_alike
+    assert one.is_as(one.copy()) and one.is_the_same_as(one.copy())
+    assert one.is_the_same_as(other) == (one.fresh == other.fresh and one.closed == other.closed)
+    other.done(NETWORK, 0, item("arrive", 5, b"a"))
+    assert not one.is_as(other) and not one.is_the_same_as(other)
+
+
+@pytest.mark.parametrize(
+    ("step", "now", "wanted"),
+    [
+        (("pollreset", 1, 0, "r"), 0, [("tick", 5), ("pop",), ("fire", 0)]),
+        (("pollreset", 1, 0, "w"), 0, [("tick", 9), *[("pop",)] * 3, *[("fire", 0)] * 3]),
+        (("pollreset", 1, 1, "w"), 0, [("tick", 6), *[("pop",)] * 2, *[("fire", 0)] * 2]),
+        (("pollreset", 1, 0, "r"), 7, [("tick", 7), ("pop",), ("fire", 0)]),
+        (("waitbegin", 1, 0, "r"), 0, []),
+    ],
+)
+def test_a_deadline_passes(step: Step, now: int, wanted: list[Step]) -> None:
+    _, board, _ = begun([*TIMED, *([("tick", now)] if now else [])], [0, 0])
+    assert Others.passed(board, step) == wanted
+    for one in wanted:
+        board.step(one)
+    _, bare, _ = begun([("setdeadline", 0, 0 if step[2] else 1, "rw", 1)], [0, 0])
+    assert Others.passed(bare, step) == []  # (another descriptor's)
+
+
+# ---- the schedules
+
+
+def test_the_simplest_schedule_is_kept_with_the_first_place() -> None:
+    one, other = Best((1, 7), 5, 5, Schedule((Delay(1, 8),), 0)), Best((1, 4), 9, 9, Schedule((Delay(2, 6),), 0))
+    two = Best((2, 2), 3, 3, Schedule((Delay(1, 2), Delay(4, 5)), 1))
+    for first, second, kept in ((one, other, (9, 5)), (one, two, (5, 3)), (other, two, (9, 3))):
+        assert (first.with_other(second).at, first.with_other(second).first) == kept
+        assert first.with_other(second) == second.with_other(first)
+
+
+@pytest.mark.parametrize(
+    ("steps", "delays"),
+    [
+        (READS + sets(-1), [Delay(6, 10)]),  # the reset waits until the deadline in the past
+        (READS + sets(0), []),  # a deadline that is removed fails no call
+        (READS + sets(5), []),
+        (sets(-1) + [["incref", 0, 0], ["setdeadline", 0, 0, "r", 0], ["decref", 0, 0]] + READS, []),
+        (READS + [["incref", 1, 0], ["setdeadline", 1, 0, "r", -1], ["decref", 1, 0]], []),  # (its own)
+        (READS + [["incref", 0, 0], ["setdeadline", 0, 0, "w", -1], ["decref", 0, 0]], []),  # (the other side's)
+        (READS + sets(-1) + sets(-1), [Delay(6, 10)]),
+        (sets(5) + READS, []),
+        (sets(5) + READS + READS, [Delay(14, 17)]),  # until the deadline that was set for an earlier call has passed
+        (sets(5) + READS + sets(5) + READS, []),
+        (sets(5) + READS + READS + CLOSES, [Delay(13, 17), Delay(14, 21), Delay(8, 17)]),
+        (READS + CLOSES, [Delay(5, 9)]),
+        (READS + [["increfclose", 1, 0], ["evict", 1, 0], ["decref", 1, 0], ["pollclose", 1, 0]], []),
+    ],
+)
+def test_the_delays_in_which_a_call_may_fail(steps: Steps, delays: list[Delay]) -> None:
+    script = script_of(recording_of(OPEN + steps))
+    script.watched = watched(script)
+    assert failing_delays(script) == delays
+
+
+def made_of(numbers: list[int], time: int) -> list[Made]:
+    """The steps of a schedule, by their numbers in the recording: step 5 sets a deadline at this time."""
+    return [Made(("setdeadline", 0, 0, "r", time) if one == 5 else ("tick", one), ("done",), one) for one in numbers]
+
+
+@pytest.mark.parametrize(
+    ("why", "numbers", "time", "reason", "stays"),
+    [
+        (Why.TIMED_OUT, [1, 5, 11, 0], 5, Reason(2, 1), (2, 3, 4)),
+        (Why.TIMED_OUT, [1, 5, 7, 11, 9, 0], 5, Reason(2, 1), (2, 4, 6)),
+        (Why.TIMED_OUT, [1, 11, 5, 7, 0], 5, None, ()),  # (no call ended under that deadline)
+        (Why.TIMED_OUT, [1, 5, 11, 16, 0], 5, Reason(2, 2), (2, 4, 5)),
+        (Why.TIMED_OUT, [1, 5, 11, 0, 16], 5, Reason(2, 1), (2, 3, 4)),
+        (Why.TIMED_OUT, [5, 11, 0], 5, Reason(1, 1), (1, 2, 3)),
+        (Why.TIMED_OUT, [1, 5, 11, 0], -1, Reason(2, 0), (2, 4)),
+        (Why.TIMED_OUT, [1, 5, 11, 0], 0, Reason(2, 0), (2, 4)),
+        (Why.TIMED_OUT, [1, 2, 11, 0], 5, None, ()),
+        (Why.CLOSED, [1, 5, 17, 11, 0], 5, Reason(3, 0), (3, 5)),
+        (Why.CLOSED, [1, 5, 11, 0], 5, None, ()),
+        (Why.BROKEN, [1, 5, 11, 0], 5, Reason(4, 0), (4,)),
+    ],
+)  # fmt: skip
+def test_why_a_call_fails(
+    why: Why, numbers: list[int], time: int, reason: Optional[Reason], stays: tuple[int, ...]
+) -> None:
+    """The calls end at steps 11 and 16, and step 17 closes the socket. The step with number 0 fails."""
+    script = script_of(recording_of(OPEN + sets(5) + READS + READS + CLOSES))
+    script.watched = watched(script)
+    assert {number for row in ends_of(script).values() for number in row} == {11, 16}
+    failed = Failed(1, 4, numbers.index(0) + 1, why)
+    steps = made_of(numbers, time)
+    assert reason_of(script, failed, steps) == reason
+    if reason:
+        assert stays_of(script, failed, reason, steps) == stays
+
+
+@pytest.mark.parametrize(
+    ("operation", "ended"),
+    [(0, None), (1, 8), (2, 8), (3, None)],
+)
+def test_the_deadline_that_ended_a_call(operation: int, ended: Optional[int]) -> None:
+    """Step 5 sets the deadline of the other side, and step 8 that of this one, which ends the wait; step 17 comes later."""
+    other: Steps = [["incref", 0, 0], ["setdeadline", 0, 0, "w", -1], ["decref", 0, 0]]
+    steps = (
+        OPEN + other + sets(-1) + [["rwlock", 1, 0, "r"], ["pollreset", 1, 0, "r"], ["rwunlock", 1, 0, "r"]] + sets(-1)
+    )
+    script = script_of(recording_of(steps))
+    assert [one.sort for one in script.goroutines[1]] == [Sort.LOCK, Sort.RESET, Sort.WAIT, Sort.UNLOCK]
+    assert ended_by(script, 1, Place(operation)) == ended
+    assert ended_by(script, 0, Place(0)) is None
+
+
+def test_a_process_reports_all_that_it_found() -> None:
+    recording = recording_of(OPEN + sets(5) + READS + READS)
+    script = script_of(recording)
+    whole = Exploring(script, recording.lines.words)
+    whole.run(30, lambda: None)
+    out = io.BytesIO()
+    tell_of(Share(script, recording.lines, 30, 0, 1), out)
+    data, told = out.getvalue(), list[Told]()
+    while data:
+        size = int.from_bytes(data[:LENGTH], "big")
+        told.append(pickle.loads(data[LENGTH : LENGTH + size]))
+        data = data[LENGTH + size :]
+    assert [one.is_all for one in told] == [*[False] * (len(told) - 1), True]
+    assert sum(one.played for one in told) == whole.played > 0
+    assert sum((Counter(one.times) for one in told), Counter()) == whole.times
+    assert {key for one in told for key in one.best} == set(whole.found)
+
+
+def test_a_run_ends_before_a_time_or_after_so_many_steps() -> None:
+    script = script_of(
+        recording_of(OPEN + READ + PARK + COMES + [["blockswap", 1], ["sysread", 1, 0, 16], ["rwunlock", 1, 0, "r"]])
+    )
+    for until in range(1, script.length + 2):
+        player = Player(script)
+        player.run(until, 1_000)
+        assert [made.number for made in player.steps] == list(range(1, until))
+        few = Player(script)
+        few.run(NEVER, until)
+        assert [made.number for made in few.steps] == list(range(1, min(until, script.length) + 1))
+        again = player.copy(())
+        again.run(NEVER, until + 2)
+        assert [made.number for made in again.steps] == list(range(until, script.length + 1))[:3]
+
+
+def test_an_actor_that_has_done_everything_has_no_next_action() -> None:
+    script = script_of(recording_of(OPEN + COMES + [["tick", 3]]))
+    others = Others(script)
+    assert list(others.beginnings()) == [(CLOCK, 0, 6.0), (2, 0, 1.0), (NETWORK, 0, 4.0)]
+    for kind in ("arrive", "pollevent"):
+        action = others.next(NETWORK, 0)
+        assert action and action.event.kind == kind
+        others.done(NETWORK, 0, action)
+    assert others.next(NETWORK, 0) is None
+    assert others.told == {5} and others.next(CLOCK, 0) is not None
+
+
+def test_goroutines_that_are_not_known_make_sockets() -> None:
+    """Socket 1 never gets a descriptor, so no goroutine is known to have made it."""
+    opens: Steps = [["sockopen", 8, 8], ["sockopen", 4, 4], ["pollopen", 1, 2], ["incref", 1, 2], ["decref", 1, 2]]
+    script = script_of(
+        recording_of(OPEN + opens + [["arrive", 1, "61"], ["pollevent", 1, 1, "r", 0], ["drain", 2, 0]][:2])
+    )
+    assert [(item.due, item.event.kind) for item in script.made] == [(1, "spawn"), (4, "sockopen")]
+    assert [(one.sort, one.socket) for one in script.goroutines[0]] == [(Sort.MAKE, 0), (Sort.OPEN, 0)]
+    assert [(one.sort, one.socket) for one in script.goroutines[1][:2]] == [(Sort.MAKE, 2), (Sort.OPEN, 2)]
+    assert {s: [item.event.kind for item in row] for s, row in script.network.items()} == {
+        1: ["arrive"],
+        2: ["pollevent"],
+    }
+    assert (script.sockets, script.ordinals, script.length) == ([0, 2], [0, 0], 10)

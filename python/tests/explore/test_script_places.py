@@ -1,0 +1,209 @@
+"""Where a goroutine continues in its script after each answer, and the step that it makes next."""
+
+import pytest
+
+from netrev.explore.scripts.board import Board
+from netrev.explore.scripts.control import (
+    NEVER,
+    NotMade,
+    Numbers,
+    Place,
+    Stream,
+    behind,
+    is_about,
+    next_number,
+    next_step,
+)
+from netrev.explore.scripts.making import script_of
+from netrev.explore.scripts.scripts import Operation
+from netrev.run.flow import Sort
+from netrev.text.contents import Answer, Limits, Step
+from tests.suspects.test_suspects import COMES, OPEN, READ, Steps, recording_of
+
+FAILED = 7  # the operation with which a failed call continues
+LOCKS = Operation(Sort.LOCK, 0, side="r", on_failure=FAILED)
+READS = Operation(Sort.READ, 0, 0, "r", (2, 4), on_failure=FAILED)
+WRITES = Operation(Sort.WRITE, 0, 0, "w", (b"abcd",), moved=[4], on_failure=FAILED)
+WAITS = Operation(Sort.WAIT, 0, 0, "r", on_failure=FAILED)
+# no try is recorded after the second wait
+UNREAD = Operation(
+    Sort.READ, 0, 0, "r", (2,), kinds=["waitbegin", "sysread", "waitbegin"], on_failure=FAILED, ends_unread=True
+)
+GIVES_UP, DESTROYS = Operation(Sort.GIVE_UP, 0), Operation(Sort.DESTROY, 0, 0)
+AT = Place(3)
+NEXT = Place(4)
+
+
+@pytest.mark.parametrize(
+    ("operation", "before", "kind", "answer", "status", "after"),
+    [
+        (LOCKS, AT, "rwlock", ("yes",), "idle", NEXT),
+        (LOCKS, AT, "rwlock", ("wait",), "acquiring", AT),
+        (LOCKS, AT, "rwlock", ("no",), "idle", Place(FAILED)),
+        (READS, AT, "sysread", ("got", 1), "idle", NEXT),  # fewer bytes than asked for
+        (READS, AT, "sysread", ("got", 2), "idle", AT._replace(tries=1)),
+        (READS, AT._replace(tries=1), "sysread", ("got", 4), "idle", NEXT),
+        (READS, AT._replace(tries=1), "sysread", ("got", 2), "idle", NEXT),
+        (READS, AT, "sysread", ("eof",), "idle", Place(FAILED)),
+        (READS, AT._replace(tries=1), "sysread", ("again",), "idle", AT._replace(tries=1, is_waiting=True)),
+        (WRITES, AT, "syswrite", ("put", 4), "idle", NEXT),
+        (WRITES, AT, "syswrite", ("put", 3), "idle", AT._replace(tries=3)),
+        (WRITES, AT._replace(tries=1, waits=2), "syswrite", ("put", 2), "idle", AT._replace(tries=3)),
+        (WRITES, AT._replace(tries=3, waits=2), "syswrite", ("put", 1), "idle", NEXT),
+        (WRITES, AT._replace(tries=3), "syswrite", ("pipe",), "idle", Place(FAILED)),
+        (READS, AT._replace(is_waiting=True), "waitbegin", ("code", 0), "entering", AT._replace(is_waiting=True, waits=1)),
+        (READS, AT._replace(is_waiting=True, waits=1), "waitbegin", ("code", 2), "idle", Place(FAILED)),
+        (READS, AT._replace(is_waiting=True, tries=1, waits=2), "waitcheck", ("code", 0), "entering", AT._replace(is_waiting=True, tries=1, waits=2)),
+        (READS, AT._replace(is_waiting=True, tries=1, waits=2), "blockswap", ("yes",), "idle", AT._replace(tries=1, waits=2)),
+        (UNREAD, AT._replace(is_waiting=True, waits=1), "blockswap", ("yes",), "idle", AT._replace(waits=1)),
+        (UNREAD, AT._replace(is_waiting=True, waits=2), "blockswap", ("yes",), "idle", Place(FAILED)),
+        (UNREAD, AT._replace(is_waiting=True, waits=3), "blockswap", ("yes",), "idle", Place(FAILED)),
+        (WAITS, AT._replace(is_waiting=True, waits=1), "blockarm", ("code", 0), "idle", NEXT),
+        (GIVES_UP, AT, "decref", ("done",), "idle", NEXT),
+        (GIVES_UP, AT, "decref", ("done",), "owing", AT),
+        (GIVES_UP, AT._replace(destroys=0), "decref", ("last",), "idle", AT._replace(destroys=0)),
+        (GIVES_UP, AT._replace(destroys=0), "pollclose", ("done",), "idle", NEXT),
+        (DESTROYS, AT, "pollclose", ("done",), "idle", NEXT),
+    ],
+)  # fmt: skip
+def test_a_goroutine_continues_as_the_answer_says(
+    operation: Operation, before: Place, kind: str, answer: Answer, status: str, after: Place
+) -> None:
+    stream = Stream(operation) if operation.sort is Sort.WRITE else None
+    assert behind(before, operation, kind, answer, status, stream) == after
+
+
+@pytest.mark.parametrize(
+    ("place", "turn", "data"),
+    [
+        (0, 0, b"abc"),
+        (0, 1, b"abc"),
+        (2, 0, b"cdef"),
+        (2, 1, b"cd"),
+        (2, 2, b"cd"),
+        (1, 0, b"b"),
+        (3, 0, b"def"),
+        (5, 1, b"f"),
+    ],
+)
+def test_a_write_goes_on_at_each_byte(place: int, turn: int, data: bytes) -> None:
+    """The recorded tries moved 2 bytes, none, and 1 byte; after that, the rest was tried."""
+    writes = Operation(Sort.WRITE, 0, 0, "w", (b"abc", b"cdef", b"cd", b"def"), moved=[2, 0, 1, 3])
+    assert Stream(writes).at(place, turn) == data
+
+
+def test_a_write_that_moved_nothing_still_has_its_bytes() -> None:
+    assert Stream(Operation(Sort.WRITE, 0, 0, "w", (b"abc",), moved=[0])).bytes == b"abc"
+    assert Stream(Operation(Sort.WRITE, 0, 0, "w", (b"abc", b"c"), moved=[2, 0])).bytes == b"abc"
+    assert Stream(Operation(Sort.WRITE, 0, 0, "w", (b"\0\0",))).bytes == b"\0\0"  # (not in the recording)
+
+
+def board_of(*steps: Step) -> Board:
+    board = Board(Limits(4, 3, 3, 16), False)
+    for step in (("spawn",), ("sockopen", 16, 16), ("sockopen", 16, 16), ("pollopen", 0, 1), *steps):
+        board.step(step)
+    return board
+
+
+def numbers_of() -> Numbers:
+    """Socket 5 of the recording is the schedule's socket 1, and uses 3 and 0 are its descriptors 0 and 2."""
+    numbers = Numbers()
+    numbers.has_socket(5, 1)
+    numbers.descriptors.update({3: 0, 0: 2})
+    return numbers
+
+
+@pytest.mark.parametrize(
+    ("operation", "place", "steps", "wanted"),
+    [
+        (Operation(Sort.LOCK, 5, side="r"), Place(), [], ("rwlock", 1, 1, "r")),
+        (Operation(Sort.RESET, 5, 3, "r"), Place(), [], ("pollreset", 1, 0, "r")),
+        (Operation(Sort.READ, 5, 3, "r", (2, 4)), Place(), [], ("sysread", 1, 1, 2)),
+        (Operation(Sort.READ, 5, 3, "r", (2, 4)), Place(tries=1), [], ("sysread", 1, 1, 4)),
+        (Operation(Sort.READ, 5, 3, "r", (2, 4)), Place(is_waiting=True), [], ("waitbegin", 1, 0, "r")),
+        (Operation(Sort.WRITE, 5, 3, "w", (b"ab",), moved=[2]), Place(tries=1), [], ("syswrite", 1, 1, b"b")),
+        (Operation(Sort.WAIT, 5, 3, "w"), Place(), [], ("waitbegin", 1, 0, "w")),
+        (Operation(Sort.SET, 5, 3, "rw", (9,)), Place(), [], ("setdeadline", 1, 0, "rw", 9)),
+        (Operation(Sort.EXIT, -1), Place(), [], ("exit", 1)),
+        (Operation(Sort.MAKE, 8, values=(16, 4)), Place(), [], ("sockopen", 16, 4)),
+        (Operation(Sort.GIVE_UP, 5), Place(destroys=3), [], ("pollclose", 1, 0)),
+        (Operation(Sort.GIVE_UP, 5), Place(destroys=0), [], ("pollclose", 1, 2)),
+        (Operation(Sort.READ, 5, 3, "r", (2,)), Place(is_waiting=True), [("waitbegin", 1, 0, "r")], ("blockarm", 1)),
+    ],
+)  # fmt: skip
+def test_the_next_step_names_the_objects_of_the_schedule(
+    operation: Operation, place: Place, steps: list[Step], wanted: Step
+) -> None:
+    board, numbers = board_of(*steps), numbers_of()
+    stream = Stream(operation) if operation.sort is Sort.WRITE else None
+    assert next_step(board, numbers, 1, place, operation, stream) == wanted
+
+
+@pytest.mark.parametrize("operation", [Operation(Sort.LOCK, 6, side="r"), Operation(Sort.RESET, 5, 4, "r")])
+def test_a_step_waits_for_its_object(operation: Operation) -> None:
+    with pytest.raises(NotMade):
+        next_step(board_of(), numbers_of(), 1, Place(), operation, None)
+
+
+def test_what_a_step_is_about() -> None:
+    read = Operation(Sort.READ, 5, 3, "r", (2,))
+    assert is_about(("idle",), Place(), read) == (True, 5)
+    assert is_about(("idle",), Place(is_waiting=True), read) == (False, 3)
+    assert is_about(("armed", 0, "r"), Place(is_waiting=True), read) is None
+    assert is_about(("idle",), Place(), Operation(Sort.EXIT, -1)) is None
+
+
+def test_the_next_recorded_step() -> None:
+    operations = [Operation(Sort.LOCK, 0, steps=[3]), Operation(Sort.RESET, 0), Operation(Sort.READ, 0, steps=[8, 9])]
+    places = (Place(), Place(0, 1), Place(1), Place(2), Place(2, 1), Place(2, 2), Place(3))
+    assert [next_number(operations, place) for place in places] == [3, 8, 8, 8, 9, NEVER, NEVER]
+
+
+READY: Steps = [["pollevent", 0, 1, "rw", 0]]
+PARKS: Steps = [
+    ["waitbegin", 1, 0, "r"],
+    ["blockarm", 1],
+    ["blockcheck", 1],
+    ["parkcommit", 1],
+    *COMES,
+    ["blockswap", 1],
+]
+BYTES: Steps = [["arrive", 0, "61626364"]]
+UNLOCKS: Steps = [["rwunlock", 1, 0, "r"]]
+
+
+def read(count: int) -> Steps:
+    return [["sysread", 1, 0, count]]
+
+
+@pytest.mark.parametrize(
+    ("steps", "wanted"),
+    [
+        (READ + PARKS + read(16) + UNLOCKS, "LOCK RESET READ:7 UNLOCK"),
+        (READ + PARKS + UNLOCKS, "LOCK RESET READ:6 UNLOCK"),
+        (READ + READY + [["waitbegin", 1, 0, "w"], ["blockarm", 1]] + UNLOCKS, "LOCK RESET READ:1 WAIT:2 UNLOCK"),  # (of the other side)
+        (READ + READY + [["waitbegin", 1, 0, "r"], ["blockarm", 1]] + UNLOCKS, "LOCK RESET READ:3 UNLOCK"),
+        (READ[:2] + READY + [["waitbegin", 1, 0, "r"], ["blockarm", 1]] + UNLOCKS, "LOCK RESET WAIT:2 UNLOCK"),
+        (BYTES + READ[:2] + read(2) + read(2) + UNLOCKS, "LOCK RESET READ:2 UNLOCK"),  # (the first read got as many bytes as it asked for)
+        (BYTES + READ[:2] + read(5) + read(2) + UNLOCKS, "LOCK RESET READ:1 READ:1 UNLOCK"),
+        (BYTES + READ[:2] + read(4) + read(1) + UNLOCKS, "LOCK RESET READ:2 UNLOCK"),
+        (BYTES + READ[:2] + read(3) + UNLOCKS + READ[:2] + read(1) + UNLOCKS, "LOCK RESET READ:1 UNLOCK LOCK RESET READ:1 UNLOCK"),
+        ([["peerclose", 0]] + READ[:2] + read(3) + read(3) + UNLOCKS, "LOCK RESET READ:1 READ:1 UNLOCK"),
+        ([["rwlock", 1, 0, "w"], ["pollreset", 1, 0, "w"], ["syswrite", 1, 0, "61"], ["syswrite", 1, 0, "62"], ["rwunlock", 1, 0, "w"]], "LOCK RESET WRITE:2 UNLOCK"),
+        ([["increfclose", 0, 0], ["rwlock", 1, 0, "r"]], "LOCK RESET:0 WAIT:0 UNLOCK:0"),
+        (READ[:2] + read(3) + UNLOCKS + [["increfclose", 0, 0], ["rwlock", 1, 0, "r"]], "LOCK RESET READ:1 UNLOCK LOCK RESET:0 READ:0 UNLOCK:0"),
+        ([["increfclose", 0, 0], ["incref", 1, 0]], "REFER GIVE_UP:0"),
+        ([["increfclose", 0, 0], ["increfclose", 1, 0]], "CLOSE EVICT:0 GIVE_UP:0"),
+        ([["incref", 1, 0], ["decref", 1, 0]], "REFER GIVE_UP"),
+        ([["incref", 1, 0], ["increfclose", 0, 0], ["evict", 0, 0], ["decref", 0, 0], ["decref", 1, 0], ["pollclose", 1, 0]], "REFER GIVE_UP:2"),
+        ([["rwlock", 0, 0, "r"], ["rwlock", 1, 0, "r"], ["acquire", 1], ["rwunlock", 0, 0, "r"], ["release", 0], ["acquire", 1], ["rwlock", 1, 0, "r"], *UNLOCKS], "LOCK:4 UNLOCK"),
+    ],
+)  # fmt: skip
+def test_a_goroutines_steps_are_divided_into_operations(steps: Steps, wanted: str) -> None:
+    """Each operation of goroutine 1 with the number of its steps; 0 for one that the recording doesn't show, because the call failed."""
+    (_, operations) = script_of(recording_of(OPEN + steps)).goroutines
+    assert all(len(one.steps) == len(one.kinds) for one in operations)
+    counts = [(one.sort.name, len(one.steps)) for one in operations]
+    assert counts == [(name, int(count or 1)) for name, _, count in (word.partition(":") for word in wanted.split())]
+    numbers = [number for one in operations for number in one.steps]
+    assert numbers == sorted(numbers) and len(set(numbers)) == len(numbers)

@@ -1,0 +1,100 @@
+"""What `explore`, `reduce` and `report` find in some recordings, and all that they write: checksums
+are stored, because the texts are long. The model answers instead of netrev.
+
+    /usr/bin/python3 python tests.explore.test_stored_searches              stores new checksums
+    /usr/bin/python3 python tests.explore.test_stored_searches NAME ..      prints all for a recording, to compare it with an earlier text"""
+
+import hashlib
+import json
+import os
+import re
+import sys
+import tempfile
+from collections.abc import Iterator
+from contextlib import ExitStack, contextmanager
+from pathlib import Path
+from unittest import mock
+
+import pytest
+
+from netrev.machine.observer import Observer
+from netrev.model.program import printed
+from netrev.system.interrupts import Interrupts
+from tests.session.test_stored_views import ROOT, session_of
+from tests.support.modelled import Modelled, recording_at
+
+STORED = Path(__file__).with_name("searches.json")
+RACES = sorted(path.stem for path in (ROOT / "examples/races").glob("*.jsonl"))
+NAMES = (
+    "examples/stale-deadline", "examples/leaked-reference", "examples/real/lost", "python/tests/caused/hub-bad", "python/tests/caused/expired-bad",
+    *(f"examples/races/{name}" for name in RACES),
+)  # fmt: skip
+LINES = (
+    "explore 120", "explore failures 60", "reduce out.jsonl", "report out.md", "reduce cell.jsonl lock 0 8", "report held.md lock 0 *", "report out.md 2",
+    "explore 0", "reduce", "reduce out.jsonl 99", "report x.md lock 99 8",
+)  # fmt: skip
+ANSWERED = ("exploring.commands", "reducing.writing", "reducing.reduced", "reducing.report", "reducing.hang_report")
+
+
+def answered_by(_: str, command: str, data: bytes) -> tuple[int, bytes]:
+    """The model's exit status and output."""
+    said = printed(command, data, b"", Observer())
+    assert said
+    return said.status, said.output
+
+
+def own(_: str, path: str, interrupts: Interrupts) -> Modelled:
+    return Modelled(recording_at(Path(path)), interrupts, lambda _: None)
+
+
+@contextmanager
+def modelled() -> Iterator[None]:
+    """In this context, the model answers instead of netrev, and one process runs the schedules."""
+    with ExitStack() as patched:
+        for module in ANSWERED:
+            patched.enter_context(mock.patch(f"nrdb.{module}.answered_by", answered_by))
+        patched.enter_context(mock.patch("netrev.reduce.report.Own", own))
+        patched.enter_context(mock.patch("netrev.explore.commands.processors", lambda: 1))
+        yield
+
+
+def texts_of(name: str) -> dict[str, str]:
+    """The answer to each line, and the files that the line writes."""
+    session, printer = session_of(name)
+    session.text().lines.written = float("inf")  # (a clone's files are newer than the recording)
+    printer.take()
+    before, found = os.getcwd(), {}
+    with tempfile.TemporaryDirectory() as folder, modelled():
+        os.chdir(folder)
+        try:
+            for line in LINES:
+                session.attempt(line)
+                said = re.sub(r"\b\d+(?:\.\d+)? (?:s|ms)\b", "some time", printer.take())
+                written = "".join(f"{path.name}:\n{path.read_text()}" for path in sorted(Path().iterdir()))
+                for path in Path().iterdir():
+                    path.unlink()
+                found[line] = f"> {line}\n{said}{written}"
+        finally:
+            os.chdir(before)
+    return found
+
+
+def sums_of(name: str) -> dict[str, str]:
+    return {line: hashlib.sha256(text.encode()).hexdigest()[:12] for line, text in texts_of(name).items()}
+
+
+@pytest.mark.parametrize("name", NAMES)
+def test_what_is_found_is_what_the_sums_are_of(name: str) -> None:
+    assert sums_of(name) == json.loads(STORED.read_text())[name]
+
+
+def main(words: list[str]) -> None:
+    for word in words:
+        print("\n".join(texts_of(word).values()))
+    if not words:
+        lines = (f"{json.dumps(name)}: {json.dumps(sums_of(name))}" for name in NAMES)
+        STORED.write_text("{\n" + ",\n".join(lines) + "\n}\n")
+
+
+if __name__ == "__main__":
+    main(sys.argv[1:])

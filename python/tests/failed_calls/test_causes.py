@@ -1,0 +1,299 @@
+"""The first output for programs that failed, in recordings of tools/go/samples/causes and oversights (made by
+tests.trials.go_caused): it has the line of the bug. Each rule about calls finds its bug, and finds nothing in a similar
+correct program."""
+
+import contextlib
+import json
+import os
+import re
+import unittest
+from pathlib import Path
+from typing import Any, Iterator, NamedTuple
+from unittest.mock import patch
+
+from dev.fuzz.generators.injections import Traffic
+from netrev.findings.causes import errors_table, first_words
+from netrev.findings.causes.failing import cause_of
+from netrev.findings.causes.tables import hangs_table
+from netrev.findings.evidence.index import index_of
+from netrev.findings.evidence.words import duration
+from netrev.findings.source.source import behind
+from netrev.findings.streams.unpassed_ends import SETTLED
+from netrev.findings.suspects.loading import RULES_OF_CALLS
+from netrev.findings.suspects.ranking import all_suspects_of
+from netrev.findings.suspects.rules_of_calls.left_open import SINCE
+from netrev.findings.suspects.rules_of_calls.timeout_again import MANY
+from netrev.recording.recording import Recording
+from netrev.recording.where import Lines
+from tests.suspects.test_suspects import OPEN, Steps, recording_of
+from tests.trials.go_caused import NAMES, SOURCE, bug_line, source_of
+
+CAUSED = Path(__file__).parents[1] / "caused"
+ALL = [name for names in NAMES.values() for name in names]
+WITHOUT_A_LINE = ("body",)  # (no goroutine is at the line where a Close is missing)
+TWO_ENDS: Steps = [*OPEN, ["sockopen", 16, 16], ["pollopen", 0, 1]]
+SETS: Steps = [["incref", 0, 0], ["setdeadline", 0, 0, "r", 5], ["decref", 0, 0]]
+PASSES: Steps = [["tick", 9], ["pop"], ["fire", 0]]
+GETS: Steps = [["arrive", 0, "6869"], ["rwlock", 1, 0, "r"], ["pollreset", 1, 0, "r"], ["sysread", 1, 0, 16]]
+UNLOCKS: Steps = [["rwunlock", 1, 0, "r"]]
+LATE: Steps = [["rwlock", 1, 0, "r"], ["pollreset", 1, 0, "r"], *UNLOCKS]
+FILLS = "00" * 16
+WAITS: Steps = [["rwlock", 1, 1, "r"], ["pollreset", 1, 1, "r"], ["sysread", 1, 1, 16], ["waitbegin", 1, 1, "r"]]
+READS_ON: Steps = [*WAITS, ["blockarm", 1], ["blockcheck", 1], ["parkcommit", 1]]
+
+
+def writes(g: int) -> Steps:
+    """A goroutine fills the output of the socket with its own number, and parks for room."""
+    put = [["rwlock", g, g, "w"], ["pollreset", g, g, "w"], ["syswrite", g, g, FILLS], ["syswrite", g, g, "00"]]
+    return [*put, ["waitbegin", g, g, "w"], ["blockarm", g], ["blockcheck", g], ["parkcommit", g]]
+
+
+CLOSES_IT: Steps = [["increfclose", 0, 0], ["evict", 0, 0], ["decref", 0, 0], ["pollclose", 0, 0]]
+CLOSES: Steps = [["increfclose", 0, 1], ["evict", 0, 1], ["decref", 0, 1], ["pollclose", 0, 1]]
+SECOND: Steps = [["arrive", 0, "6869"], ["rwlock", 0, 0, "r"], ["pollreset", 0, 0, "r"], ["sysread", 0, 0, 16]]
+TAKES_TURN: Steps = [["rwlock", 0, 0, "r"], ["acquire", 0], *UNLOCKS, ["release", 1], ["acquire", 0], *SECOND]
+
+
+class Pair(NamedTuple):
+    """Steps with a bug, and some similar steps without it."""
+
+    bad: Steps
+    good: Steps
+
+
+DEADLINE: Steps = [["incref", 1, 0], ["setdeadline", 1, 0, "r", 5], ["decref", 1, 0]]
+REST: Steps = [
+    ["rwlock", 1, 0, "r"],
+    ["pollreset", 1, 0, "r"],
+    ["sysread", 1, 0, 14],
+    ["waitbegin", 1, 0, "r"],
+    ["blockarm", 1],
+]
+GIVES_UP: Steps = [*REST, ["blockcheck", 1], ["parkcommit", 1], *PASSES, ["blockswap", 1], ["waitcheck", 1], *UNLOCKS]
+PARTLY: Steps = [
+    *OPEN,
+    *DEADLINE,
+    *GETS,
+    *UNLOCKS,
+    *GIVES_UP,
+    ["incref", 1, 0],
+    ["setdeadline", 1, 0, "r", 0],
+    ["decref", 1, 0],
+]
+
+
+def asks(count: int) -> Steps:
+    """A Read that asks for this many bytes and gets two."""
+    return [["arrive", 0, "6869"], ["rwlock", 1, 0, "r"], ["pollreset", 1, 0, "r"], ["sysread", 1, 0, count], *UNLOCKS]
+
+
+READER: Steps = [["rwlock", 0, 1, "r"], ["pollreset", 0, 1, "r"], ["sysread", 0, 1, 16], ["waitbegin", 0, 1, "r"]]
+THREE: Steps = [
+    *TWO_ENDS,
+    ["sockopen", 16, 16],
+    ["pollopen", 0, 2],
+    *READER,
+    ["blockarm", 0],
+    ["blockcheck", 0],
+    ["parkcommit", 0],
+]
+TAKES: Steps = [["rwlock", 1, 2, "r"], ["pollreset", 1, 2, "r"], ["sysread", 1, 2, 16], ["rwunlock", 1, 2, "r"]]
+PUTS: Steps = [["rwlock", 1, 0, "w"], ["pollreset", 1, 0, "w"], ["syswrite", 1, 0, "6869"], ["rwunlock", 1, 0, "w"]]
+RELAYS: Steps = [*THREE, ["arrive", 2, "6869"], *TAKES, *PUTS, ["peerclose", 2], *TAKES]
+SHUTS: Steps = [["incref", 1, 0], ["closewrite", 1, 0], ["decref", 1, 0]]
+TICKS: Steps = [["tick", time] for time in range(1, SETTLED + 1)]
+PAIRS = {
+    "end not passed on": Pair(RELAYS + TICKS, RELAYS + SHUTS + TICKS),
+    "bytes thrown away": Pair(PARTLY + asks(16), PARTLY + asks(14)),
+    "timeout again and again": Pair(OPEN + SETS + PASSES + LATE * MANY, OPEN + SETS + PASSES + LATE * (MANY - 1)),
+    "both ends write": Pair(TWO_ENDS + writes(0) + writes(1), TWO_ENDS + writes(0) + writes(1)[:-1]),
+    "left open": Pair(
+        TWO_ENDS + GETS + UNLOCKS + CLOSES + [["tick", time] for time in range(1, SINCE + 6)],
+        TWO_ENDS + GETS + CLOSES + [["tick", time] for time in range(1, SINCE + 6)],
+    ),
+    "two readers": Pair(
+        TWO_ENDS + GETS + TAKES_TURN + [["rwunlock", 0, 0, "r"]],
+        TWO_ENDS + GETS + UNLOCKS + SECOND + [["rwunlock", 0, 0, "r"]],
+    ),
+}
+
+
+def with_lines(steps: Steps, of: str = "program") -> Recording:
+    """A recording of these steps, all of which have the source line of the same call. Sockets 0 and 1 are the ends of
+    one connection."""
+    recording = recording_of(steps)
+    told: list[Any] = [
+        {"where": 1, "steps": len(steps)},
+        {"call": 1, "function": "main.main", "file": "a.go", "line": 1, "of": of},
+        {"stack": 1, "calls": [1]},
+        {"step": 1, "stacks": [1] * len(steps)},
+        {"peers": [[0, 1]]},
+    ]
+    recording.lines = Lines("\n".join(map(json.dumps, told)), len(steps))
+    assert recording.lines and not recording.lines.fault, recording.lines.fault
+    return recording
+
+
+def rules_of(recording: Recording) -> list[object]:
+    return [one.rule for one in all_suspects_of(recording).suspects if one.is_shown]
+
+
+@contextlib.contextmanager
+def in_the_folder_of_the_source(source: Path = SOURCE) -> Iterator[None]:
+    here = os.getcwd()
+    os.chdir(source.parent)
+    try:
+        yield
+    finally:
+        os.chdir(here)
+
+
+class Causes(unittest.TestCase):
+    def test_the_line_of_each_bug_is_said_first(self) -> None:
+        for name in ALL:
+            recording = Recording.read(str(CAUSED / f"{name}-bad.jsonl"))
+            recording.lines.written = float("inf")  # (a clone's files are newer than the recording)
+            with self.subTest(name), in_the_folder_of_the_source(source_of(name)):
+                told = "\n".join(first_words(recording, name))
+                self.assertEqual(re.search(rf"{bug_line(name)}\b", told) is not None, name not in WITHOUT_A_LINE, told)
+
+    def test_good_runs_have_no_suspect(self) -> None:
+        for name in ALL:
+            with self.subTest(name):
+                self.assertEqual(rules_of(Recording.read(str(CAUSED / f"{name}-good.jsonl"))), [])
+
+    def test_what_is_said_of_a_timeout(self) -> None:
+        told = first_words(Recording.read(str(CAUSED / "pool-bad.jsonl")), "pool.jsonl")
+        self.assertRegex(
+            told[0], r"cause:  Read at main.go:\d+ in ask, called at main.go:\d+ \(goroutine 0\) ended with a timeout\."
+        )
+        self.assertRegex(
+            told[1],
+            r" Its deadline was set at main.go:\d+ in pool.func1, called at main.go:\d+ \(goroutine 0, step \d+\), 80 ms ahead; 1 Read went",
+        )
+        self.assertRegex(told[-1], r"next:   \S*nrdb pool.jsonl -ex 'goto \d+' -ex 'history rd 1'")
+
+    def test_calls_that_wait_for_one_another(self) -> None:
+        recording = Recording.read(str(CAUSED / "both-bad.jsonl"))
+        rows = hangs_table(recording, recording.length).rows
+        self.assertEqual(rows[0].text, "Deadlock: two calls wait for one another.")
+        self.assertEqual(rules_of(recording), ["both ends write"])
+        self.assertEqual(hangs_table(recording, 10).rows, [])
+
+    def test_who_reads_what_another_writes_is_in_no_ring(self) -> None:
+        recording = with_lines(TWO_ENDS + writes(0) + READS_ON)
+        told = "\n".join(row.text for row in hangs_table(recording, recording.length).rows)
+        self.assertIn("There Write at a.go:1 in main (goroutine 0) is itself under way", told)
+        self.assertNotIn("wait for one another", told)
+        self.assertEqual(rules_of(recording), [])
+
+    def test_a_write_needs_room_also_where_its_reader_has_shut_its_own_writing(self) -> None:
+        told = "\n".join(first_words(Recording.read(str(CAUSED / "unread-bad.jsonl")), "unread"))
+        self.assertRegex(told, r"Write at main.go:\d+ in unread.func1 .* waits on socket 3")
+        self.assertIn("Socket 3 has no room: its other end, socket 2, was never read.", told)
+        self.assertNotIn("closed for writing", told)
+
+    def test_pieces_of_two_messages_that_are_mixed(self) -> None:
+        told = "\n".join(first_words(Recording.read(str(CAUSED / "writers-bad.jsonl")), "writers"))
+        self.assertRegex(
+            told, r"Perhaps: writes of two goroutines are mixed at socket \d\.\n +Write at main.go:\d+ in writers.func1"
+        )
+        self.assertEqual(first_words(Recording.read(str(CAUSED / "writers-good.jsonl")), "writers"), [])
+
+    def test_a_wait_that_go_ended_itself_is_no_failed_call(self) -> None:
+        recording = Recording.read(str(CAUSED / "body-good.jsonl"))
+        table = errors_table(recording, recording.length, None)
+        self.assertEqual([row for row in table.rows if "timed out" in row.text], [])
+        self.assertIn("waits of Go's own code, which it ended itself", table.rest)
+
+    def test_a_broken_connection_is_told_by_its_other_end(self) -> None:
+        recording = Recording.read(str(CAUSED / "body-bad.jsonl"))
+        table = errors_table(recording, recording.length, None)
+        self.assertIn("ECONNRESET", table.rows[0].text)
+        self.assertRegex(table.rows[1].text, r"The other end, socket 2, was closed in net/http")
+
+    def test_of_calls_that_fail_alike_one_cause_is_looked_for(self) -> None:
+        """A program that spins on a closed descriptor has a failed call for each step."""
+        recording = with_lines([*OPEN, *CLOSES_IT, *[["rwlock", 1, 0, "r"]] * 500])
+        with patch("netrev.findings.causes.first.cause_of", wraps=cause_of) as looks:
+            told = first_words(recording, "spin")
+        self.assertEqual(looks.call_count, 1)
+        self.assertIn("499 more like it.", told[2])
+
+    def test_the_source_is_shown_to_the_end_of_its_function(self) -> None:
+        self.assertEqual(behind(["func f() {", "\tx()", "}", "", "y"], 2), [(2, "    x()")])
+
+    def test_under_a_deadline_are_the_calls_that_ended_since_it_was_set(self) -> None:
+        found = 0
+        for seed in range(5):
+            index = index_of(Recording(Traffic(seed, None, 800).run().text()))
+            for call in index.book.calls:
+                same_side = [one for one in index.by_socket[call.socket] if one.name == call.name]
+                under = [one for one in same_side if call.cause < one.last <= call.first]
+                self.assertEqual(index.under_its_deadline(call), under)
+                found += bool(call.cause and under)
+        self.assertGreater(found, 0)
+
+    def test_times_are_in_the_largest_unit(self) -> None:
+        self.assertEqual(
+            [duration(time) for time in (0, 999, 1500, 999_499_999, 999_999_900, 90 * 10**9)],
+            ["0 ns", "999 ns", "1.5 µs", "999 ms", "1 s", "90 s"],
+        )
+
+
+class Rules(unittest.TestCase):
+    def test_each_finds_its_bug_and_not_what_is_nearly_that(self) -> None:
+        self.assertEqual(set(PAIRS), {rule.name for rule in RULES_OF_CALLS})
+        for rule, pair in PAIRS.items():
+            with self.subTest(rule):
+                self.assertIn(rule, rules_of(with_lines(pair.bad)))
+                self.assertNotIn(rule, rules_of(with_lines(pair.good)))
+
+    def test_those_of_lines_and_of_other_ends_say_nothing_without(self) -> None:
+        for rule in {rule.name for rule in RULES_OF_CALLS} - {"timeout again and again", "bytes thrown away"}:
+            self.assertNotIn(rule, rules_of(recording_of(PAIRS[rule].bad)), rule)
+
+    def test_an_end_that_was_not_passed_on_is_said_first(self) -> None:
+        recording = with_lines(PAIRS["end not passed on"].bad)
+        told = first_words(recording, "a.jsonl")
+        self.assertRegex(
+            told[0],
+            r"cause:  The end of a stream isn't passed on: Read at a.go:1 in main \(goroutine 1\) met it on socket 2",
+        )
+        self.assertIn("waits for it at the other end, socket 1", told[1])
+
+    def test_a_relay_that_has_not_written_all_or_reads_elsewhere_is_none(self) -> None:
+        for steps in (
+            [
+                *THREE,
+                *PUTS,
+                ["arrive", 2, "6869"],
+                *TAKES,
+                ["peerclose", 2],
+                *TAKES,
+                *TICKS,
+            ],  # (its last line isn't passed on)
+            [*RELAYS, *TICKS[:-1]],  # (it may still close)
+            [*RELAYS, *PUTS, *TICKS],
+        ):
+            self.assertNotIn("end not passed on", rules_of(with_lines(steps)))
+
+    def test_a_timeout_by_a_deadline_under_which_calls_went_well_is_no_suspect(self) -> None:
+        """The text about the failed call has the line that set the deadline and the number of calls that succeeded
+        before the deadline passed."""
+        for name in ("forgotten", "pool"):
+            recording = Recording.read(str(CAUSED / f"{name}-bad.jsonl"))
+            self.assertEqual(all_suspects_of(recording).suspects, [])
+            told = "\n".join(first_words(recording, name))
+            self.assertRegex(
+                told, rf"Its deadline was set at {bug_line(name)} in .*; 1 (Read|Write) went well under it"
+            )
+
+    def test_go_s_own_code_is_not_suspected(self) -> None:
+        for rule in {rule.name for rule in RULES_OF_CALLS} - {"both ends write"}:
+            self.assertNotIn(rule, rules_of(with_lines(PAIRS[rule].bad, "go")), rule)
+
+    def test_they_come_after_the_others_and_say_perhaps(self) -> None:
+        for rule in ("left open", "two readers"):
+            found = all_suspects_of(with_lines(PAIRS[rule].bad)).suspects
+            self.assertTrue(found[-1].sentence().startswith("perhaps: "), rule)

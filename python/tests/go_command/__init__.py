@@ -1,0 +1,1 @@
+"""Tests of netrev-go's command."""

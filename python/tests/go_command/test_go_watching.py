@@ -1,0 +1,211 @@
+"""Calls that have waited long, found in the tables of a log; and a log that is copied while it is written. No program is needed."""
+
+import argparse
+import io
+import os
+import pathlib
+import struct
+import subprocess
+import sys
+import tempfile
+import time
+import unittest
+from unittest import mock
+
+from dev.fuzz.generators.logs import binary
+from netrev_go.go_command.running import log_of_process
+from netrev_go.go_command.toolchain import Trouble
+from netrev_go.log.lines import OF_GO, OF_THE_PROGRAM, Call, Calls
+from netrev_go.log.logfile import HEADER_BYTES, Header, copy_of, log_of, read_log
+from netrev_go.log.notes import ARMED, PARKED
+from netrev_go.log.points import Kind, Point
+from netrev_go.log.times import seconds
+from netrev_go.options import check, of_a_process, parser
+from netrev_go.steps.converting import program_of
+from netrev_go.watching import LOCKS, READS, WRITES, Waiting, Watch, waiting_in
+
+ROWS, QUEUE = 4, 2
+COPIED = 17  # the word of the header that marks a copy
+WORD = 0xC000012340
+Side = tuple[int, int, int, int]  # place, goroutine, stack and begin
+NOBODY: Side = (0, 0, 0, 0)
+OWN = Call("main.ask", "main.go", 7, OF_THE_PROGRAM)
+READ_OF_GO = Call("internal/poll.(*FD).Read", "internal/poll/fd_unix.go", 170, OF_GO)
+ACCEPT_OF_GO = READ_OF_GO._replace(function="internal/poll.(*FD).Accept")
+
+
+def row(word: int, reading: Side = NOBODY, writing: Side = NOBODY) -> bytes:
+    return struct.pack("<16Q", 1, word, *reading, *writing, *(0,) * 6)
+
+
+def log_with(rows: list[bytes], queue: list[tuple[int, ...]] = [], points: list[Point] = []) -> bytes:
+    """A log with these tables."""
+    text = bytearray(binary(points, room=16))
+    begin = Header(bytes(text)).ring
+    struct.pack_into("<2Q", text, 15 * 8, ROWS, QUEUE)
+    tables = b"".join(rows).ljust(ROWS * 128, b"\0")
+    tables += b"".join(struct.pack("<8Q", *one, 0, 0, 0) for one in queue).ljust(QUEUE * 64, b"\0")
+    return bytes(text[:begin]) + tables + bytes(text[begin:])
+
+
+def waits(text: bytes) -> list[Waiting]:
+    return list(waiting_in(io.BytesIO(text), Header(text)))
+
+
+class Tables(unittest.TestCase):
+    def test_who_waits(self) -> None:
+        rows = [row(WORD, (PARKED, 41, 3, 900)), row(WORD + 64, NOBODY, (PARKED, 42, 0, 800))]
+        found = waits(log_with(rows, [(WORD + 8, 1, 43, 4, 700), (WORD + 12, 2, 44, 5, 600)]))
+        self.assertEqual(found, [
+            Waiting(41, READS, 3, 900, WORD), Waiting(42, WRITES, 0, 800, WORD + 64), Waiting(43, LOCKS, 4, 700, WORD), Waiting(44, LOCKS, 5, 600, WORD),
+        ])  # fmt: skip
+
+    def test_one_that_has_not_parked_or_whose_socket_is_gone_does_not(self) -> None:
+        self.assertEqual(waits(log_with([row(WORD, (ARMED, 41, 3, 900)), row(0, (PARKED, 42, 3, 900))])), [])
+
+    def test_logs_of_before_have_no_such_tables(self) -> None:
+        self.assertEqual(waits(binary([], room=16)), [])
+
+    def test_the_ring_comes_behind_them(self) -> None:
+        points = [Point(number, Kind.INIT, 1, WORD, 0, 0, 0, 5, 0) for number in range(3)]
+        text = log_with([row(WORD, (PARKED, 41, 3, 900))], [], points)
+        self.assertEqual(log_of(io.BytesIO(text)).points, points)
+
+
+class Stuck(unittest.TestCase):
+    def stuck(self, rows: list[bytes], calls: dict[int, Calls], only_writes: bool = False) -> int:
+        """The goroutine whose call has waited for a second, or 0."""
+        text = log_with(rows)
+        watch = Watch(pathlib.Path("log.1"), io.BytesIO(text), Header(text), None)
+        with mock.patch.object(watch, "calls", calls.get):
+            found = watch.stuck(1.0, only_writes)
+        return found.goroutine if found else 0
+
+    def test_the_one_that_has_waited_longest(self) -> None:
+        now = time.clock_gettime_ns(time.CLOCK_MONOTONIC)
+        second = 10**9
+        own, accept, of_go = (
+            Calls((READ_OF_GO, OWN), None),
+            Calls((ACCEPT_OF_GO, OWN), None),
+            Calls((READ_OF_GO,), None),
+        )
+        calls = {1: own, 2: accept, 3: of_go}
+
+        def reads(stack: int, since: int) -> bytes:
+            return row(WORD, (PARKED, 40 + stack, stack, now - since * second))
+
+        def writes(stack: int, since: int) -> bytes:
+            return row(WORD, NOBODY, (PARKED, 50 + stack, stack, now - since * second))
+
+        for rows, only_writes, expected in (
+            ([reads(1, 2), writes(1, 3)], False, 51),
+            ([reads(1, 3), writes(1, 2)], False, 41),
+            ([reads(1, 3), writes(1, 2)], True, 51),
+            ([reads(1, 0)], False, 0),
+            ([reads(2, 3)], False, 0),
+            ([reads(3, 3)], False, 0),
+            ([writes(3, 3)], False, 53),
+            ([reads(4, 3)], False, 0),  # its line is unknown
+            ([writes(4, 3)], False, 54),
+        ):
+            self.assertEqual(self.stuck(rows, calls, only_writes), expected)
+
+    def test_what_is_said_of_it(self) -> None:
+        text = log_with([])
+        watch = Watch(pathlib.Path("log.1"), io.BytesIO(text), Header(text), None)
+        since = time.clock_gettime_ns(time.CLOCK_MONOTONIC) - 2 * 10**9
+        with mock.patch.object(watch, "calls", lambda _: Calls((READ_OF_GO, OWN), None)):
+            said = watch.words(Waiting(41, READS, 1, since, WORD))
+        self.assertRegex(said, r"^main\.go:7: internal/poll\.\(\*FD\)\.Read waits to read since 2\.\d s \(goid 41\)$")
+
+
+class Words(unittest.TestCase):
+    def test_times(self) -> None:
+        for text, expected in (("5s", 5.0), ("500ms", 0.5), ("2m", 120.0), ("1.5h", 5_400.0), ("7", 7.0)):
+            self.assertEqual(seconds(text), expected)
+        for text in ("", "0s", "-1s", "5 s", "s", "1d", "1e9s", "٣s"):
+            with self.assertRaises(argparse.ArgumentTypeError):
+                seconds(text)
+
+    def test_options_may_follow_the_process(self) -> None:
+        for words in (["watch", "7", "--stuck", "2s", "--writes"], ["--stuck", "2s", "--writes", "watch", "7"]):
+            options = parser().parse_args(words)
+            check(options)
+            of_a_process(options)
+            self.assertEqual((options.pid, options.stuck, options.writes), (7, 2.0, True))
+
+    def test_a_process_has_a_number(self) -> None:
+        for words in (["snapshot"], ["snapshot", "x"], ["snapshot", "7", "8"], ["snapshot", "7", "--stuck", "2s"]):
+            with self.assertRaises(SystemExit), mock.patch("sys.stderr", io.StringIO()):
+                of_a_process(parser().parse_args(words))
+
+
+# A program that makes its log a moment after its start, and writes the header a moment later.
+LATE = """
+import mmap, os, sys, time
+time.sleep(0.1)
+with open(f"{sys.argv[1]}.{os.getpid()}", "w+b") as file:
+    file.truncate(4096)
+    log = mmap.mmap(file.fileno(), 4096)
+time.sleep(0.1)
+log[0] = 1
+time.sleep(60)
+"""
+
+
+class Processes(unittest.TestCase):
+    def started(self, *words: str) -> int:
+        """A process that ends with the test."""
+        process = subprocess.Popen([sys.executable, "-c", *words])
+        self.addCleanup(process.wait)
+        self.addCleanup(process.kill)
+        return process.pid
+
+    @mock.patch("netrev_go.go_command.running.STARTING", 30.0)
+    def test_one_that_was_just_started_is_waited_for(self) -> None:
+        with tempfile.TemporaryDirectory() as folder:
+            process = self.started(LATE, f"{folder}/log")
+            log = log_of_process(process)
+            self.assertEqual((log, log.read_bytes()[:1]), (pathlib.Path(folder, f"log.{process}"), b"\1"))
+
+    def test_one_without_a_log_has_to_be_built_for_it(self) -> None:
+        with self.assertRaisesRegex(
+            Trouble, "writes no log: build it with `.*netrev-go build` and start it with NETREV_LOG=PATH"
+        ):
+            log_of_process(self.started("import time; time.sleep(60)"))
+
+    def test_one_that_has_ended_cannot_be_looked_at(self) -> None:
+        ended = subprocess.Popen(["true"])
+        ended.wait()
+        with self.assertRaisesRegex(Trouble, "can't read which files process [0-9]+ has mapped: No such file"):
+            log_of_process(ended.pid)
+
+
+class Copies(unittest.TestCase):
+    def test_a_copy_has_all_that_the_log_has(self) -> None:
+        points = [Point(number, Kind.INIT, 1, WORD, 0, 0, 0, 5, 0) for number in range(40)]
+        with tempfile.TemporaryDirectory() as folder:
+            log = pathlib.Path(folder, "log.1")
+            log.write_bytes(log_with([row(WORD)], [], points))
+            self.assertEqual(read_log(log, True).points, points[24:])
+            self.assertEqual(read_log(log).points, points[24:])
+            with log.open("rb") as file:
+                self.assertEqual(copy_of(file).read(), log.read_bytes())
+
+    def test_points_that_were_replaced_while_it_was_copied_are_no_damage(self) -> None:
+        points = [Point(number, Kind.INIT, 1, WORD, 0, 0, 0, 5, 0) for number in range(200)]
+        text = bytearray(binary(points, room=100))
+        struct.pack_into("<Q", text, 8, 195)  # the number of points when the copy began
+        for is_written, is_copy, damaged in ((True, 0, False), (False, 0, True), (False, 1, False)):
+            struct.pack_into("<Q", text, COPIED * 8, is_copy)
+            log = log_of(io.BytesIO(bytes(text)), is_written)
+            self.assertEqual([point.number for point in log.points], list(range(100, 195)))
+            self.assertEqual(any("left out" in note for note in log.notes), damaged)
+
+    def test_a_copy_that_the_program_made_lies_beside_the_program_too(self) -> None:
+        for name in ("log.7", "log.7.2", "log.7.snapshot", "log.7.2.snapshot"):
+            self.assertEqual(program_of(pathlib.Path("a", name), "1.2"), pathlib.Path("a/log.program.1.2"))
+
+
+if __name__ == "__main__":
+    unittest.main()

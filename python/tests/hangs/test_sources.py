@@ -1,0 +1,62 @@
+"""Hangs that the source explains, in recordings of tools/go/samples/sizes and sources (made by tests.trials.go_caused): the first cause names the
+line with the reason, and no cause of a good run does."""
+
+from pathlib import Path
+
+import pytest
+
+from netrev.findings.causes.first import first_words
+from netrev.recording.recording import Recording
+from tests.failed_calls.test_causes import in_the_folder_of_the_source
+from tests.trials.go_caused import NAMES, SIZES, SOURCES, bug_line
+
+from .test_needs import stored
+
+SAYS = {
+    "datagram": "Read at {bug} in resolve, called at",
+    "frame": "Perhaps that is the length that {bug} wrote, which main.go:",
+    "held": "Perhaps what {bug} wrote is held back",
+    "alone": "Its request, made at {bug}, has no context: it doesn't end when ctx, which main.go:",
+    "ordered": "Goroutine 0 waits at {bug} in (*board).closeLate",
+    "departed": "which waits at {bug} in (*club).tell",
+    "oneOnly": "Perhaps {bug} in (*table).joinOne should wake all",
+    "reentered": "holds it, locked at {bug}.",
+    "unreturned": "Perhaps they kept it on this way: {bug} returns without main.go:",
+    "outlasted": "in a function that takes r.Context() at {bug}: net/http ends that context as the handler returns.",
+    "unpushed": "Perhaps what {bug} writes is still in a buffer",
+    "crowded": "that channel, made at {bug}, has room for 2 values, and net/rpc drops a call that is done while it is full.",
+    "mistaken": "in a.waiting under id; {bug} under id puts entries there, and main.go:",
+    "turnedAway": "has ended, from whose loop {bug} leads.",
+    "mixed": "Perhaps bytes that were read before are lost: {bug} made a reader with a buffer",
+    "spins": "the break at {bug} leaves a select or a switch alone.",
+    "unheard": "{bug} puts a value there only if somebody waits or there is room, and else goes on (default)",
+    "signalled": "Perhaps {bug} in (*office).collectForOne woke another one: the loop at main.go:",
+    "seated": "Perhaps (*hall).enter keeps it on this way: {bug} returns without main.go:",
+    "partly": "Read at {bug} in load, called at main.go:",
+}
+MORE = {
+    "datagram": "read it into a buffer of 16 bytes",
+    "frame": "It is the length of text, and small was written.",
+    "held": "and nothing was written to socket",
+    "ordered": "closes b.stop later, at main.go:",
+    "departed": "The goroutine that took values there has ended.",
+    "outlasted": "wasn't sent: its context had ended before.",
+    "mixed": "doesn't read from that. The other end has written nothing since.",
+    "partly": "were never read",
+}
+
+
+def causes_of(recording: Recording, source: Path) -> list[str]:
+    """The causes of a recording of one of the programs, each with its tree."""
+    recording.lines.written = float("inf")
+    with in_the_folder_of_the_source(source):
+        return "\n".join(first_words(recording, "sources")).split("\ncause:")
+
+
+@pytest.mark.parametrize("source,name", [(source, name) for source in (SIZES, SOURCES) for name in NAMES[source]])
+def test_the_first_cause_has_the_reason(source: Path, name: str) -> None:
+    reason = SAYS[name].format(bug=bug_line(name))
+    first = causes_of(stored(f"{name}-bad"), source)[0]
+    assert reason in first and MORE.get(name, "") in first
+    good = "\n".join(causes_of(stored(f"{name}-good"), source))
+    assert reason not in good and (name not in MORE or MORE[name] not in good)

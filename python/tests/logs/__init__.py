@@ -1,0 +1,1 @@
+"""Tests of logs and of the recordings that are made from them."""

@@ -1,0 +1,200 @@
+"""A stored log with each kind of point (of go_recorded.go) becomes the stored recording, NAME.where and report: whole,
+and in randomly chosen parts, of which only checksums are stored. Logs of random programs are tested in the same way.
+Neither Go nor netrev is needed.
+
+    /usr/bin/python3 python tests.logs.test_go_stored             stores all new results
+    /usr/bin/python3 python tests.logs.test_go_stored PART ..     prints what is made from parts, such as log-7 or program-7"""
+
+import hashlib
+import json
+import random
+import sys
+import tempfile
+from collections.abc import Iterator
+from contextlib import contextmanager
+from dataclasses import dataclass, replace
+from pathlib import Path
+from unittest import mock
+
+import pytest
+from dev.fuzz.generators.random_logs import log_of, program_of
+from netrev_go.go_command.toolchain import Go
+from netrev_go.log.lines import Roots, lines_of
+from netrev_go.log.points import Holder, Kind, Log, Point, Stack
+from netrev_go.log.ran import Ran, Tests
+from netrev_go.steps import converting, report
+from netrev_go.steps.converting import ReadLog, Wish, converted
+from netrev_go.steps.making import Nothing, make
+
+HERE = Path(__file__).parent
+LOG = HERE / "go_recorded.log"
+STORED, SUMS = HERE / "go_stored.txt", HERE / "go_stored.json"
+LOGS, PROGRAMS = 120, 100  # the number of random parts of each kind
+SOURCES = Path("/usr/lib/go-1.27/src")
+Symbols = dict[int, tuple[str, str, int]]
+
+
+def stored_log() -> tuple[Log, Symbols]:
+    """The log, and the lines of addresses."""
+    log, symbols = Log([], has_orders=True, holders=[]), Symbols()
+    assert log.holders is not None
+    for line in map(json.loads, LOG.read_text().splitlines()):
+        if isinstance(line, list):
+            log.points.append(Point(*line))
+        elif "stack" in line:
+            log.stacks[line["stack"]] = Stack(line["made"], line["started"], tuple(line["calls"]))
+        elif "address" in line:
+            symbols[line["address"]] = (line["function"], line["file"], line["line"])
+        elif "mutex" in line:
+            log.holders.append(Holder(line["mutex"], line["goroutine"], line["reads"], line["passed"], line["of"]))
+        else:
+            log.begin, log.text = line["begin"], line["text"]
+    return log, symbols
+
+
+@dataclass
+class Drawn:
+    """A part of the log, and the options for its conversion."""
+
+    log: Log
+    wish: Wish
+    test: Ran | None
+    tests: Tests
+    has_lines: bool
+
+
+def drawn(log: Log, number: int) -> Drawn:
+    """A part of the log: number 0 is all of it."""
+    dice, points = random.Random(number), log.points
+    if not number:
+        return Drawn(log, Wish(words=True), None, Tests(), True)
+    if number % 2:
+        first = dice.choice((0, 0, dice.randrange(len(points)), dice.randrange(len(points) // 3)))
+        points = points[first : dice.choice((len(points), dice.randrange(first + 1, len(points) + 1)))]
+    if number % 5 == 0:
+        left_out = dice.choice([*{point.goroutine for point in points}])
+        points = [point for point in points if point.goroutine != left_out or not left_out]
+    if number % 7 == 0:
+        points = [point._replace(time=0) for point in points]
+    if number % 6 == 0:
+        points = [point for point in points if dice.random() > 0.01]
+    kinds = {point.kind for point in points}
+    part = replace(
+        log,
+        points=points,
+        from_the_start=bool(points) and points[0].number == 0,
+        has_orders=number % 9 > 0 and Kind.PARKS in kinds,
+    )
+    part.holders = None if number % 4 == 3 else [one for one in log.holders or () if dice.random() < 0.8]
+    sockets, megabytes = dice.choice((1, 2, 3, 5, 9, 256)), dice.choice((1, 1_024))
+    wish = Wish(
+        sockets,
+        megabytes,
+        dice.random() < 0.2,
+        dice.random() < 0.5,
+        dice.random() < 0.5,
+        dice.choice((0, points[0].at if points else 0)),
+    )
+    tests, test = Tests(), None
+    if number % 3 == 0:
+        begun = sorted(dice.sample(range(len(log.points)), 4))
+        names, goroutines = ("TestA", "TestA/part", "TestB"), [
+            point.goroutine for point in points if point.goroutine
+        ] or [1]
+        for name, began in zip(names, begun):
+            ended = dice.choice((None, began + 100, began + 300))
+            tests.ran.append(Ran("example.org/p", name, dice.choice(goroutines), began, 10**6 * began, ended=ended))
+        test = dice.choice((None, *tests.ran))
+    return Drawn(part, wish, test, tests, dice.random() < 0.8)
+
+
+@contextmanager
+def looked_up(symbols: Symbols) -> Iterator[None]:
+    """In this context, lines come from the symbols, and netrev is missing."""
+
+    def found(log: Log, used: set[int], *_: object) -> dict[int, converting.Calls]:
+        with mock.patch("netrev_go.log.lines.shift", return_value=0), mock.patch(
+            "netrev_go.log.lines.looked_up", return_value=symbols
+        ):
+            return lines_of(log, used, Path("none"), ["go"], Roots(SOURCES, Path("/samples")))
+
+    with mock.patch.object(converting, "lines_of", found), mock.patch.object(
+        converting, "line_reader", lambda _: ["go"]
+    ):
+        with mock.patch.object(report, "netrev_program", lambda: None), mock.patch.object(
+            report, "how_to_get_netrev", str
+        ):
+            yield
+
+
+def made_of(drawn_part: Drawn, symbols: Symbols) -> str:
+    """Everything that is made from a part: the files and the report."""
+    one = drawn_part
+    with tempfile.TemporaryDirectory() as name, looked_up(symbols):
+        folder = Path(name)
+        go = Go("go", SOURCES.parent, "go1.27.3", "linux/amd64", "") if one.has_lines else None
+        outcome = converted(ReadLog(Path("log.1"), one.log, one.tests), folder / "made.jsonl", go, one.wish, one.test)
+        files = "".join(f"{path.name}:\n{path.read_text()}" for path in sorted(folder.iterdir()))
+        said = "\n".join(outcome.lines).replace(f"{folder}/", "")
+    return f"taken {outcome.taken}, empty {outcome.is_empty}\n{said}\n{files}"
+
+
+def of_program(number: int) -> str:
+    """The files that are made from a random program's log, without the answers, which other tests compare."""
+    try:
+        made = make(log_of(program_of(str(number))), most=2 + number % 3, all_bytes=number % 2 == 0)
+    except Nothing as fault:
+        return str(fault)
+    beside, everybody = made.beside, made.everybody
+    parts = (
+        made.lines,
+        made.stacks,
+        made.notes,
+        made.times,
+        made.made,
+        made.ended,
+        made.words,
+        made.olds,
+        made.numbers,
+        made.taken,
+    )
+    more = made.header, made.goroutines, made.sockets, made.bytes, made.prelude, made.has_tags, made.last_steps
+    return "\n".join(map(str, (*more, *parts, beside.sizes, beside.errors, everybody.parks, everybody.held)))
+
+
+def text_of(part: str) -> str:
+    """Everything that is made from the part with this name."""
+    sort, _, number = part.partition("-")
+    if sort == "program":
+        return of_program(int(number))
+    log, symbols = stored_log()
+    return made_of(drawn(log, int(number)), symbols)
+
+
+def sum_of(part: str) -> str:
+    return hashlib.sha256(text_of(part).encode()).hexdigest()[:16]
+
+
+def parts() -> list[str]:
+    return [*(f"log-{number}" for number in range(1, LOGS + 1)), *(f"program-{number}" for number in range(PROGRAMS))]
+
+
+def test_the_whole_log_becomes_what_is_stored() -> None:
+    assert text_of("log-0").splitlines() == STORED.read_text().splitlines()
+
+
+@pytest.mark.parametrize("part", parts())
+def test_a_part_becomes_what_is_stored(part: str) -> None:
+    assert sum_of(part) == json.loads(SUMS.read_text())[part]
+
+
+def main(words: list[str]) -> None:
+    for word in words:
+        print(text_of(word))
+    if not words:
+        STORED.write_text(text_of("log-0"))
+        SUMS.write_text(json.dumps({part: sum_of(part) for part in parts()}, indent=0) + "\n")
+
+
+if __name__ == "__main__":
+    main(sys.argv[1:])

@@ -1,0 +1,126 @@
+"""Waits outside the poller: points of the recorder become waits in NAME.where, and the text about a hanging call names
+them."""
+
+import json
+import unittest
+from typing import Any
+
+from netrev.findings.causes.tables import hangs_table
+from netrev.recording.goroutines import A_SLEEP
+from netrev.recording.waits import Name, Waiting, of_names
+from netrev.recording.where import Lines, Stack
+from netrev_go.log.goroutines import SLEEP, goroutines_of
+from netrev_go.log.points import Kind, Point
+from netrev_go.log.waits import Wait, waits_of
+from tests.failed_calls.test_causes import TWO_ENDS, with_lines, writes
+from tests.suspects.test_suspects import Steps
+
+
+def point(number: int, kind: Kind, goroutine: int, a: int = 0, stack: int = 0) -> Point:
+    return Point(number, kind, goroutine, 0, a, 0, 0, 0, stack)
+
+
+def waits(*points: Point) -> list[Wait]:
+    """The waits from these points, in NAME.where's form for the recording's goroutines."""
+    return waits_of(goroutines_of(points, STEPS, 0), NUMBERS)
+
+
+NUMBERS = {17: 0, 18: 1}  # the recording's number for each goroutine, by Go's number
+STEPS = [(0, 17, 4), (3, 18, 5), (3, 18, 6)]
+
+
+class Points(unittest.TestCase):
+    def test_a_wait_that_ends_is_kept_where_a_step_is_in_it(self) -> None:
+        parks, goes_on = point(1, Kind.PARKS, 17, 1, 9), point(5, Kind.GOES_ON, 17)
+        readies = point(4, Kind.READY, 18, 17)
+        points = [point(0, Kind.READ, 17), parks, point(3, Kind.READ, 18), readies, goes_on]
+        self.assertEqual(waits(*points), [Wait(4, 6, 0, "a value from a channel", 9, 1)])
+        self.assertEqual(waits(points[0], parks, point(2, Kind.GOES_ON, 17), points[2]), [])
+
+    def test_one_that_does_not_end_is_kept(self) -> None:
+        points = [point(0, Kind.READ, 17), point(1, Kind.PARKS, 17, 3, 9)]
+        self.assertEqual(waits(*points), [Wait(4, 0, 0, "a select", 9, -1)])
+
+    def test_they_have_the_order_of_their_ends(self) -> None:
+        parks = [point(1, Kind.PARKS, 17, 3, 9), point(2, Kind.PARKS, 18, 3, 8)]
+        goes_on = [point(6, Kind.GOES_ON, 18), point(7, Kind.GOES_ON, 17)]
+        self.assertEqual([wait.stack for wait in waits(*parks, *goes_on)], [8, 9])
+        self.assertEqual([wait.stack for wait in waits(*parks, *goes_on[:1])], [8, 9])
+
+    def test_a_sleep_is_none_of_these(self) -> None:
+        self.assertEqual(waits(point(1, Kind.PARKS, 17, SLEEP)), [])
+
+    def test_a_goroutine_that_the_recording_has_not_is_left_out(self) -> None:
+        self.assertEqual(waits(point(1, Kind.PARKS, 99)), [])
+
+
+def hung(extra: list[dict[str, Any]], steps: Steps) -> str:
+    """The output of `info hangs` at the end of these steps, with further lines of NAME.where."""
+    recording = with_lines(steps)
+    told = [
+        {"where": 1, "steps": len(steps)},
+        {"call": 1, "function": "main.main", "file": "a.go", "line": 1, "of": "program"},
+        {"call": 2, "function": "sync.(*Mutex).lockSlow", "file": "sync/mutex.go", "line": 7, "of": "go"},
+        {"call": 3, "function": "main.(*pool).take", "file": "a.go", "line": 44, "of": "program"},
+        {"stack": 1, "calls": [1]},
+        {"stack": 2, "calls": [3]},
+        {"stack": 3, "calls": [2, 3]},
+        {"step": 1, "stacks": [1] * len(steps)},
+        {"peers": [[0, 1]]},
+        *extra,
+    ]
+    recording.lines = Lines("\n".join(map(json.dumps, told)), len(steps))
+    assert not recording.lines.fault, recording.lines.fault
+    return "\n".join(row.text for row in hangs_table(recording, recording.length).rows)
+
+
+class Hangs(unittest.TestCase):
+    READ: Steps = [["arrive", 1, "6869"], ["rwlock", 1, 1, "r"], ["pollreset", 1, 1, "r"], ["sysread", 1, 1, 16]]
+    STEPS: Steps = [*TWO_ENDS, *READ, ["rwunlock", 1, 1, "r"], *writes(0)]
+
+    def test_who_could_wake_a_call_and_waits_for_a_channel(self) -> None:
+        told = hung([{"waits": [[9, 0, 1, "a value from a channel", 2, -1]]}], self.STEPS)
+        self.assertIn(
+            "Goroutine 0 waits for goroutine 1, which waits at a.go:44 in (*pool).take for a value from a channel since step 9.",
+            told,
+        )
+        self.assertIn(
+            "- Write at a.go:1 in main (goroutine 0) on socket 0; goroutine 1 read at the other end last", told
+        )
+
+    def test_a_mutex_is_known_by_the_stack(self) -> None:
+        self.assertIn("for a mutex since step 9", hung([{"waits": [[9, 0, 1, "", 3, -1]]}], self.STEPS))
+
+    def test_without_it_nothing_is_said_of_that(self) -> None:
+        told = hung([], self.STEPS)
+        self.assertIn("since step 10 it is in no call of a socket", told)
+        self.assertNotIn("wait for", told)
+
+    def test_a_wait_that_is_over_is_not_told(self) -> None:
+        self.assertNotIn("a.go:44", hung([{"waits": [[9, 12, 1, "a select", 2, 0]]}], self.STEPS))
+
+    def test_lines_of_no_such_form_are_a_fault(self) -> None:
+        for waits in ([[1, 2]], [[1, 2, 3, 4, 5, 6]], 7, [["1", 0, 0, "", 0, 0]]):
+            with self.subTest(waits), self.assertRaisesRegex(AssertionError, "is malformed"):
+                hung([{"waits": waits}], TWO_ENDS)
+
+
+class Words(unittest.TestCase):
+    def test_what_a_goroutine_does(self) -> None:
+        wait = Waiting(Name(3), 5, None, "", Stack((), None), begin=1_000)
+        for reason, due, words in (
+            (A_SLEEP, 0, "sleeps"),
+            (A_SLEEP, 2_000_001_000, "sleeps for 2 s"),
+            ("a select", 0, "waits for a select"),
+            ("", 0, "waits"),
+        ):
+            self.assertEqual(wait._replace(reason=reason, due=due).does, words)
+
+    def test_names_of_goroutines(self) -> None:
+        for names, words in (
+            ([Name(3)], "goroutine 3"),
+            ([Name(5), Name(3), Name(5)], "goroutines 3 and 5"),
+            ([Name(41, True), Name(3)], "goroutine 3, goid 41"),
+            ([Name(number) for number in range(20)], "goroutines 0, 1, 2, 3, 4, 5, 6, 7 and 12 more"),
+        ):
+            self.assertEqual(of_names(names), words)

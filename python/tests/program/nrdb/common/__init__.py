@@ -1,0 +1,1 @@
+"""What several tests of nrdb use."""

@@ -1,0 +1,1 @@
+"""Tests of the adapter with the built program."""

@@ -1,0 +1,1 @@
+"""Tests of nrdb's commands with the built program."""

@@ -1,0 +1,1 @@
+"""Tests of `netrev serve` and of the times of replies."""

@@ -1,0 +1,102 @@
+"""Recordings of real Go programs and of made-up logs: netrev accepts them; Go's lock words equal netrev's; and each
+difference from Go is found at its step."""
+
+import json
+import pathlib
+import unittest
+
+from dev.fuzz.generators.logs import binary, from_text
+from netrev_go.log.logfile import read_log
+from netrev_go.log.points import Kind
+from netrev_go.steps.asking import at_the_end, check, hanging, never_closed
+from netrev_go.steps.compare import differing
+from netrev_go.steps.making import make, write, write_words
+from netrev_go.steps.report import report
+from tests.logs.test_go_converting import DESCRIPTOR, WORD, Points
+from tests.program.nrdb.common.support import NETREV
+from tests.support.folders import folder_of
+
+REAL = pathlib.Path(__file__).resolve().parents[4] / "examples/real"
+NAMES = ("half", "hijacked", "hung", "leak", "lost", "older", "past")
+
+
+class Recorded(unittest.TestCase):
+    def setUp(self) -> None:
+        self.name = folder_of(self) / "made.jsonl"
+
+    def made(self, name: str) -> None:
+        """Writes the recording of a stored log, with its lock words."""
+        log = self.name.with_suffix(".log")
+        log.write_bytes(from_text((REAL / f"{name}.log").read_text())[0])
+        recording = make(read_log(log))
+        write(recording, self.name)
+        write_words(recording, self.name.with_suffix(".words"))
+
+    def accepted(self, points: Points) -> None:
+        made = points.made()
+        write(made, self.name)
+        self.assertEqual(check(str(NETREV), self.name), (True, f"ok {len(made.lines)} steps"))
+
+    def test_answers_and_lock_words_are_netrevs(self) -> None:
+        for name in NAMES:
+            with self.subTest(name):
+                self.made(name)
+                steps = self.name.read_text().count("\n") - 1
+                self.assertEqual(check(str(NETREV), self.name), (True, f"ok {steps} steps"))
+                compared, differ = differing(str(NETREV), self.name)
+                self.assertGreater(compared, 10)
+                self.assertEqual(differ, [])
+
+    def test_a_lock_word_that_differs_is_told(self) -> None:
+        self.made("past")
+        words = self.name.with_suffix(".words")
+        words.write_text(words.read_text().replace("lock 2", "lock 1", 1))
+        self.assertEqual(len(differing(str(NETREV), self.name)[1]), 1)
+
+    def test_what_go_did_otherwise_is_found_at_its_step(self) -> None:
+        data, _ = from_text((REAL / "past.log").read_text())
+        log = self.name.with_suffix(".log")
+        log.write_bytes(data)
+        read = read_log(log)
+        last = max(index for index, point in enumerate(read.points) if point.kind == Kind.PARK)
+        read.points[last] = read.points[last]._replace(b=0)
+        recording = make(read)
+        write(recording, self.name)
+        steps = [json.loads(str(line)) for line in recording.lines]
+        wrong = [number for number, step in enumerate(steps, 1) if step[0] == "parkcommit" and step[-1] == "no"]
+        self.assertEqual(check(str(NETREV), self.name), (False, f"step {wrong[-1]}: fault 109 answer"))
+        taken, said = report(recording, self.name, {})
+        self.assertFalse(taken)
+        self.assertIn("netrev rejects this recording", said[-1])
+
+    def test_ordinary_programs_are_taken(self) -> None:
+        self.accepted(
+            Points().opened().add(Kind.WRITE, 1, WORD, 5000, 5000, 0).add(Kind.READ, 1, WORD, 2**17, 2**17)
+        )
+        log = Points()
+        for i in range(20):
+            log.opened(WORD + i % 2).closed(WORD + i % 2)
+        self.accepted(log)
+        late = Points().opened().add(Kind.CLOSE_WRITE, 2, WORD).add(Kind.WRITE, 1, WORD, 3, 3, 0)
+        self.accepted(late.add(Kind.WRITE, 1, WORD, 3, -1, 2))
+        old = Points().opened().add(Kind.SET_DEADLINE, 1, DESCRIPTOR, 114, 5, time=100)
+        old.closed().opened(WORD + 20, reading=9, writing=9).add(Kind.FIRE, 0, DESCRIPTOR, 1, 5, time=107)
+        self.accepted(old.add(Kind.EVENT, 0, DESCRIPTOR, 114))
+
+    def test_a_ring_gives_a_recording_of_its_own(self) -> None:
+        log = Points()
+        for i in range(40):
+            log.opened(WORD + 16 * i).closed(WORD + 16 * i)
+        self.name.with_suffix(".log").write_bytes(binary(log.points, room=100))
+        recording = make(read_log(self.name.with_suffix(".log")))
+        write(recording, self.name)
+        self.assertEqual((recording.sockets, check(str(NETREV), self.name)[0]), (16, True))
+
+    def test_who_hangs_and_what_never_closes(self) -> None:
+        for name, cells, waiting, held in (
+            ("past", ["gor 0", "gor 2"], {2: "parked 1 r"}, {}),
+            ("leak", ["gor 2", "lock 2"], {}, {2: 1}),
+        ):
+            self.made(name)
+            values = at_the_end(str(NETREV), self.name, 1000, cells)
+            self.assertEqual((hanging(values), never_closed(values)), (waiting, held))

@@ -1,0 +1,1 @@
+"""Tests of the changed copy of Go, release by release."""

@@ -1,0 +1,301 @@
+"""The recorder's tools for developers: `make real` from its options to its tables, the cost of recording, and fetching a release.
+Stand-ins replace Go, netrev and the measured programs. Nothing is built or fetched."""
+
+import contextlib
+import io
+import pathlib
+import subprocess
+import unittest
+from collections.abc import Callable, Iterator
+from unittest import mock
+
+from dev.fuzz.generators.logs import from_text
+from dev.recorder import building, costs, fetching, real, suites
+from dev.recorder.readiness import Standing
+from dev.recorder.results import read_results
+from dev.recorder.suites import Sample, Suite
+from netrev_go.go_command import toolchain
+from netrev_go.go_command.toolchain import Go, Trouble
+from tests.support.folders import folder_of
+
+ROOT = pathlib.Path(__file__).resolve().parents[3]
+RECORDED = """#!/bin/sh
+[ "$1" = -test.run ] || [ "$1" = serve ] || exit 9
+echo "$* $GOMAXPROCS $NETREV_LINES" >> {folder}/ran
+cp {folder}/stored "$NETREV_LOG.1"
+cp {folder}/stored "$NETREV_LOG.2"
+: > "$NETREV_LOG.program.1.2"
+case "$2" in ^TestRed*) exit 1 ;; ^TestSkip*) echo "--- SKIP: it" ;; esac
+"""
+# the nanoseconds of each call and round: they fall with each run of the program, and are greater with a log
+COST = """#!/bin/sh
+n=$(cat {folder}/n 2> /dev/null || echo 9); n=$((n - 1)); echo $n > {folder}/n
+[ -z "${{NETREV_LOG-}}" ] || n=$((n + 800 * (1 + NETREV_LINES) + 80 * NETREV_ORDERS))
+[ -z "${{NETREV_LOG-}}" ] || : > "$NETREV_LOG.3"
+[ $# = 0 ] && echo $((1000 + n)) $((300 + n)) 1 2 3 4 5 6 7 8 9 10 $((11 + n))
+[ $# = 0 ] || echo "$1 $2 $3" $((70000 - n)) 5 $GOMAXPROCS
+"""
+
+
+@contextlib.contextmanager
+def printed() -> Iterator[io.StringIO]:
+    out = io.StringIO()
+    with contextlib.redirect_stdout(out), contextlib.redirect_stderr(out):
+        yield out
+
+
+class Tools(unittest.TestCase):
+    def setUp(self) -> None:
+        self.folder = folder_of(self)
+        self.go = Go("go", self.folder, "go1.27.3", "linux/amd64", "")
+        self.patched = contextlib.ExitStack()
+        self.addCleanup(self.patched.close)
+
+    def patch(self, module: object, **values: object) -> None:
+        for name, value in values.items():
+            self.patched.enter_context(mock.patch.object(module, name, value))
+
+    def script(self, name: str, text: str) -> pathlib.Path:
+        path = self.folder / name
+        path.write_text(text.format(folder=self.folder))
+        path.chmod(0o755)
+        return path
+
+
+class Real(Tools):
+    """`make real` with one sample and one package."""
+
+    def setUp(self) -> None:
+        super().setUp()
+        (self.folder / "stored").write_bytes(from_text((ROOT / "examples/real/half.log").read_text())[0])
+        program = self.script("program", RECORDED)
+        self.stands = Standing("go1.27.3", 90, 88, True, "correct: 952 steps, 952 steps", True)
+        self.checked: Callable[[object, pathlib.Path], tuple[bool, str]] = lambda _, name: (True, "ok 25 steps")
+        samples = (Sample("served", "served", (("serve", "1"),), (1, 4), True),)
+        self.patch(
+            real, chosen=lambda _: self.go, standing_of=lambda _: self.stands, built_sample=lambda *_: program, built=lambda *_: program,
+            tests_of=lambda *_: ["TestGood", "TestRed", "TestSkip"], source_folder=lambda *_: self.folder, SAMPLES=self.folder,
+            netrev_program=lambda: "netrev", check=lambda *told: self.checked(*told), differing=lambda _, name: (3, ["step 7: other"] * ("TestRed" in name.name)),
+            suspects=lambda *_: ["1. late", "   at 7", "22. twice", "10 points"], is_here=lambda name: name == "1.27",
+        )  # fmt: skip
+        self.patch(
+            suites, OF_SAMPLES=samples, SMALL_SAMPLES=samples, OF_GO=(Suite("net"),), OF_OTHERS=(), SMALL_TESTS=()
+        )
+
+    def ran(self, *words: str) -> tuple[int, str]:
+        with printed() as out:
+            status = real.main([*words, "--out", str(self.folder / "out")])
+        return status, out.getvalue()
+
+    def test_each_is_recorded_on_one_processor_and_on_four_and_compared(self) -> None:
+        status, said = self.ran("--go", "1.27")
+        self.assertEqual(status, 1, said)
+        words = (self.folder / "ran").read_text().splitlines()
+        flags = "-test.short -test.timeout=40s"
+        tests = [f"-test.run ^{name}$ {flags} {on} 0" for on in (1, 4) for name in ("TestGood", "TestRed", "TestSkip")]
+        self.assertEqual(words, ["serve 1 1 0", "serve 1 4 0", *tests])
+        found = read_results(self.folder / "out/1.27")
+        self.assertEqual(len(found), 16)
+        self.assertEqual(
+            [one.went for one in found if one.processors == 4], ["passed"] * 4 + ["failed"] * 2 + ["skipped"] * 2
+        )
+        self.assertEqual([(one.suspects, one.differ) for one in found[:2]], [(["1. late", "22. twice"], 0)] * 2)
+        red = next(one for one in found if one.test == "TestRed")
+        self.assertEqual((red.said, red.differ, red.suspects), ("ok 25 steps; step 7: other", 1, []))
+        self.assertEqual(
+            {one.steps for one in found}, {len((ROOT / "examples/real/half.jsonl").read_text().splitlines()) - 1}
+        )
+        self.assertGreater(red.words, 5)
+        self.assertTrue(all(pathlib.Path(one.recording).exists() for one in found))
+        self.assertIn("(tested before): correct: 952 steps", said)
+        self.assertIn("| 1.27 | 88 of 90 | yes | 952, 952 | 4 | 12 |", said)
+        self.assertIn("Tests that failed themselves: 1.27 net TestRed (4)", said)
+
+    def test_recordings_are_compared_again_with_check(self) -> None:
+        self.assertEqual(self.ran("--go", "1.27", "--record", "--only", "samples")[0], 0)
+        self.assertEqual({one.said for one in read_results(self.folder / "out/1.27")}, {""})
+        self.patch(real, suspects=lambda *_: [])
+        self.assertEqual(self.ran("--go", "1.27", "--check")[0], 0)
+        self.checked = lambda *_: (False, "step 3: no")
+        status, said = self.ran("--go", "1.27", "--check")
+        self.assertEqual(status, 1)
+        self.assertIn("1.27 samples/served serve-1 on 1 (passed): step 3: no", said)
+
+        def fails(*_: object) -> tuple[bool, str]:
+            raise OSError(13, "Permission denied")
+
+        self.checked = fails
+        self.assertIn("serve-1 on 4 (passed): Permission denied", self.ran("--go", "1.27", "--check")[1])
+
+    def test_what_is_recorded_by_the_options(self) -> None:
+        self.assertEqual(real.names_for(real.options_of([])), [""])
+        self.assertEqual(real.names_for(real.options_of(["--go", "1.27"])), ["1.27"])
+        self.assertEqual(real.names_for(real.options_of(["--go", "all"])), list(fetching.SUITES))
+        gate = real.options_of(["--gate"])
+        self.assertEqual((real.names_for(gate), gate.small), (["1.27"], True))
+        self.patch(real, is_here=lambda _: False)
+        for path, names in (("/usr/bin/go", [""]), (None, list[str]())):
+            with mock.patch.object(real.shutil, "which", lambda _, path=path: path):
+                self.assertEqual(real.names_for(gate), names)
+
+    def test_without_what_it_needs_nothing_is_recorded(self) -> None:
+        self.stands = Standing("go1.27.3", 90, 88, True, "a lock word differs", False)
+        status, said = self.ran("--go", "1.27")
+        self.assertEqual((status, "a lock word differs" in said), (3, True))
+        self.patch(real, netrev_program=lambda: None)
+        self.assertEqual(self.ran("--go", "1.27"), (3, "netrev is missing: run `make netrev`, or set NETREV\n"))
+        self.assertEqual(self.ran("--go", "1.27", "--record", "--only", "nothing")[0], 3)
+        self.patch(real, names_for=lambda _: [], netrev_program=lambda: "netrev")
+        status, said = self.ran()
+        self.assertEqual((status, said.startswith("no Go is on this machine")), (0, True))
+        self.assertFalse((self.folder / "ran").exists())
+
+    def test_a_log_that_cannot_be_converted_is_no_recording(self) -> None:
+        (self.folder / "stored").write_bytes(b"NR 3 1 7 4 0 0\n" * 400)
+        status, said = self.ran("--go", "1.27", "--only", "samples")
+        self.assertEqual(status, 1)
+        self.assertIn("serve-1 on 1 (passed): not made: not a log of netrev-go", said)
+        (self.folder / "stored").write_bytes(bytes(5_000))
+        self.assertEqual(self.ran("--go", "1.27", "--only", "samples")[0], 0)
+
+    def test_a_test_that_hangs_is_ended(self) -> None:
+        late = mock.Mock(side_effect=subprocess.TimeoutExpired("program", 1))
+        with mock.patch.object(real.subprocess, "run", late):
+            self.assertEqual(real.went(["program"], self.folder, {}), "timeout")
+        self.assertEqual(late.call_args.kwargs["timeout"], 60)
+
+
+class Costs(Tools):
+    """The cost of recording, measured three times."""
+
+    def setUp(self) -> None:
+        super().setUp()
+        self.program = self.script("cost", COST)
+        self.logs = self.folder / "logs"
+        self.patch(
+            costs, chosen=lambda _: self.go, logs_folder=lambda _: self.logs, overlay_by=lambda *_: "overlay",
+            built_both=lambda *_: (self.program, self.program), loads=lambda: "0.5",
+        )  # fmt: skip
+
+    def ran(self, *words: str) -> tuple[int, list[str]]:
+        self.logs.mkdir(exist_ok=True)
+        with printed() as out:
+            status = costs.main(list(words))
+        return status, out.getvalue().splitlines()
+
+    def test_a_row_for_each_way_has_the_best_of_the_calls(self) -> None:
+        status, lines = self.ran("1.27", "--times", "3")
+        self.assertEqual((status, lines[0]), (0, "3 times by turns, each begun at a load of 0.5, 0.5, 0.5"))
+        self.assertEqual(len(lines), 1 + 2 + len(costs.WAYS) + 1 + 2 + len(costs.WAYS))
+        self.assertRegex(
+            lines[3], r"^\| 1\.27\.3 \| without the overlay \| 984 ns \| 0 ns \| 284 ns \| 0 ns \| 69,9\d\d|70,0\d\d"
+        )
+        self.assertRegex(lines[5], r"^\| 1\.27\.3 \| with a log \| 1,780 ns \| 100 ns \| 1080 ns \| 796 ns \|")
+        self.assertRegex(lines[8], r"^\| 1\.27\.3 \| with all three \| 2,654 ns \| 209 ns \| 1954 ns \| 1670 ns \|")
+        self.assertRegex(
+            lines[-1], r"^\| 1\.27\.3 \| with all three \| 1 \| 2 \| 3 \| 4 \| 5 \| 6 \| 7 \| 8 \| 9 \| 10 \| 1,665 \|$"
+        )
+        self.assertFalse(self.logs.exists())
+
+    def test_another_recorder_is_measured_beside_this_one(self) -> None:
+        _, lines = self.ran("1.27", "--times", "1", "--before", str(self.folder))
+        names = {line.split(" | ")[0] for line in lines if line.startswith("| 1.")}
+        self.assertEqual(names, {"| 1.27.3, before", "| 1.27.3, now"})
+        (self.folder / "served").mkdir()
+        self.patch(costs.Served, measure=lambda *_: None)
+        _, lines = self.ran("1.27", "--times", "1", "--before", str(self.folder), "--requests")
+        self.assertEqual(
+            lines[1], "| Go | connections | | µs of processor a request | more | bytes a request | points a request |"
+        )
+        served = [
+            costs.measured_by(self.folder, "it", self.go, self.folder / name, 9, name == "before")
+            for name in ("before", "now")
+        ]
+        self.assertEqual([list(one.ways) for one in served if isinstance(one, costs.Served)], [
+            ["without the overlay", "with it, no log", "recording", "recording, no orders"], list(costs.SERVED)
+        ])  # fmt: skip
+
+    def test_without_go_nothing_is_measured(self) -> None:
+        def none(_: str) -> Go:
+            raise Trouble("no Go")
+
+        self.patch(costs, chosen=none)
+        self.assertEqual(self.ran(), (3, ["no Go"]))
+
+
+class Fetching(Tools):
+    def test_a_release_is_unpacked_under_its_name(self) -> None:
+        self.patch(fetching, FETCHED=self.folder)
+        words = []
+
+        def run(command: list[str], folder: pathlib.Path, **settings: str) -> None:
+            words.append((command[:2], settings.keys()))
+            if command[1] == "download":
+                for name in command[2:]:
+                    (folder / f"{name}.deb").touch()
+            if command[0] == "dpkg-deb":
+                (folder / "usr").mkdir(exist_ok=True)
+
+        with mock.patch.object(fetching, "run", run):
+            fetching.fetch("1.27")
+        self.assertEqual([command for command, _ in words][:2], [["apt-get", "update"], ["apt-get", "download"]])
+        self.assertEqual([bool(settings) for _, settings in words], [True, True, False, False])
+        self.assertEqual([path.name for path in (self.folder / "1.27").iterdir()], ["usr"])
+        self.assertIn(f"{fetching.SUITES['1.27']} main", next(self.folder.glob("apt/*/sources.list")).read_text())
+
+    def test_a_command_that_fails_is_told(self) -> None:
+        fetching.run(["true"], self.folder)
+        for command, why in ((["sh", "-c", "echo no >&2; exit 1"], "no"), (["/nowhere/apt"], "No such file")):
+            with self.assertRaisesRegex(Trouble, why):
+                fetching.run([*command], self.folder)
+
+    def test_it_prints_where_the_commands_are(self) -> None:
+        usage = "dev.recorder.fetching 1."
+        cases: list[tuple[list[str], int, str]] = [
+            (["1.27"], 0, "/there"),
+            ([], 2, usage),
+            (["1.27", "1.19"], 2, usage),
+        ]
+        for words, status, said in cases:
+            with printed() as out, mock.patch.object(fetching, "commands_of", lambda _: "/there"):
+                self.assertEqual(fetching.main(words), status)
+            self.assertTrue(out.getvalue().startswith(said))
+        with printed() as out, mock.patch.object(fetching, "commands_of", mock.Mock(side_effect=Trouble("none"))):
+            self.assertEqual((fetching.main(["1.27"]), out.getvalue()), (3, "none\n"))
+
+
+class Building(Tools):
+    def test_what_the_tests_are_built_with(self) -> None:
+        for is_of_others, modules in ((False, ""), (True, "off")):
+            settings = building.environment(is_of_others, NETREV_LOG="log")
+            self.assertEqual(
+                (settings["NETREV_LOG"], settings.get("GO111MODULE", "") == "off" or not modules), ("log", True)
+            )
+
+    def test_an_overlay_that_does_not_compile_is_none(self) -> None:
+        made = self.folder / "made"
+        made.mkdir()
+        points = self.script(
+            "points",
+            '#!/bin/sh\necho "fits it"; echo "without that"; [ -e {folder}/fits ] || echo "unfit this"; [ -e {folder}/fits ]\n',
+        )
+
+        def program(*_: object) -> pathlib.Path:
+            copy = made / "points"
+            copy.write_bytes(points.read_bytes())
+            copy.chmod(0o755)
+            return copy
+
+        compiled = mock.Mock(returncode=1, stderr="no such type")
+        self.patch(toolchain, points_program=program, quiet_go=lambda *_: compiled)
+        with self.assertRaisesRegex(Trouble, "unfit this") as unfit:
+            toolchain.make_overlay(self.go, made)
+        self.assertNotIn("fits it", str(unfit.exception).replace("unfit", ""))
+        (self.folder / "fits").touch()
+        with self.assertRaisesRegex(Trouble, "no such type"):
+            toolchain.make_overlay(self.go, made)
+        compiled.returncode = 0
+        (made / toolchain.NEW).write_text("{}")
+        toolchain.make_overlay(self.go, made)
+        self.assertEqual(sorted(path.name for path in made.iterdir()), sorted([toolchain.LEFT_OUT, toolchain.OVERLAY]))
+        self.assertEqual((made / toolchain.LEFT_OUT).read_text(), "without that\n")

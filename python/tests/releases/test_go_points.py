@@ -1,0 +1,50 @@
+"""The recorder's Go code numbers and names its points as the table of kinds does."""
+
+import re
+import unittest
+from pathlib import Path
+
+from netrev.text.vocabulary import NUMBERS
+import netrev_go
+from netrev_go.log.points import Kind
+
+GO = Path(netrev_go.__file__).parent / "go"
+PROGRAM = Path(__file__).resolve().parents[3] / "crates/nr_rev/src/kind.rt"
+# the block of constants below the comment that announces it
+OF_KINDS = re.compile(r"^// Kinds of points[^\n]*\nconst \((.*?)^\)", re.MULTILINE | re.DOTALL)
+CONSTANT = re.compile(r"^\tnetrev(\w+?)(?:Kind)? += (\d+)\b", re.MULTILINE)
+A_NUMBER = re.compile(r"netrev(?:Swap|Closed|Point|Poll|PollAlone|Order|Channel)\(\d")
+# points whose names in Go and in Python differ
+OTHERWISE = {
+    "CheckAgain": Kind.CHECK,
+    "EventCame": Kind.EVENT,
+    "Closed": Kind.CHANNEL_CLOSED,
+    "Ended": Kind.FOUND_CLOSED,
+}
+
+
+def in_go() -> dict[str, int]:
+    """The kinds of points in all Go files."""
+    blocks = [block for file in (GO / "log").glob("*.go") for block in OF_KINDS.findall(file.read_text())]
+    return {name: int(number) for block in blocks for name, number in CONSTANT.findall(block)}
+
+
+def named(name: str) -> Kind:
+    """The kind with this name in Go."""
+    spaced = re.sub(r"(?<=[a-z])(?=[A-Z])|(?<=RW)(?=[A-Z])", "_", name)
+    return OTHERWISE.get(name) or Kind[spaced.upper()]
+
+
+class Points(unittest.TestCase):
+    def test_go_has_each_kind_by_its_number(self) -> None:
+        found = in_go()
+        self.assertEqual({name: int(named(name)) for name in found}, found)
+        self.assertEqual({named(name) for name in found}, set(Kind))
+
+    def test_no_point_is_called_by_a_number(self) -> None:
+        called = [(file.name, bare) for file in GO.rglob("*.go") for bare in A_NUMBER.findall(file.read_text())]
+        self.assertEqual(called, [])
+
+    def test_kinds_are_in_the_order_of_the_program(self) -> None:
+        of_the_program = re.findall(r"^    \(Kind::\w+, \"(\w+)\"\)", PROGRAM.read_text(), re.MULTILINE)
+        self.assertEqual(NUMBERS, {name: number for number, name in enumerate(of_the_program, 1)})

@@ -1,0 +1,119 @@
+"""The tables of messages: each message is used, each call fills in exactly the words in its braces, and no error is written elsewhere."""
+
+import ast
+import string
+from collections.abc import Iterator
+from functools import cache
+from pathlib import Path
+from typing import NamedTuple, Optional
+
+import pytest
+
+PACKAGES = Path(__file__).resolve().parents[2]
+TABLES = {
+    "netrev_go": ["netrev/messages/recorder.py"],
+    "nrdb": [f"netrev/messages/{name}.py" for name in ("browsers", "editors", "lines", "searches", "session", "texts")],
+}
+# The calls that take the text of an error, and which argument that is.
+ERRORS = {
+    "netrev_go": dict.fromkeys(("Trouble", "NoLog", "Nothing", "NoSocket", "Unconvertible", "Late", "complain"), 0),
+    "nrdb": {
+        **dict.fromkeys(("Misused", "NoRecording", "Mismatched", "NoChanges", "Lost", "Stay", "Unusable"), 0),
+        **dict.fromkeys(("Unanswerable", "Malformed", "Unset", "NoToken", "Stranger", "Unavailable"), 0),
+        "Rejected": 1,
+    },
+}
+
+
+class Use(NamedTuple):
+    """A message that a module uses. `given` has the names of the arguments that the module fills in. It is None if the
+    source doesn't show these."""
+
+    table: str
+    name: str
+    place: str
+    given: Optional[frozenset[str]]
+
+
+@cache
+def table(path: str) -> dict[str, object]:
+    """The messages of a table, and its rows of messages."""
+    return {
+        target.id: ast.literal_eval(node.value)
+        for node in ast.parse((PACKAGES / path).read_text()).body
+        if isinstance(node, ast.Assign)
+        for target in node.targets
+        if isinstance(target, ast.Name)
+    }
+
+
+@cache
+def modules(package: str) -> list[tuple[str, ast.Module]]:
+    paths = sorted((PACKAGES / package).rglob("*.py"))
+    return [(str(path.relative_to(PACKAGES)), ast.parse(path.read_text())) for path in paths]
+
+
+def tables_in(package: str, tree: ast.Module) -> dict[str, str]:
+    """The tables that a module imports, by the module's names for them."""
+    tables = {Path(path).stem: path for path in TABLES[package]}
+    return {
+        name.asname or name.name: tables[name.name]
+        for node in ast.walk(tree)
+        if isinstance(node, ast.ImportFrom) and node.level and node.module in (None, "messages")
+        for name in node.names
+        if name.name in tables
+    }
+
+
+def message_of(node: ast.expr, known: dict[str, str]) -> Optional[tuple[str, str]]:
+    """The table and the name of a message, in an expression such as messages.NO_GO."""
+    if isinstance(node, ast.Attribute) and isinstance(node.value, ast.Name) and node.value.id in known:
+        return known[node.value.id], node.attr
+    return None
+
+
+def uses(package: str) -> Iterator[Use]:
+    for module, tree in modules(package):
+        known = tables_in(package, tree)
+        for node in ast.walk(tree) if known else ():
+            if isinstance(node, ast.expr) and (found := message_of(node, known)):
+                yield Use(*found, f"{module}:{node.lineno}", None)
+            if isinstance(node, ast.Call) and isinstance(node.func, ast.Attribute) and node.func.attr == "format":
+                if found := message_of(node.func.value, known):
+                    given = frozenset(word.arg or "" for word in node.keywords)
+                    yield Use(*found, f"{module}:{node.lineno}", None if "" in given else given)
+
+
+def literal(node: ast.expr) -> str:
+    """The literal text of an expression, without the parts that an f-string fills in."""
+    parts = node.values if isinstance(node, ast.JoinedStr) else [node]
+    return "".join(part.value for part in parts if isinstance(part, ast.Constant) and isinstance(part.value, str))
+
+
+@pytest.mark.parametrize("package", TABLES)
+def test_each_message_is_used(package: str) -> None:
+    written = {(path, name) for path in TABLES[package] for name in table(path)}
+    assert written == {(use.table, use.name) for use in uses(package)}
+
+
+@pytest.mark.parametrize("package", TABLES)
+def test_the_words_in_braces_are_filled_in(package: str) -> None:
+    filled = [use for use in uses(package) if use.given is not None]
+    wanted = {
+        (path, name): {word for _, word, _, _ in string.Formatter().parse(text) if word is not None}
+        for path in TABLES[package]
+        for name, text in table(path).items()
+        if isinstance(text, str)
+    }
+    assert filled and [use for use in filled if use.given != wanted[use.table, use.name]] == []
+
+
+@pytest.mark.parametrize("package", TABLES)
+def test_errors_are_in_the_tables(package: str) -> None:
+    written = []
+    for module, tree in modules(package):
+        for node in ast.walk(tree):
+            at = ERRORS[package].get(ast.unparse(node.func)) if isinstance(node, ast.Call) else None
+            if isinstance(node, ast.Call) and at is not None and len(node.args) > at:
+                written += [(module, node.lineno)] if literal(node.args[at]).strip(": \n") else []
+    assert written == []

@@ -1,0 +1,1 @@
+"""Tests of what happened in a recording: calls, notes, changes."""

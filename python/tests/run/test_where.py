@@ -1,0 +1,210 @@
+"""NAME.where with any contents: nrdb uses it, or rejects it with the reason. Files are written atomically, and never over the recording."""
+
+import json
+import os
+import tempfile
+import time
+import unittest
+from pathlib import Path
+from typing import Any
+
+from netrev.recording.recording import NoRecording, Recording
+from netrev.recording.waits import Name, name_of_goid, waits_of
+from netrev.recording.where import MOST_BYTES, MOST_LINE, Lines
+from netrev.session.files import written
+from netrev.session.session import Misused
+from netrev.text.files import whole, written_whole
+from tests.support.folders import folder_of
+
+FIRST = {"where": 1, "steps": 2}
+CALL = {"call": 1, "function": "main.main", "file": "main.go", "line": 3, "of": "program"}
+STACK = {"stack": 1, "calls": [1]}
+STEPS = {"step": 1, "stacks": [1, 0]}
+GOOD: list[Any] = [FIRST, CALL, STACK, STEPS]
+SAID = "is malformed"
+
+# the number of a line, counted from 0, its replacement, and the message about the changed file
+WRONG: tuple[tuple[int, Any, str], ...] = (
+    (0, [], SAID), (0, {}, SAID), (0, {"where": 3, "steps": 2}, "another version"),
+    (0, {"where": [], "steps": 2}, "another version"), (0, 7, SAID),
+    (0, {"where": 1, "steps": 3}, "a recording of 3 steps, and this one has 2"), (0, {"where": 1, "steps": "\x1b"}, SAID),
+    (1, CALL | {"of": []}, SAID), (1, CALL | {"of": {}}, SAID), (1, CALL | {"line": "3"}, SAID),
+    (1, CALL | {"line": True}, SAID), (1, CALL | {"function": None}, SAID), (1, {"call": 1}, SAID),
+    (1, CALL | {"call": []}, SAID), (1, "call", SAID), (1, None, SAID),
+    (2, {"stack": 1, "calls": [2]}, SAID), (2, {"stack": 1, "calls": 1}, SAID), (2, {"stack": [], "calls": []}, SAID),
+    (2, {"stack": 1, "calls": [1], "made": 9}, SAID), (2, {"stack": 1}, SAID),
+    (3, {"step": 1, "stacks": [1.5, {}]}, SAID), (3, {"step": 1, "stacks": 1}, SAID), (3, {}, SAID),
+    (3, {"orders": [[1]]}, SAID), (3, {"orders": [[1, "2"]]}, SAID), (3, {"orders": 1}, SAID), (3, {"orders": [[1.0, 2]]}, SAID),
+    (3, {"times": [7, -1]}, SAID), (3, {"times": [7, "1"]}, SAID), (3, {"times": [7, 1.5]}, SAID), (3, {"times": 7}, SAID),
+    (3, {"times": [2**63, 1]}, SAID), (3, {"times": [True, 1]}, SAID),
+)  # fmt: skip
+# lines, as bytes, each of which makes the file malformed
+NO_JSON: tuple[bytes, ...] = (
+    b"{", b"[" * 200_000, b'{"a":' * 200_000, b"9" * 5_000, b"", b'{"step":1,"stacks":[1' + b"0" * 5_000 + b"]}",
+    b" " * MOST_LINE + b"1",
+)  # fmt: skip
+
+
+class Where(unittest.TestCase):
+    def setUp(self) -> None:
+        folder = folder_of(self)
+        self.recording = folder / "x.jsonl"
+        self.recording.write_text('{"netrev":1,"gor":1,"sock":1,"desc":1,"buf":16}\n["tick",1]\n["tick",2]\n')
+        self.file = self.recording.with_suffix(".where")
+
+    def lines(self) -> Lines:
+        return Recording.read(str(self.recording)).lines
+
+    def fault(self, data: bytes) -> str:
+        """The message about a file with these contents; checks that nrdb doesn't use a file with a fault."""
+        self.file.write_bytes(data)
+        lines = self.lines()
+        if lines.fault:
+            self.assertFalse(lines)
+            self.assertEqual((len(lines.stacks), lines.orders, lines.words(1)), (1, None, ""))
+        return lines.fault
+
+    def test_one_of_its_form_is_used(self) -> None:
+        self.assertEqual(self.fault(text_of(GOOD)), "")
+        self.assertEqual(self.lines().words(1), "main.go:3 main.main")
+        self.file.unlink()
+        self.assertEqual(self.lines().fault, "")
+
+    def test_tests_and_bytes_are_known(self) -> None:
+        more = [{"bytes": 64}, {"test": "TestX/part", "package": "p", "steps": [1, 1]}]
+        self.assertEqual(self.fault(text_of([*GOOD, *more])), "")
+        lines = self.lines()
+        self.assertEqual((lines.bytes, lines.tests_at(1), lines.tests_at(2)), (64, ["p TestX/part"], []))
+        for wrong in ({"bytes": "64"}, {"test": 1, "package": "p", "steps": [1, 1]}, {"test": "T", "package": "p"}):
+            self.assertIn(SAID, self.fault(text_of([*GOOD, *more, wrong])))
+            self.assertEqual((self.lines().bytes, self.lines().tests_at(1)), (None, []))
+        for steps in ([1], [1, "1"], 7):
+            self.assertIn(SAID, self.fault(text_of([*GOOD, {"test": "T", "package": "p", "steps": steps}])))
+
+    def test_a_number_that_several_goroutines_had_is_the_one_s_that_has_it_at_the_step(self) -> None:
+        of_go = [[42, -1, 0, 0, 0, 1, 5, 6], [99, 3, 0, 0, 0, -1, 5, -1], [7, 4, 0, 0, 0, -1, 5, -1]]
+        parks = [
+            [99, 0, 1, 5, 6, "a select", 1, 42, []],
+            [99, 2, -1, 7, -1, "a select", 1, 0, []],
+            [42, 0, 1, 5, 6, "a select", 1, 0, []],
+        ]
+        more = [{"taken": [[3, 0, 42], [3, 1, 99]]}, {"goroutines": of_go}, {"parks": parks}]
+        self.assertEqual(self.fault(text_of([FIRST | {"where": 2}, *GOOD[1:], *more])), "")
+        recording = Recording.read(str(self.recording))
+        lines = recording.lines
+        self.assertEqual([lines.goid_of(3, step) for step in (0, 1, 2)], [42, 42, 99])
+        self.assertEqual((lines.goid_of(3), lines.goid_of(4, 1), lines.goid_of(4)), (99, 7, 7))
+        names = [str(name_of_goid(lines, goid, step)) for goid in (42, 99, 7) for step in (1, 2, None)]
+        own, seven = "goroutine 3", ["goroutine 4"] * 3
+        self.assertEqual(names, [own, "goid 42", "goid 42", "goid 99", own, own, *seven])
+        waits = waits_of(recording).of
+        spans = {str(name): [(wait.first, wait.last) for wait in some] for name, some in waits.items()}
+        self.assertEqual(spans, {"goid 99": [(0, 1)], own: [(0, 1), (2, None)]})
+        self.assertEqual(str(waits[Name(99, True)][0].by), own)
+        for wrong in ([[3, 0]], [[3, 0, "42"]], 7, [[3, 0, 42, 1]]):
+            self.assertIn(SAID, self.fault(text_of([*GOOD, {"taken": wrong}])))
+            self.assertEqual(self.lines().owners, {})
+
+    def test_one_that_is_not_is_not_used_and_that_is_said(self) -> None:
+        for place, value, said in WRONG:
+            with self.subTest(value):
+                lines = list(GOOD)
+                lines[place] = value
+                fault = self.fault(text_of(lines))
+                self.assertIn(said, fault)
+                self.assertTrue(fault.isprintable())
+                self.assertTrue(said != SAID or fault.startswith(f"line {place + 1} "), fault)
+        for data in NO_JSON:
+            with self.subTest(data[:20]):
+                self.assertIn(SAID, self.fault(text_of(GOOD[:3]) + data + b"\n"))
+        for beginning in (b"", text_of(GOOD)):
+            self.assertEqual(self.fault(beginning + b"\xff"), "it isn't text")
+        said = self.lines().why_unused(str(self.recording))
+        self.assertTrue(
+            said.startswith(
+                "x.where isn't used: it isn't text. The recording works without it; docs/reference/RECORDING.md"
+            ),
+            said,
+        )
+
+    def test_what_is_no_file_is_not_waited_for(self) -> None:
+        begun = time.monotonic()
+        os.mkfifo(self.file)
+        self.assertEqual(self.lines().fault, "it isn't a regular file")
+        self.file.unlink()
+        self.file.symlink_to("/dev/zero")
+        self.assertEqual(self.lines().fault, "it isn't a regular file")
+        self.file.unlink()
+        self.file.mkdir()
+        self.assertEqual(self.lines().fault, "it isn't a regular file")
+        self.file.rmdir()
+        self.file.symlink_to(self.file)
+        self.assertIn("symbolic link", self.lines().fault)
+        self.file.unlink()
+        with open(self.file, "wb") as sparse:
+            sparse.truncate(MOST_BYTES + 1)
+        self.assertEqual(self.lines().fault, "it is larger than 64 MB")
+        self.assertLess(time.monotonic() - begun, 5)
+
+    def test_a_recording_that_can_be_read_once_alone_is_refused(self) -> None:
+        pipe = self.recording.with_name("pipe")
+        os.mkfifo(pipe)
+        for path in (pipe, "/dev/zero"):
+            with self.assertRaisesRegex(NoRecording, "isn't a regular file: nrdb reads a recording twice"):
+                Recording.read(str(path))
+        for path in ("a\0b", "\ud800"):
+            with self.assertRaisesRegex(OSError, "no file can have that name"):
+                Recording.read(path)
+
+
+class Files(unittest.TestCase):
+    def test_a_file_is_written_whole_or_not_at_all(self) -> None:
+        with tempfile.TemporaryDirectory() as folder:
+            path, link = Path(folder, "a"), Path(folder, "b")
+            path.write_text("before")
+            link.symlink_to(path)
+            with self.assertRaises(KeyboardInterrupt), whole(path) as file:
+                file.write("after")
+                raise KeyboardInterrupt
+            self.assertEqual((path.read_text(), sorted(os.listdir(folder))), ("before", ["a", "b"]))
+            written_whole(link, b"after")
+            self.assertEqual((path.read_text(), link.is_symlink(), len(os.listdir(folder))), ("after", True, 2))
+            for name in ("nowhere/x", "", "a/x", "x" * 300, "a\0b"):
+                with self.subTest(name), self.assertRaises(OSError) as failed:
+                    written_whole(Path(folder) / name if name else Path(folder), b"")
+                self.assertTrue(failed.exception.strerror and failed.exception.filename)
+            self.assertEqual(sorted(os.listdir(folder)), ["a", "b"])
+
+    def test_what_is_open_is_written_to_as_it_is(self) -> None:
+        with tempfile.TemporaryFile() as file:
+            written_whole(Path(f"/dev/fd/{file.fileno()}"), b"after")
+            self.assertEqual(file.read(), b"after")
+        reading, writing = os.pipe()
+        written_whole(Path(f"/dev/fd/{writing}"), b"after")
+        self.assertEqual(os.read(reading, 9), b"after")
+        os.close(reading)
+        os.close(writing)
+
+    def test_the_recording_is_never_written_over(self) -> None:
+        with tempfile.TemporaryDirectory() as folder:
+            path, other = Path(folder, "a.jsonl"), Path(folder, "b.jsonl")
+            path.write_text("steps")
+            path.with_suffix(".where").write_text("lines")
+            other.symlink_to(path)
+            for name in (path, other, path.with_suffix(".where")):
+                with self.assertRaisesRegex(Misused, "is the recording itself, or its NAME.where"):
+                    written(str(name), str(path), b"page")
+            written(str(Path(folder, "c")), str(path), b"page")
+            self.assertEqual((path.read_text(), Path(folder, "c").read_text()), ("steps", "page"))
+
+
+def text_of(lines: list[Any]) -> bytes:
+    return "".join(f"{json.dumps(line)}\n" for line in lines).encode()
+
+
+def test_the_time_at_which_the_lines_were_written(tmp_path: Path) -> None:
+    name = tmp_path / "a.where"
+    name.write_text('{"where":2,"steps":3}\n')
+    os.utime(name, (1_000, 2_000))
+    lines = Lines.beside(str(tmp_path / "a.jsonl"), 3)
+    assert (lines.written, lines.fault) == (2_000, "")

@@ -1,0 +1,94 @@
+"""Ctrl-C is pressed once or twice, or netrev is killed, at every point of all communication. nrdb then continues with
+its normal output or ends, and never prints anything else."""
+
+import unittest
+from typing import Optional
+
+from netrev.connection.netrev import Ended
+from netrev.connection.scout import Scout
+from netrev.system.interrupts import Interrupts
+from tests.support.disturbed import EXAMPLE, TEXT, Disturbances, Weather
+from tests.support.modelled import Modelled, recording_at
+
+MODEL = recording_at(EXAMPLE)
+COMMANDS = (
+    "history lock 0 all",
+    "history info 0 2",
+    "until gor 0 *",
+    "reverse-until lock 0 *",
+    "until lock 0 * and gor 0 idle",
+    "next 0",
+    "info goroutines all",
+    "info sockets all",
+    "info descriptors all",
+    "info timers",
+    "info holders 0",
+    "reverse-continue",
+    "goto 3",
+)
+
+
+def once(weather: Weather[Modelled], netrev: Modelled) -> None:
+    """Presses Ctrl-C."""
+    weather.interrupts.came()
+
+
+def twice(weather: Weather[Modelled], netrev: Modelled) -> None:
+    """Presses Ctrl-C twice, with nothing in between."""
+    weather.interrupts.came()
+    weather.interrupts.came()
+
+
+def twice_apart(weather: Weather[Modelled], netrev: Modelled) -> None:
+    """Presses Ctrl-C, and presses it again a line later."""
+    weather.interrupts.came()
+    weather.left, weather.action = 0, once
+
+
+def killed(weather: Weather[Modelled], netrev: Modelled) -> None:
+    """Kills netrev during a query."""
+    netrev.has_ended = True
+
+
+def killed_twice(weather: Weather[Modelled], netrev: Modelled) -> None:
+    """Kills netrev during a query, and soon afterwards kills the next netrev during a query."""
+    netrev.has_ended = True
+    weather.left, weather.action = 1, killed
+
+
+class EveryPoint(Disturbances[Modelled]):
+    def opened(self, weather: Weather[Modelled]) -> Modelled:
+        return Modelled(MODEL, weather.interrupts, weather.happens)
+
+    def test_what_is_told_is_right_and_so_is_what_comes_then(self) -> None:
+        given_up = self.check(COMMANDS, (once, twice, twice_apart, killed, killed_twice))
+        self.assertGreater(given_up, 100)
+
+    def test_a_scout_that_is_gone_is_begun_anew(self) -> None:
+        def found(weather: Weather[Modelled]) -> list[list[str]]:
+            scout = Scout(lambda: self.opened(weather))
+            return [scout.values(position, ["lock 0", "gor 0"]) for position in (TEXT.length, 0, 3)]
+
+        weather: Weather[Modelled] = Weather(Interrupts())
+        right = found(weather)
+        self.assertGreater(weather.count, 5)
+        for point in range(weather.count):
+            disturbed: Weather[Modelled] = Weather(Interrupts())
+            disturbed.left, disturbed.action = point, killed
+            self.assertEqual(found(disturbed), right, point)
+
+
+class Unread(unittest.TestCase):
+    def test_what_nobody_read_is_not_the_reply_to_another_line(self) -> None:
+        points = 0
+
+        def fails(_netrev: Modelled) -> None:
+            nonlocal points
+            points += 1
+            if points == 3:  # before the second of the replies
+                raise MemoryError
+
+        netrev = Modelled(MODEL, Interrupts(), fails)
+        self.assertRaises(MemoryError, netrev.ask_all, ["info position", "print clock", "print timers"])
+        self.assertRaises(Ended, netrev.ask, "info breakpoints")
+        self.assertTrue(netrev.has_ended)

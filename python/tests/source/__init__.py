@@ -1,0 +1,1 @@
+"""Tests of the rules that read the program's source."""

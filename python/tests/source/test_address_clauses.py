@@ -1,0 +1,305 @@
+"""The rules about requests and answers, datagrams from other addresses, failed dials and ended contexts, clause by clause: a row for each clause
+that doesn't hold, and for each side of a boundary."""
+
+import re
+from pathlib import Path
+from types import SimpleNamespace as Made
+from typing import Any, cast
+
+import pytest
+
+from netrev.findings.datagrams import unheard  # fmt: skip
+from netrev.findings.handovers import dropped_answers, dropped_requests  # fmt: skip
+from netrev.findings.hangs import needs_elsewhere  # fmt: skip
+from netrev.findings.http import ended_contexts  # fmt: skip
+from netrev.findings.source import functions as source_functions  # fmt: skip
+from netrev.findings.streams import exchanges, failed_dials, left_in_buffers  # fmt: skip
+from netrev.recording.call import CLOSE
+from netrev.recording.goroutines import CLOSED, PUT, TOOK, Use
+from netrev.recording.waits import Name
+from netrev.recording.where import OF_GO, OF_THE_PROGRAM, Call, Stack
+from tests.failed_calls.test_cause_boundaries import line_of
+
+Patch = pytest.MonkeyPatch
+
+
+@pytest.mark.parametrize(
+    "change, says",
+    [
+        ({}, True), ({"addresses": {}}, False), ({"addresses": {3: ("", "b:2")}}, False), ({"addresses": {3: ("a:1", "")}}, False), ({"target": "a:3"}, False),
+        ({"source": "b:2"}, False), ({"target": "0.0.0.0:1"}, True), ({"target": "0.0.0.0:3"}, False), ({"source": "[::]:2"}, False), ({"source": "[::]:3"}, True),
+        ({"first": 20}, True), ({"first": 21}, False), ({"first": 5}, True), ({"first": 4}, False), ({"first": 4, "name": "Write"}, True), ({"first": 4, "moved": 0}, True),
+        ({"first": 4, "last": 8}, True), ({"first": 7, "last": 7}, False), ({"first": 8, "last": 7}, True),
+    ],
+)  # fmt: skip
+def test_a_datagram_from_another_address(change: dict[str, Any], says: bool, monkeypatch: Patch) -> None:
+    usual = {
+        "addresses": {3: ("a:1", "b:2")}, "target": "a:1", "source": "c:4", "first": 6, "name": "Read", "moved": 5, "last": 4,
+    }  # fmt: skip
+    case = Made(**(usual | change))
+
+    def sent(begin: int, target: str) -> Any:
+        wrote = Made(first=begin, socket=9, steps=lambda: f"step {begin}")
+        return unheard.Sent(cast(Any, wrote), case.source, target)
+
+    monkeypatch.setattr(unheard, "sent_at", lambda index: [sent(19, "a:7"), sent(case.first, case.target)])
+    monkeypatch.setattr(unheard, "told", lambda recording, call: "Write")
+    monkeypatch.setattr(unheard, "opened_at", lambda index, socket: ", opened")
+    reads = [Made(name=case.name, moved=case.moved, last=case.last), Made(name="Read", moved=5, last=2)]
+    index = Made(recording=Made(lines=Made(addresses=case.addresses)), by_socket={3: reads})
+    need = unheard.unheard(cast(Any, index), cast(Any, Made(socket=3, first=8)), 20)
+    expected = [
+        f"Write sent a datagram to its address, a:1, in step {case.first}, from socket 9, {case.source}, opened.",
+        "Socket 3 is connected to b:2: the system drops what comes from any other address.",
+    ]
+    assert (need.says if need else []) == (expected if says else []) and (need is None or need.is_odd)
+
+
+def test_the_first_datagram_from_another_address_is_named(monkeypatch: Patch) -> None:
+    every = [
+        unheard.Sent(cast(Any, Made(first=begin, socket=9, steps=lambda begin=begin: f"step {begin}")), "c:4", "a:1")
+        for begin in (9, 6, 7)
+    ]
+    monkeypatch.setattr(unheard, "sent_at", lambda index: every)
+    monkeypatch.setattr(unheard, "told", lambda recording, call: "Write")
+    monkeypatch.setattr(unheard, "opened_at", lambda index, socket: "")
+    index = Made(recording=Made(lines=Made(addresses={3: ("a:1", "b:2")})), by_socket={3: []})
+    need = unheard.unheard(cast(Any, index), cast(Any, Made(socket=3, first=8)), 20)
+    assert need and " in step 6, from socket 9" in need.says[0]
+
+
+@pytest.mark.parametrize(
+    "change, by",
+    [
+        ({}, 6), ({"goroutine": 1}, 5), ({"first": 20}, 6), ({"first": 21}, 5), ({"last": 20}, 5), ({"last": 21}, 6), ({"last": 7}, 5), ({"inside": False}, 0), ({"goid": True}, 0),
+    ],
+)  # fmt: skip
+def test_the_call_that_a_close_waits_for(change: dict[str, Any], by: int, monkeypatch: Patch) -> None:
+    case = Made(**({"goroutine": 6, "first": 6, "last": 0, "inside": True, "goid": False} | change))
+    monkeypatch.setattr(needs_elsewhere, "told", lambda recording, call: f"Goroutine {call.goroutine}")
+    calls = [Made(goroutine=5, first=4, last=0), Made(goroutine=case.goroutine, first=case.first, last=case.last)]
+    closes = Made(socket=3, goroutine=1)
+    index = Made(
+        inside=lambda number, position: closes if case.inside and (number, position) == (1, 20) else None,
+        by_socket={3: calls},
+    )
+    whole = Made(_index=index, _position=20, _recording=None)
+    waiter = cast(Any, Made(name=Name(1)._replace(is_goid=case.goid)))
+    need = needs_elsewhere.NeedsElsewhere._of_close(cast(Any, whole), waiter)
+    says = f"Goroutine {by} uses socket 3 since step {case.first if by == 6 else 4}."
+    assert (need.says, need.by) == (([says], Name(by)) if by else ([], None))
+
+
+@pytest.mark.parametrize(
+    "change, says",
+    [
+        ({}, "cancelled"), ({"context": 0}, ""), ({"context": 6}, ""), ({"what": PUT}, ""), ({"begin": 8}, "cancelled"), ({"begin": 9}, ""), ({"own": False}, ""),
+        ({"once": True}, "once"), ({"once": True, "context": 0}, "once"),
+    ],
+)  # fmt: skip
+def test_why_a_dial_failed(change: dict[str, Any], says: str, monkeypatch: Patch) -> None:
+    case = Made(**({"context": 5, "what": CLOSED, "begin": 7, "own": True, "once": False} | change))
+    monkeypatch.setattr(failed_dials, "name_of_goid", lambda lines, goid: f"goid {goid}")
+    stacks = {
+        1: Stack((line_of(4, "main.stop") if case.own else line_of(0, "context.cancel", of=OF_GO),), None),
+        2: Stack((line_of(0, failed_dials.ONCE if case.once else "net.Dial", of=OF_GO), line_of(9)), None),
+    }
+    uses = {
+        5: [Use(5, 7, case.what, 1, 1, 3, 3, case.begin, case.begin), Use(5, 8, PUT, 2, 1, 1, 1, 1, 1)],
+        0: [Use(0, 7, CLOSED, 1, 1, 3, 3, 1, 1)],
+    }
+    failed = Made(context=case.context, time=8, stack=2)
+    found = failed_dials.ended_says(cast(Any, Made(lines=Made(uses=uses, stacks=stacks))), cast(Any, failed))
+    texts = {
+        "cancelled": ["Its context had been cancelled at a.go:4 in stop (goid 7, step 3)."], "": [],
+        "once": ["That was in a sync.Once, which calls its function once alone: no later call dials again."],
+    }  # fmt: skip
+    assert found == texts[says]
+
+
+@pytest.mark.parametrize(
+    "places, function, says",
+    [(["a.go:4"], "main.run", True), ([], "main.run", False), (["a.go:4", "b.go:5"], "main.run", False), (["a.go:4"], ended_contexts.SERVE, False)],
+)  # fmt: skip
+def test_a_handler_keeps_the_context_of_its_request(
+    places: list[str], function: str, says: bool, monkeypatch: Patch
+) -> None:
+    monkeypatch.setattr(
+        ended_contexts, "places_with", lambda recording, file, pattern: places if file == "a.go" else []
+    )
+    stack = Stack((line_of(3, "main.get"), line_of(9, function, of=OF_GO)), None)
+    found = ended_contexts.kept_by_a_handler(cast(Any, None), stack)
+    text = "Perhaps it is the one that a.go:4 keeps of a request: net/http ends that as its handler returns."
+    assert found == ([text] if says else [])
+    assert ended_contexts.kept_by_a_handler(cast(Any, None), Stack((), None)) == []
+
+
+@pytest.mark.parametrize(
+    "kind, begin, since",
+    [(ended_contexts.A_CONNECTION, 6, 6), (ended_contexts.A_CONNECTION, 9, 9), (ended_contexts.A_CONNECTION, 10, 2), ("a value", 6, 2)],
+)  # fmt: skip
+@pytest.mark.parametrize("depth, is_waiting", [(0, True), (2, True), (3, False)])
+def test_a_request_whose_context_ended_as_it_waited_for_a_connection(
+    kind: str, begin: int, since: int, depth: int, is_waiting: bool, monkeypatch: Patch
+) -> None:
+    calls = [line_of(0, "net/http.get", of=OF_GO)] * depth
+    stack = Stack((*calls, line_of(0, ended_contexts.GET_CONNECTION, of=OF_GO), line_of(3, "main.ask")), None)
+    waits = Made(of={Name(4): [Made(kind=ended_contexts.A_CONNECTION, first=2), Made(kind=kind, first=begin)]})
+    monkeypatch.setattr(ended_contexts, "name_of_goid", lambda lines, goid: Name(4))
+    monkeypatch.setattr(ended_contexts, "waits_of", lambda recording: waits)
+    monkeypatch.setattr(ended_contexts, "Ledger", lambda recording, waits: None)
+    monkeypatch.setattr(ended_contexts, "open_bodies", lambda recording, ledger, waits, step: [f"since {step}"])
+    monkeypatch.setattr(ended_contexts, "of_a_handler", lambda recording, goid: [])
+    monkeypatch.setattr(ended_contexts, "kept_by_a_handler", lambda recording, stack: ["kept"])
+    ended = ended_contexts.EndedBefore(Use(5, 7, "ended", 1, 1, 9, 9, 9, 9))
+    found = ended.says(cast(Any, Made(lines=Made(stacks={1: stack}))))
+    waited = [
+        "The request at a.go:3 in ask (goroutine 4, step 9) ended while it waited for a connection: its context had ended.",
+        f"since {since}",
+    ]
+    unsent = ["The request at a.go:3 in ask (goroutine 4, step 9) wasn't sent: its context had ended before.", "kept"]
+    assert found == (waited if is_waiting else unsent)
+
+
+def test_no_lines_are_found_without_the_source(tmp_path: Path) -> None:
+    recording = cast(Any, Made(lines=Made(written=float("inf"))))
+    call = Call("main.f", str(tmp_path / "none.go"), 3, OF_THE_PROGRAM)
+    assert source_functions.found_in(recording, call, re.compile("x")) == []
+    assert source_functions.function_of(recording, call) == ((), range(0))
+
+
+@pytest.mark.parametrize(
+    "calls, found",
+    [
+        ("w2 r3", "2/3"), ("w2 w3 r4 r5", "2,3/4,5"), ("w2 r3 w4 r5", "2/3 4/5"), ("r1 w2 r3", "2/3"), ("w2", "2/"), ("r2", ""), ("", ""), ("w2 r9", "2/9"), ("w2 r10", "2/"),
+        ("w2 o3 r4", "2/4"), ("w2 r3:other r4", "2/4"), ("w2 r3:nothing r4", "2/4"), ("w2 r3:going r4", "2/4"), ("w2:other r3", ""),
+    ],
+)  # fmt: skip
+def test_what_a_goroutine_wrote_and_read_in_turn(calls: str, found: str) -> None:
+    names = {"r": "Read", "w": "Write", "o": CLOSE}
+    made = []
+    for one in calls.split():
+        at, _, how = one.partition(":")
+        made.append(
+            Made(
+                name=names[at[0]], first=int(at[1:]), goroutine=2 if how == "other" else 1, moved=0 if how == "nothing" else 4,
+                last=0 if how == "going" else int(at[1:]),
+            )
+        )  # fmt: skip
+    says = exchanges.exchanges_of(cast(Any, Made(by_socket={3: made})), 1, 3, 9)
+    texts = ["/".join(",".join(str(call.first) for call in part) for part in (one.writes, one.reads)) for one in says]
+    assert " ".join(texts) == found
+    assert exchanges.exchanges_of(cast(Any, Made(by_socket={})), 1, 3, 9) == []
+
+
+@pytest.mark.parametrize(
+    "calls, asked, on, is_answered",
+    [
+        ("r6 w7", 1, False, True), ("r6 w7", 2, False, False), ("r6 w7", 2, True, True), ("r5 w7", 1, False, False), ("r6", 1, True, False), ("w7", 1, True, False),
+        ("r6 w6", 1, True, False), ("r6 w7 w8", 2, False, True), ("r6 w7 w8b", 3, True, False), ("r6 w7 r8", 2, True, False), ("", 1, True, False), ("w3 r6 w7", 2, False, True),
+    ],
+)  # fmt: skip
+def test_whether_all_requests_were_answered(
+    calls: str, asked: int, on: bool, is_answered: bool, monkeypatch: Patch
+) -> None:
+    made = []
+    for one in calls.split():
+        step = int(one[1])
+        made.append(
+            Made(
+                name="Read" if one[0] == "r" else "Write", first=step, last=step, moved=4, goroutine=2 if one[2:] else 1
+            )
+        )
+    monkeypatch.setattr(
+        dropped_answers, "reads_on", lambda index, goroutine, socket: on and (goroutine, socket) == (1, 4)
+    )
+    mine = [Made(name="Write", moved=4)] * asked + [Made(name="Read", moved=4), Made(name="Write", moved=0)]
+    index = Made(other_end=lambda socket: 4 if socket == 3 else None, by_socket={3: mine, 4: made})
+    wrote = Made(socket=3, first=5)
+    assert dropped_answers.is_answered(cast(Any, index), cast(Any, wrote)) is is_answered
+    wrote.socket = 5
+    assert not dropped_answers.is_answered(cast(Any, index), cast(Any, wrote))
+
+
+@pytest.mark.parametrize(
+    "change, taker",
+    [
+        ({}, 8), ({"puts": 3}, None), ({"puts": 1}, None), ({"free": (7,)}, None), ({"free": (8,)}, None), ({"lines": {7: 4}}, 7), ({"lines": {}}, None), ({"waiters": (7,)}, 7),
+        ({"waiters": ()}, None), ({"own": False}, None),
+    ],
+)  # fmt: skip
+def test_the_goroutine_that_took_a_request(change: dict[str, Any], taker: int | None, monkeypatch: Patch) -> None:
+    case = Made(**({"puts": 2, "free": (7, 8), "lines": {7: 4, 8: 5}, "waiters": (7, 8), "own": True} | change))
+    monkeypatch.setattr(dropped_requests, "name_of_goid", lambda lines, goid: Name(goid))
+    monkeypatch.setattr(
+        dropped_requests, "is_free", lambda recording, use, number, waiters: number == 5 and use.goid in case.free
+    )
+    monkeypatch.setattr(
+        dropped_requests,
+        "answer_line",
+        lambda recording, wait, file, taker: case.lines.get(taker, 0) * (file == "a.go"),
+    )
+    put = Use(5, 1, PUT, 1, case.puts, 1, 1, 1, 1)
+    uses = [put, *(Use(5, goid, TOOK, 1, 1, 2, 2, goid, goid) for goid in (7, 8))]
+    wait = Made(stack=Stack((line_of(3),) if case.own else (), None))
+    waiters = {Name(goid): goid for goid in case.waiters}
+    found = dropped_requests.taker_of(
+        cast(Any, Made(lines=Made(uses={5: uses}))), cast(Any, wait), put, cast(Any, waiters)
+    )
+    assert found == (
+        dropped_requests.Taken(cast(Any, taker), uses[taker - 6], "a.go", case.lines[taker]) if taker else None
+    )
+
+
+@pytest.mark.parametrize(
+    "of, flushed, places, says",
+    [
+        (OF_THE_PROGRAM, "", ["a.go:4", "a.go:5"], "a.go:4"), (OF_GO, "", ["a.go:4"], ""), (OF_THE_PROGRAM, "w", ["a.go:4"], ""), (OF_THE_PROGRAM, "x", ["a.go:4"], "a.go:4"),
+        (OF_THE_PROGRAM, "", [], ""),
+    ],
+)  # fmt: skip
+def test_a_writer_that_no_line_flushes(of: str, flushed: str, places: list[str], says: str, monkeypatch: Patch) -> None:
+    monkeypatch.setattr(
+        left_in_buffers, "places_with", lambda recording, file, pattern: places if file == "a.go" else []
+    )
+    monkeypatch.setattr(left_in_buffers, "names_near", lambda recording, file: Made(flushed={flushed}, buffers={"w"}))
+    stacks = [Stack((line_of(3, of=of),), None), Stack((), None)]
+    recording = cast(Any, Made(lines=Made(of=lambda step: stacks[step])))
+    assert left_in_buffers.never_flushed(recording, cast(Any, Made(first=0))) == says
+    assert left_in_buffers.never_flushed(recording, cast(Any, Made(first=1))) == ""
+
+
+@pytest.mark.parametrize(
+    "last, waits_on, is_free", [(None, None, False), (-1, None, False), (9, None, True), (-1, 5, True), (-1, 6, False), (None, 5, True)]
+)  # fmt: skip
+def test_a_goroutine_that_ended_or_waits_for_the_next_request(
+    last: int | None, waits_on: int | None, is_free: bool, monkeypatch: Patch
+) -> None:
+    monkeypatch.setattr(dropped_requests, "name_of_goid", lambda lines, goid: Name(goid))
+    lines = Made(goroutines={} if last is None else {7: Made(last=last)})
+    waiter = Made(wait=None if waits_on is None else Made(objects=[Made(object=waits_on)]))
+    use = Use(5, 7, TOOK, 1, 1, 2, 2, 7, 7)
+    found = dropped_requests.is_free(cast(Any, Made(lines=lines)), use, 5, cast(Any, {Name(7): waiter}))
+    assert found is is_free
+
+
+@pytest.mark.parametrize(
+    "opened, closed, connected, expected",
+    [((3,), (5,), (), 5), ((3, 4), (5, 8), (), 8), ((3,), (5,), (6,), None), ((3, 4), (5, 8), (6,), 8), ((), (), (), None)],
+)  # fmt: skip
+def test_the_last_dial_of_a_goroutine_that_failed(
+    opened: tuple[int, ...],
+    closed: tuple[int, ...],
+    connected: tuple[int, ...],
+    expected: int | None,
+    monkeypatch: Patch,
+) -> None:
+    monkeypatch.setattr(failed_dials, "is_dialed", lambda index, socket: socket in opened)
+    monkeypatch.setattr(
+        failed_dials, "connected_by", lambda index, goroutine: [Made(first=first) for first in connected]
+    )
+    calls = [Made(name=failed_dials.CLOSE, first=first, socket=socket) for socket, first in zip(opened, closed)]
+    lines = Made(of=lambda step: Made(calls=[Made(function=failed_dials.FAILED)]))
+    index = cast(Any, Made(recording=Made(lines=lines), by_goroutine={2: calls}))
+    found = failed_dials.failed_dial(index, 2)
+    assert (found.close.first if found else None) == expected

@@ -1,0 +1,121 @@
+"""The rules about contexts that ended and mutexes that stay locked, clause by clause, and the last time of a recording."""
+
+from types import SimpleNamespace as Made
+from typing import Any, NamedTuple, cast
+
+import pytest
+
+from netrev.findings.evidence import waiters
+from netrev.findings.http import cancels
+from netrev.findings.locks import mutex_holders
+from netrev.findings.source import left_locked
+from netrev.recording.goroutines import CLOSED, PUT
+from netrev.recording.waits import Name
+from netrev.recording.where import Stack
+from tests.failed_calls.test_cause_boundaries import line_of
+
+Patch = pytest.MonkeyPatch
+
+
+def test_the_last_step_of_the_calls_before_a_step() -> None:
+    calls = [Made(last=last) for last in (3, 7, 0, 9)]
+    index = cast(Any, Made(by_goroutine={2: calls}))
+    found = [cancels.last_step_before(index, 2, step) for step in (3, 4, 8, 9, 10)] + [
+        cancels.last_step_before(index, 1, 10)
+    ]
+    assert found == [0, 3, 7, 7, 9, 0]
+
+
+@pytest.mark.parametrize(
+    "change, says",
+    [
+        ({}, "goroutine 4 had cancelled it at a.go:7 (step 30)."), ({"what": PUT}, "the timeout of 5s"), ({"closer": 5}, "the timeout of 5s"), ({"end": 20}, "goroutine 4 had cancelled it at a.go:7 (step 30)."),
+        ({"end": 21}, "the timeout of 5s"), ({"of": "main.f"}, "the timeout of 5s"), ({"of": "main.f", "limits": False}, "goroutine 4 had cancelled it (step 30)."), ({"function": "main.f"}, ""),
+        ({"made": False}, ""),
+    ],
+)  # fmt: skip
+def test_a_function_that_a_context_s_end_started(change: dict[str, Any], says: str, monkeypatch: Patch) -> None:
+    usual = {
+        "what": CLOSED, "closer": 4, "end": 12, "of": cancels.OF_A_CONTEXT, "limits": True, "function": cancels.AFTER_FUNC, "made": True,
+    }  # fmt: skip
+    case = Made(**(usual | change))
+    monkeypatch.setattr(
+        cancels, "has", lambda stack, function: function == cancels.OF_A_CONTEXT and stack[1] == function
+    )
+    monkeypatch.setattr(
+        cancels, "limits_before", lambda recording, begin, least: ["5s"] if case.limits and begin == 20 else []
+    )
+    monkeypatch.setattr(cancels, "limit_says", lambda index, limits: f"the timeout of {limits[0]}")
+    monkeypatch.setattr(cancels, "place_in", lambda stack: f" at {stack[0]}")
+    monkeypatch.setattr(cancels, "name_of_goid", lambda lines, goid: Name(goid))
+    monkeypatch.setattr(cancels, "deferred_says", lambda index, cancel: [f"deferred {cancel.use.end}"])
+    uses = [
+        Made(what=case.what, goid=case.closer, end=case.end, stack=1), Made(what=CLOSED, goid=4, end=9, stack=2),
+    ]  # fmt: skip
+    known = Made(made=Made(function=case.function) if case.made else None, maker=4, begin=20, first=30)
+    stacks = {1: ("a.go:7", case.of), 2: ("a.go:9", "main.g")}
+    lines = Made(goroutines={70: known}, goid_of=lambda goroutine, step: goroutine * 10, uses={5: uses}, stacks=stacks)
+    found = cancels.after_says(cast(Any, Made(recording=Made(lines=lines))), 33, 7)
+    more = [f"deferred {case.end}"] if "at a.go" in says else []
+    assert found == ([f"context.AfterFunc called that as its context ended: {says}", *more] if says else [])
+
+
+BLOCK = """\
+	if closed {
+		mu.Unlock()
+		if late {
+			note()
+		}
+
+		return
+	}
+	if late {
+		mu.Unlock()
+		for all {
+			return
+		}
+	}
+	mu.Unlock()
+	return
+"""
+
+
+@pytest.mark.parametrize("number, leaves", [(2, True), (10, False), (15, False)])
+def test_a_block_that_ends_with_a_return(number: int, leaves: bool) -> None:
+    assert left_locked.leaves_block(tuple(BLOCK.split("\n")), number) is leaves
+
+
+@pytest.mark.parametrize("lines, says", [((4,), " at a.go:4"), ((), "")])
+def test_a_mutex_that_no_goroutine_holds(lines: tuple[int, ...], says: str, monkeypatch: Patch) -> None:
+    monkeypatch.setattr(mutex_holders, "copies_says", lambda recording, call: f" at {call.place()}")
+    own = Made(_recording=Made(lines=Made(times=[0, mutex_holders.A_MOMENT + 5])))
+    wait = Made(begin=5, stack=Stack(tuple(line_of(number) for number in lines), None))
+    need = mutex_holders.MutexHolders._of_nobody(cast(Any, own), cast(Any, wait))
+    assert (need.says, need.is_odd) == (
+        [f"No goroutine has locked it. Perhaps it is a copy of a mutex that was locked as it was copied{says}."],
+        True,
+    )
+    wait.begin = 6
+    assert mutex_holders.MutexHolders._of_nobody(cast(Any, own), cast(Any, wait)).says == []
+
+
+class Hashable(NamedTuple):
+    """A recording that can be a key: the lines aren't a part of its hash."""
+
+    lines: Any
+
+    def __hash__(self) -> int:
+        return id(self.lines)
+
+
+@pytest.mark.parametrize(
+    "uses, parks, times, last",
+    [([], [], [], 0), ([5, 9, 3], [], [], 9), ([], [(4, 8), (6, 2)], [], 8), ([], [(2, 1), (9, 3), (4, 0)], [], 9), ([], [], [3, 7], 7), ([5], [(6, 8)], [3, 4], 8)],
+)  # fmt: skip
+def test_the_last_time_of_a_recording(
+    uses: list[int], parks: list[tuple[int, int]], times: list[int], last: int
+) -> None:
+    lines = Made(uses={number: [Made(end=end)] for number, end in enumerate(uses)}, times=times)
+    lines.parks = {1: [Made(begin=begin, end=end) for begin, end in parks]}
+    waiters.last_time_of.cache_clear()
+    assert waiters.last_time_of(cast(Any, Hashable(lines))) == last

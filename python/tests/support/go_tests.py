@@ -1,0 +1,205 @@
+"""`netrev-go test` with a real Go: the known tests, the recordings that it keeps, and its exit status. It needs Go
+and netrev; `make real` runs it."""
+
+import json
+import os
+import re
+import signal
+import subprocess
+import unittest
+
+from .go_tool import PAIR, TOOL, Tool
+
+HEAD = 'package p\n\nimport (\n\t"fmt"\n\t"net"\n\t"os"\n\t"testing"\n\t"time"\n)\n' + PAIR
+WAITS = "b.SetReadDeadline(time.Now().Add(10 * time.Millisecond))"
+TESTS = (
+    HEAD
+    + """
+func TestGood(t *testing.T) {
+	a, b := pair()
+	a.Write([]byte("x"))
+	b.Read(make([]byte, 1))
+}
+
+func TestRed(t *testing.T) {
+	_, b := pair()
+	@
+	if _, err := b.Read(make([]byte, 1)); err != nil {
+		t.Error(err)
+	}
+}
+
+func TestParts(t *testing.T) {
+	for i := 0; i < 3; i++ {
+		i := i
+		t.Run(fmt.Sprint("part ", i), func(t *testing.T) {
+			t.Parallel()
+			a, b := pair()
+			@
+			if i != 1 {
+				a.Write([]byte("x"))
+			}
+			if _, err := b.Read(make([]byte, 1)); err != nil {
+				t.Fatal(err)
+			}
+		})
+	}
+}
+
+func TestEnds(t *testing.T) {
+	_, b := pair()
+	switch os.Getenv("HOW") {
+	case "panic":
+		panic("now")
+	case "elsewhere":
+		go func() { panic("elsewhere") }()
+		time.Sleep(time.Second)
+	case "exit":
+		os.Exit(7)
+	case "hang":
+		os.WriteFile("here", nil, 0o600)
+		b.Read(make([]byte, 1))
+	}
+}
+""".replace(
+        "@", WAITS
+    )
+)
+
+
+# prints what netrev-go stores about the linked programs
+LOOKS = """package p
+
+import (
+	"fmt"
+	"os"
+	"path/filepath"
+	"testing"
+)
+
+func TestLooks(t *testing.T) {
+	made, _ := filepath.Glob(filepath.Join(os.TempDir(), "netrev-link-*/made.*"))
+	if len(made) == 0 {
+		return
+	}
+	file, _ := os.OpenFile("seen", os.O_APPEND|os.O_CREATE|os.O_WRONLY, 0o600)
+	for _, name := range made {
+		at, _ := os.Stat(name)
+		fmt.Fprint(file, name, " ", at.ModTime().UnixNano(), "\\n")
+	}
+}
+"""
+
+
+def timeless(said: str) -> list[str]:
+    """The output without times."""
+    return re.sub(r"\d+\.\d+s", "", said).splitlines()
+
+
+class Tested(Tool):
+    """A package in whose folder netrev-go is called."""
+
+    def setUp(self) -> None:
+        super().setUp()
+        self.written(TESTS, "p_test.go")
+        self.written("module example.org/p\n\ngo 1.19\n", "go.mod")
+
+    def environment(self, **settings: str) -> dict[str, str]:
+        return super().environment() | {"GO111MODULE": "on"} | settings
+
+    def made(self, folder: str = "recordings") -> list[str]:
+        return sorted(path.name for path in (self.folder / folder).glob("*.jsonl"))
+
+    def test_of_those_that_fail_there_are_recordings(self) -> None:
+        status, said = self.called("--json", "a.json", "test", ".")
+        self.assertEqual((status, self.made()), (1, ["p.TestParts.part_1.jsonl", "p.TestRed.jsonl"]), said)
+        for name in ("TestRed", r"TestParts\.part_1"):
+            self.recorded(said, rf"recordings/p\.{name}")
+        told = {line["test"]: line for line in map(json.loads, (self.folder / "a.json").read_text().splitlines())}
+        self.assertEqual(told["TestGood"]["status"], "passed")
+        line = TESTS[: TESTS.index("t.Error(")].count("\n") + 1
+        self.assertEqual((told["TestRed"]["file"], told["TestRed"]["line"]), ("p_test.go", line))
+        self.assertEqual(told["TestParts/part_1"]["status"], "failed")
+
+    def test_however_it_ends_the_test_that_ran_is_kept(self) -> None:
+        for how in ("panic", "elsewhere", "exit", "hang"):
+            with self.subTest(how):
+                words = ("test", "-run", "Good|Ends", "-timeout", "2s", ".")
+                status, said = self.called("-o", how, *words, HOW=how)
+                self.assertEqual((status, self.made(how)), (1, ["p.TestEnds.jsonl"]), said)
+
+    def same(self, *words: str) -> int:
+        """Checks that Go and netrev-go end with the same exit status, and returns it."""
+        plainly = subprocess.run(
+            ["go", "test", *words], cwd=self.folder, env=self.environment(), capture_output=True, check=False
+        )
+        self.assertEqual(self.called("test", *words)[0], plainly.returncode)
+        return plainly.returncode
+
+    def test_the_status_is_gos(self) -> None:
+        for words in (
+            ("-run", "Good", "."),
+            ("-run", "None", "."),
+            ("-list", ".", "."),
+            ("-race", "-run", "Good", "-count=2", "-v", "."),
+        ):
+            with self.subTest(words):
+                self.assertEqual(self.same(*words), 0)
+        for words in (("-run", "Red", "."), ("./nowhere",), ("-nonsense", ".")):
+            with self.subTest(words):
+                self.assertNotEqual(self.same(*words), 0)
+        self.written("package p\n\nfunc f() { return 1 }\n", "other.go")
+        self.assertNotEqual(self.same("."), 0)
+
+    def test_the_script_for_any_ci(self) -> None:
+        path = f"{TOOL.parent}:{os.environ['PATH']}"
+        words = ["sh", str(TOOL.parents[2] / "examples/ci/test.sh"), "-run", "Red", "."]
+        run = subprocess.run(
+            words, cwd=self.folder, env=self.environment(PATH=path), capture_output=True, text=True, check=False
+        )
+        self.assertEqual(run.returncode, 1, run.stderr)
+        self.assertEqual(self.made("out/netrev"), ["p.TestRed.jsonl"])
+        self.assertTrue((self.folder / "out/netrev/tests.xml").exists())
+
+    def test_json_stays_json(self) -> None:
+        run = subprocess.run(
+            [TOOL, "test", "-json", "."],
+            cwd=self.folder,
+            env=self.environment(),
+            capture_output=True,
+            text=True,
+            check=False,
+        )
+        told = [json.loads(line) for line in run.stdout.splitlines()]
+        self.assertIn(("fail", "TestRed"), [(line["Action"], line.get("Test")) for line in told])
+        self.assertIn("FAILED example.org/p TestRed", run.stderr)
+
+    def test_runs_that_are_the_same_are_linked_once_and_print_what_go_prints(self) -> None:
+        self.written(LOOKS, "look_test.go")
+        for more in ((), ("-race",)):
+            words = ("test", *more, "-v", "-run", "Good|Looks", ".")
+            plainly = timeless(self.called(*words)[1])
+            (self.folder / "seen").unlink(missing_ok=True)
+            status, said = self.called("--runs", "3", *words)
+            self.assertEqual(status, 0, said)
+            self.assertEqual(timeless(said), plainly * 3 + ["netrev-go: 2 tests, 3 runs; 0 failed"])
+            seen = (self.folder / "seen").read_text().splitlines()
+            self.assertEqual((len(seen), len(set(seen))), (3, 1))
+            self.assertRegex(seen[0], r"netrev-link-\w+/made\.\S+ \d+$")
+
+    def test_cancelled_it_ends_as_go_does(self) -> None:
+        for number, status in ((signal.SIGTERM, 128 + signal.SIGTERM), (signal.SIGINT, 1)):
+            with self.subTest(number):
+                process = subprocess.Popen(
+                    [TOOL, "-o", number.name, "test", "-run", "Ends", "."], cwd=self.folder,
+                    env=self.environment(HOW="hang"), stdout=subprocess.PIPE, stderr=subprocess.STDOUT, text=True,
+                )  # fmt: skip
+                self.addCleanup(process.kill)
+                here = self.folder / "here"
+                while process.poll() is None and not here.exists():
+                    pass
+                os.kill(process.pid, number)
+                said, _ = process.communicate(timeout=120)
+                here.unlink()
+                self.assertEqual(process.returncode, status, said)
+                self.assertEqual(self.made(number.name), ["p.TestEnds.jsonl"], said)

@@ -1,0 +1,246 @@
+"""Checks each kind of wait outside the poller, and the uses of channels, in a program's NAME.where. The program is
+recorded with each installed release of Go (dev.recorder.fetching), or with the `go` on the PATH if no release is
+installed. `make real` runs it."""
+
+import os
+
+from dev.recorder.fetching import SUITES, here
+from netrev.recording import goroutines as where
+from netrev.recording.goroutines import GoGoroutine, Park, Timer, Use
+from netrev.recording.where import Lines
+
+from .go_tool import Tool, program
+
+HOUR = 3600 * 10**9
+FUNCTIONS = """
+func receives(c chan int)             { <-c }
+func sends(c chan int)                { c <- 1 }
+func selects(a, b, c, d, e chan int)  {
+	select {
+	case <-a:
+	case <-b:
+	case c <- 1:
+	case <-d:
+	case e <- 1:
+	}
+}
+func awaits(c *sync.Cond)             { c.L.Lock(); c.Wait() }
+func sleeps()                         { time.Sleep(time.Hour) }
+func locks(m *sync.Mutex)             { m.Lock() }
+func readLocks(m *sync.RWMutex)       { m.RLock() }
+func writeLocks(m *sync.RWMutex)      { m.Lock() }
+func pends(m *sync.RWMutex)           { m.Lock() }
+func reads(m *sync.RWMutex)           { m.RLock() }
+func receivesOfMade(c chan int)       { <-c }
+func makes() chan int                 { return make(chan int, 3) }
+func isRefused()                      { net.Dial("tcp", "127.0.0.1:1") }
+func isCancelled() {
+	ctx, cancel := context.WithCancel(context.Background())
+	ctx.Done() // that has a channel of its own from then on
+	cancel()
+	new(net.Dialer).DialContext(ctx, "tcp", "127.0.0.1:1")
+}
+func waits(g *sync.WaitGroup)         { g.Wait() }
+func receivesOfNil()                  { var c chan int; <-c }
+func hasNoCases()                     { select {} }
+func ticks()                          { <-time.NewTimer(time.Hour).C }
+func waitsAfter()                     { <-time.After(time.Hour) }
+func calls()                          { time.AfterFunc(time.Hour, hasNoCases); select {} }
+func ends(c chan int)                 { <-c }
+func closes(c chan int)               { close(c) }
+"""
+BODY = """
+	var mutex, unlocked sync.Mutex
+	var shared, read sync.RWMutex
+	var group sync.WaitGroup
+	condition := sync.NewCond(new(sync.Mutex))
+	mutex.Lock()
+	shared.Lock()
+	unlocked.Lock()
+	unlocked.Unlock()
+	reads(&read)
+	reads(&read)
+	made := makes()
+	isRefused()
+	isCancelled()
+	group.Add(1)
+	full, done := make(chan int, 2), make(chan int)
+	for i := 0; i < 2; i++ {
+		sends(full)
+	}
+	five := [5]chan int{}
+	for i := range five {
+		five[i] = make(chan int)
+	}
+	for i := 0; i < 2; i++ {
+		go locks(&mutex)
+		go awaits(condition)
+		go waits(&group)
+		go receives(five[0])
+	}
+	go readLocks(&shared)
+	go pends(&read)
+	go receivesOfMade(made)
+	time.Sleep(50 * time.Millisecond)
+	go writeLocks(&shared)
+	go sends(full)
+	go selects(five[0], five[1], five[2], five[3], five[4])
+	go sleeps()
+	go receivesOfNil()
+	go hasNoCases()
+	go ticks()
+	go waitsAfter()
+	go calls()
+	go ends(done)
+	time.Sleep(50 * time.Millisecond)
+	go closes(done)
+	time.Sleep(200 * time.Millisecond)
+	a.Write([]byte("x"))
+	b.Read(make([]byte, 1))"""
+PROGRAM = program(BODY, "context", "sync", "time").replace("\nfunc main", FUNCTIONS + "\nfunc main")
+
+# For each function: what it waits for, the kind of the object, a channel's capacity, and how the function uses the
+# channel.
+WAITS: dict[str, tuple[str, list[tuple[str, int, str]]]] = {
+    "receives": (where.A_VALUE, [("channel", 0, where.FOR_VALUE)]),
+    "receivesOfMade": (where.A_VALUE, [("channel", 3, where.FOR_VALUE)]),
+    "sends": (where.ROOM, [("channel", 2, where.FOR_ROOM)]),
+    "selects": (where.A_SELECT, [("channel", -1, use) for use in ("room", "room", "value", "value", "value")]),
+    "awaits": (where.A_CONDITION, [("condition", -1, "")]),
+    "sleeps": (where.A_SLEEP, []),
+    "locks": (where.A_MUTEX, [("mutex", -1, "")]),
+    "readLocks": (where.A_READ_LOCK, [("RWMutex", -1, "")]),
+    "writeLocks": (where.A_WRITE_LOCK, [("RWMutex", -1, "")]),
+    "pends": (where.A_WRITE_LOCK, [("RWMutex", -1, "")]),
+    "waits": (where.A_WAIT_GROUP, [("WaitGroup", -1, "")]),
+    "receivesOfNil": (where.A_NIL_CHANNEL, []),
+    "hasNoCases": (where.NO_CASES, []),
+    "calls": (where.NO_CASES, []),
+    "ticks": (where.A_VALUE, [("channel", 1, where.FOR_VALUE)]),
+    "waitsAfter": (where.A_VALUE, [("channel", 1, where.FOR_VALUE)]),
+}
+TWICE = ("locks", "awaits", "waits", "receives")  # with one object each
+
+
+class Waits(Tool):
+    lines: Lines
+
+    def test_each_release_has_all_waits_and_their_objects(self) -> None:
+        self.written(PROGRAM)
+        folders = [str(folder) for folder in map(here, SUITES) if folder] or [""]
+        for folder in folders:
+            with self.subTest(folder):
+                status, said = self.called("run", "main.go", PATH=f"{folder}:{os.environ['PATH']}", GOTOOLCHAIN="local")
+                self.assertEqual(status, 0, said)
+                steps = len((self.folder / "recording.jsonl").read_text().splitlines()) - 1
+                self.lines = Lines.beside(str(self.folder / "recording.jsonl"), steps)
+                self.look_at_waits()
+                self.look_at_timers()
+                self.look_at_channels()
+                self.look_at_makings()
+                self.look_at_holders()
+                self.look_at_dials()
+
+    def function_of(self, stack: int) -> str:
+        """The innermost function of the program in a stack."""
+        calls = self.lines.stacks[stack].calls if stack in self.lines.stacks else ()
+        return next((call.function.removeprefix("main.") for call in calls if call.of == "program"), "")
+
+    def parks(self) -> dict[str, list[Park]]:
+        """The waits that last to the end, by function."""
+        found: dict[str, list[Park]] = {}
+        for parks in self.lines.parks.values():
+            for park in parks:
+                if park.last == where.STILL:
+                    found.setdefault(self.function_of(park.stack), []).append(park)
+        return found
+
+    def look_at_waits(self) -> None:
+        found = self.parks()
+        self.assertEqual(
+            {name: len(parks) for name, parks in found.items()}, {name: 1 + (name in TWICE) for name in WAITS}
+        )
+        for name, (reason, objects) in WAITS.items():
+            for park in found[name]:
+                at = [(self.lines.objects[one.object], one.use) for one in park.objects]
+                described = sorted((of.sort, -1 if reason == where.A_SELECT else of.room, use) for of, use in at)
+                self.assertEqual((name, park.reason, described), (name, reason, sorted(objects)))
+        numbers = {name: {one.object for park in parks for one in park.objects} for name, parks in found.items()}
+        self.assertEqual([len(numbers[name]) for name in TWICE], [1] * len(TWICE))
+        self.assertEqual(numbers["readLocks"], numbers["writeLocks"])
+        self.assertLess(numbers["receives"], numbers["selects"])
+        self.assertEqual(len(numbers["selects"]), 5)
+        (sleep,) = found["sleeps"]
+        self.assertAlmostEqual(sleep.due - sleep.begin, HOUR, delta=HOUR / 100)
+
+    def look_at_timers(self) -> None:
+        found = self.parks()
+        timers = [timer for timers in self.lines.timers.values() for timer in timers]
+        by_function: dict[str, list[Timer]] = {}
+        for timer in timers:
+            by_function.setdefault(self.function_of(timer.stack), []).append(timer)
+        for name in ("ticks", "waitsAfter", "calls"):
+            (timer,) = by_function[name]
+            self.assertAlmostEqual(timer.due - timer.time, HOUR, delta=HOUR / 100)
+            (park,) = found[name]
+            self.assertEqual([one.object for one in park.objects] or [0], [timer.object])
+            self.assertEqual(timer.goid, park.goid)
+
+    def look_at_channels(self) -> None:
+        uses: dict[tuple[str, str], list[Use]] = {}
+        for several in self.lines.uses.values():
+            for use in several:
+                uses.setdefault((self.function_of(use.stack), use.what), []).append(use)
+        (put,) = uses["sends", where.PUT]
+        self.assertEqual(put.often, 2)
+        (closed,) = uses["closes", where.CLOSED]
+        (ended,) = self.ended("ends")
+        self.assertGreaterEqual(ended.end, closed.begin)
+        self.assertEqual(self.ended("locks"), [])
+
+    def look_at_makings(self) -> None:
+        found = self.parks()
+        made = {
+            name: self.lines.made[found[name][0].objects[0].object] for name in ("receivesOfMade", "receives", "ticks")
+        }
+        functions = {name: self.function_of(making.stack) for name, making in made.items()}
+        self.assertEqual(functions, {"receivesOfMade": "makes", "receives": "main", "ticks": "ticks"})
+        self.assertEqual(made["ticks"].goid, found["ticks"][0].goid)
+        self.assertEqual(made["receives"].goid, made["receivesOfMade"].goid)
+        for making in made.values():
+            self.assertGreater(making.time, 0)
+
+    def look_at_holders(self) -> None:
+        """The locks at the end: two mutexes that main has locked, and an RWMutex with one of its two readers and a
+        writer that waits for the readers."""
+        found, held = self.parks(), self.lines.held
+        assert held is not None
+        (at,) = {park.objects[0].object for park in found["locks"]}
+        (shared,) = {park.objects[0].object for park in found["readLocks"]}
+        (read,) = {park.objects[0].object for park in found["pends"]}
+        functions = {
+            number: sorted((one.how, self.function_of(one.stack)) for one in rows) for number, rows in held.items()
+        }
+        readers = [(where.READ, "reads"), (where.READ, "reads")]
+        self.assertEqual(functions, {at: [("", "main")], shared: [("", "main")], read: [("", "pends"), *readers]})
+        main = {one.goid for rows in held.values() for one in rows if self.function_of(one.stack) != "pends"}
+        self.assertEqual(
+            main, {made.goid for made in self.lines.made.values() if self.function_of(made.stack) == "makes"}
+        )
+        self.assertIn(found["pends"][0].goid, {one.goid for one in held[read]})
+
+    def look_at_dials(self) -> None:
+        dials = [dial for several in self.lines.failed_dials.values() for dial in several]
+        found = {self.function_of(dial.stack): (dial.why, dial.address) for dial in dials}
+        self.assertEqual(found, {"isRefused": ("ECONNREFUSED", "127.0.0.1:1"), "isCancelled": ("cancelled", "")})
+        (cancelled,) = (dial for dial in dials if self.function_of(dial.stack) == "isCancelled")
+        (closed,) = (use for use in self.lines.uses[cancelled.context] if use.what == where.CLOSED)
+        self.assertEqual(self.function_of(closed.stack), "isCancelled")
+        self.assertLessEqual(closed.end, cancelled.time)
+
+    def ended(self, name: str) -> list[GoGoroutine]:
+        """The goroutines that waited in a function and have ended."""
+        goids = {
+            park.goid for parks in self.lines.parks.values() for park in parks if self.function_of(park.stack) == name
+        }
+        return [one for goid in goids if (one := self.lines.goroutines[goid]).end >= 0]

@@ -1,0 +1,141 @@
+"""The SVG picture and the diagram of `report`: each call and each step occurs once, the steps of the story are
+numbered, and text from a recording is escaped."""
+
+import re
+import unittest
+import xml.etree.ElementTree as ET
+from collections import Counter
+from pathlib import Path
+
+import pytest
+
+from netrev.findings.evidence.index import index_of
+from netrev.findings.evidence.waiters import is_waiting
+from netrev.recording.recording import Recording
+from netrev.recording.where import Call, Stack
+from netrev.run.calls import book_of
+from netrev.timeline.calls import FAILED, HANGS
+from netrev.timeline.drawing import CLASS, EDGE, LEFT, LETTER, WIDE, drawing, fitted
+from netrev.timeline.sequence import MOST, sequence, spelled
+from netrev.timeline.stories import causes_data
+from tests.suspects.test_suspects import Steps, recording_of
+
+EXAMPLES = Path(__file__).resolve().parents[3] / "examples"
+REAL = ("past", "lost", "leak", "half", "hung", "hijacked")
+HOSTILE = "</text><script>alert(1)</script>\u202e--><!-- \"':;#%%{}\n    end"
+
+
+def read(name: str) -> Recording:
+    return Recording.read(str(EXAMPLES / f"real/{name}.jsonl"))
+
+
+def with_lines_of(text: str) -> Recording:
+    """A recording whose functions and files have this text as their names."""
+    recording = read("lost")
+    stacks = recording.lines.stacks
+    for number, stack in stacks.items():
+        stacks[number] = Stack(tuple(Call(text, text, 7, "program") for _ in stack.calls), stack.made)
+    return recording
+
+
+def elements(picture: str, name: str) -> list[ET.Element]:
+    return [node for node in ET.fromstring(picture).iter() if node.tag.endswith(f"}}{name}")]
+
+
+class Drawings(unittest.TestCase):
+    def test_each_call_is_there_and_each_step_of_the_story(self) -> None:
+        for name in REAL:
+            recording = read(name)
+            story = next(causes_data(recording), None)
+            picture = drawing(recording, story)
+            kinds = Counter(node.get("class") for node in elements(picture, "rect"))
+            calls = [one for one in book_of(recording).calls if one.socket >= 0]
+            self.assertEqual(sum(kinds[kind] for kind in CLASS.values()), len(calls), name)
+            hanging = [one for one in calls if not one.last and is_waiting(index_of(recording), one)]
+            self.assertEqual(kinds[CLASS[HANGS]], len(hanging), name)
+            heads = [node.text for node in elements(picture, "text") if (node.text or "").startswith("connection ")]
+            self.assertEqual(len(heads), len({one.socket for one in calls}))
+            numbers = [node.text for node in elements(picture, "text") if node.get("class") == "count"]
+            self.assertEqual(numbers, [str(at) for at in range(1, len(story["steps"] if story else ()) + 1)], name)
+            if story:
+                self.assertEqual(heads[0], f"connection {story['s']}")
+                self.assertIn(story["says"][:40], "".join(ET.fromstring(picture).itertext()))
+
+    def test_bars_are_where_their_steps_are(self) -> None:
+        recording = read("lost")
+        picture = drawing(recording, None)
+        (hangs,) = [node for node in elements(picture, "rect") if node.get("class") == CLASS[HANGS]]
+        ticks = {node.text: node for node in elements(picture, "text") if node.get("class") == "tick"}
+        self.assertTrue(all(ticks))
+        (call,) = [one for one in book_of(recording).calls if not one.last and one.name == "Read"]
+        per = float(ticks["5"].get("x", 0)) - float(ticks["0"].get("x", 0))
+        begin = float(ticks["0"].get("x", 0)) - 3 + per * (call.first - 1) / 5
+        self.assertAlmostEqual(float(hangs.get("x", 0)), begin, delta=0.1)
+        self.assertAlmostEqual(float(hangs.get("width", 0)), per * (recording.length + 2 - call.first) / 5, delta=1.2)
+
+    def test_what_failed_is_red_and_says_so_where_there_is_room(self) -> None:
+        picture = drawing(read("leak"), None)
+        (failed,) = [node for node in elements(picture, "rect") if node.get("class") == CLASS[FAILED]]
+        self.assertGreater(float(failed.get("width", 0)), 100)
+        self.assertTrue(any((node.text or "").startswith("Read · closed") for node in elements(picture, "text")))
+
+    def test_a_call_of_gos_own_code_is_labelled_with_its_function(self) -> None:
+        recording = Recording.read(str(EXAMPLES / "races/http-watchdog.jsonl"))
+        labels = [node.text or "" for node in elements(drawing(recording, None), "text")]
+        self.assertEqual([label for label in labels if label.endswith("· in")], [])
+        self.assertIn("Write · closed · in internal/poll.(*fdMutex).rwlock", labels)
+
+    def test_texts_of_others_stay_texts(self) -> None:
+        recording = with_lines_of(HOSTILE)
+        picture = drawing(recording, None)
+        self.assertEqual(elements(picture, "script"), [])
+        self.assertNotIn("\u202e", picture)
+        picture = drawing(with_lines_of("<b>&'"), None)
+        self.assertEqual(elements(picture, "b"), [])
+        self.assertIn("g2 <b>&'", [node.text for node in elements(picture, "text")])
+
+    def test_a_text_is_cut_where_there_is_no_room(self) -> None:
+        self.assertEqual(fitted("Read", 5 * LETTER), "Read")
+        self.assertEqual(fitted("Read of more", 6.5 * LETTER), "Read …")
+        self.assertEqual(fitted("Read", 2 * LETTER), "")
+
+
+class Sequences(unittest.TestCase):
+    def test_each_step_is_a_message_in_its_order(self) -> None:
+        recording = read("leak")
+        told = sequence(recording, {"steps": [61, 71]})
+        self.assertEqual(told.splitlines()[0], "sequenceDiagram")
+        steps = re.findall(r"^    (\w+)->>(\w+): (\d+) (\w+)", told, re.MULTILINE)
+        self.assertEqual([int(one[2]) for one in steps], list(range(1, recording.length + 1)))
+        for who, where, number, kind in steps:
+            step = recording.step(int(number))
+            g, s = step.argument("g"), step.argument("s")
+            self.assertEqual((kind, who), (step.kind, "net" if g is None else f"g{g}"))
+            if s is not None:
+                self.assertEqual(where, f"s{s}")
+        named = set(re.findall(r"^    participant (\w+) as ", told, re.MULTILINE))
+        self.assertEqual({one for who, where, *_ in steps for one in (who, where)} - named, set())
+        self.assertEqual(len(re.findall(r"^    Note over g[24]: [12]\. ", told, re.MULTILINE)), 2)
+
+    def test_texts_of_others_stay_texts(self) -> None:
+        told = sequence(with_lines_of(HOSTILE), None)
+        for line in told.splitlines()[1:]:
+            head, _, message = line.partition(": ")
+            self.assertNotRegex(message if "->>" in line else "", r"[<>\"{}%]|:(?! )")
+            self.assertRegex(head, r"^    (participant|\w+->>\w+)")
+        self.assertEqual(spelled("a;b#c\nd"), "a#59;b#35;c#92;nd")
+
+    def test_a_long_recording_has_none(self) -> None:
+        recording = read("hung")
+        self.assertGreater(recording.length, MOST)
+        self.assertEqual(sequence(recording, None), "")
+
+
+@pytest.mark.parametrize("length", [1, 9, 17, 33, 44, 90, 170, 215, 440, 870, 1_800, 2_000, 3_900, 4_300, 9_000])
+def test_the_ruler_has_the_closest_round_distances_that_leave_room(length: int) -> None:
+    steps: Steps = [["tick", at] for at in range(1, length + 1)]
+    ticks = [int(found) for found in re.findall(r'class="tick">(\d+)<', drawing(recording_of(steps), None))]
+    room = (WIDE - LEFT - EDGE) / (length + 1)
+    rounds = [one * 10**power for power in range(3) for one in (1, 2, 5)] + [10**9]
+    every = next(distance for distance in rounds if distance * room >= 40)
+    assert ticks == list(range(0, length + 1, every))

@@ -1,0 +1,1 @@
+"""Trials of the recorder with real releases of Go."""
