@@ -1,5 +1,5 @@
 #!/usr/bin/env python3
-"""Checks the pages against the tree:  scripts/pages.py [--diagram] [--write] [RULE ..]
+"""Checks the pages against the tree:  scripts/pages.py [--diagram] [RULE ..]
 
 The gate runs all rules. These are about pages and Python code, and about what pages say of the source:
 
@@ -13,7 +13,7 @@ The gate runs all rules. These are about pages and Python code, and about what p
     shared-names         a name that two crates define is in the glossary's list, with each of these crates
     tables               a file that names most kinds, cells or commands is in a list of docs/internals/ARCHITECTURE.md
     diagram              the crates of docs/internals/ARCHITECTURE.md are those of crates.txt
-    imports              packages of Python import only the packages above them that the table of CONTRIBUTING.md names
+    imports              modules of Python import only their own folder and rows above it in the table of CONTRIBUTING.md
     docstrings           no docstring depends on the text before it
     markers              no page has the marks of a merge conflict
 
@@ -25,8 +25,7 @@ And these are about the source itself:
     forgotten            only one file calls `mem::forget` or leaks memory in another way
     refused              no function of the program reports that memory ran out unless it has the library's error
 
-`--diagram` prints the diagram of the crates. `--write` first updates the imports of the packages in CONTRIBUTING.md's table. With RULE ..,
-only these rules run. Prints each finding with its file and line; the status is 1 if there is any.
+`--diagram` prints the diagram of the crates. With RULE .., only these rules run. Prints each finding with its file and line; the status is 1 if there is any.
 """
 
 import argparse
@@ -93,16 +92,12 @@ def main(given_words: list[str] | None = None) -> int:
     """Runs the rules that these arguments name, or those that the command line names."""
     given = argparse.ArgumentParser(description=__doc__, formatter_class=argparse.RawDescriptionHelpFormatter)
     given.add_argument("--diagram", action="store_true", help="print the diagram of the crates")
-    given.add_argument("--write", action="store_true", help="put the imports into the table of CONTRIBUTING.md first")
     given.add_argument("--root", type=Path, default=Path(__file__).resolve().parent.parent, help=argparse.SUPPRESS)
     given.add_argument("rules", nargs="*", metavar="RULE", help="just these")
     asked = given.parse_args(given_words)
     if unknown := [name for name in asked.rules if name not in RULES]:
         given.error(f"there is no rule {', '.join(unknown)}")
     tree = Tree(asked.root)
-    if asked.write:
-        (asked.root / imports.PAGE).write_text(imports.written(tree), encoding="utf-8")
-        tree = Tree(asked.root)
     if asked.diagram:
         print(lists.drawn(tree), end="")
         return 0

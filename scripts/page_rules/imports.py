@@ -1,13 +1,15 @@
-"""Checks CONTRIBUTING.md's table of Python packages: each package imports only packages that its row names, and these
-are in rows above it.
+"""Checks CONTRIBUTING.md's table of Python folders: each module but `__init__.py` has a row, and imports only modules
+of its own row and of rows above it.
 
-A row is a folder below python/, or some files of such a folder. A module belongs to the row with the longest matching
-path. So no two packages import each other.
+A row is a folder below python/ with the folders in it, or some files of such a folder. A module belongs to the row with the longest matching
+path. So no two rows import each other. A folder has at most MOST modules.
 """
 
 import ast
+from collections import Counter
 from collections.abc import Iterator
-from dataclasses import dataclass, field
+from dataclasses import dataclass
+from pathlib import PurePosixPath
 
 from page_rules.markdown import CODE, blocks
 from page_rules.tree import Finding, Tree
@@ -15,18 +17,15 @@ from page_rules.tree import Finding, Tree
 PAGE = "CONTRIBUTING.md"
 HEADING = "Python"
 PYTHON = "python/"
-ALL = "all above"
-PLACES, IMPORTS = 0, 2  # columns
+MOST = 15
 
 
-@dataclass
+@dataclass(frozen=True)
 class Row:
-    """A row of the table: its places below python/, its line in the page, and the first place of each row that it names."""
+    """A row of the table: its places below python/, and its line in the page."""
 
-    places: list[str]
+    places: tuple[str, ...]
     line: int
-    named: list[str] = field(default_factory=list)
-    takes_all: bool = False
 
     @property
     def name(self) -> str:
@@ -39,16 +38,9 @@ class Row:
 
 def rows_of(tree: Tree) -> list[Row]:
     """The table's rows, in order."""
-    rows: list[Row] = []
-    for block in blocks(tree.text(PAGE)) if tree.has(PAGE) else ():
-        if block.kind != "cell" or block.heading != HEADING:
-            continue
-        codes = CODE.findall(block.text)
-        if block.column == PLACES and codes:
-            rows.append(Row(codes, block.line))
-        elif block.column == IMPORTS and rows and rows[-1].line == block.line:
-            rows[-1].named, rows[-1].takes_all = codes, block.text == ALL
-    return rows
+    found = blocks(tree.text(PAGE)) if tree.has(PAGE) else ()
+    cells = [block for block in found if block.kind == "cell" and block.heading == HEADING and block.column == 0]
+    return [Row(tuple(codes), cell.line) for cell in cells if (codes := CODE.findall(cell.text))]
 
 
 def imported(tree: Tree, path: str) -> Iterator[tuple[int, str]]:
@@ -78,60 +70,32 @@ def _path_of(tree: Tree, name: list[str]) -> str:
     return ""
 
 
-def uses(tree: Tree, rows: list[Row]) -> Iterator[tuple[str, int, Row, str, Row]]:
-    """The imports between modules of two rows: the importing module, its line, its row, the imported module, and the imported module's
-    row."""
-    for path in tree.matching("python/*.py"):
-        own = _row_of(rows, path.removeprefix(PYTHON))
-        for line, other in sorted(set(imported(tree, path))) if own else ():
-            row = _row_of(rows, other)
-            if own is not None and row is not None and row is not own:
-                yield path, line, own, other, row
-
-
 def imports(tree: Tree) -> Iterator[Finding]:
-    """Imports that the table doesn't allow, and imports in the table that no module makes."""
+    """Modules without a row, imports from a row below, rows without modules, and folders with too many modules."""
     rows = rows_of(tree)
     if not rows:
         yield Finding(PAGE, 1, f"no table under {HEADING!r}")
         return
+    met = set[Row]()
+    folders = Counter[str]()
     for path in tree.matching("python/*/*.py"):
-        if _row_of(rows, path.removeprefix(PYTHON)) is None:
-            yield Finding(path, 1, f"the table of {PAGE} has no row for it")
-    for path in tree.matching("python/*/*/__init__.py"):
-        package, folder, *inner = path.removeprefix(PYTHON).split("/")[:-1]
-        row = _row_of(rows, f"{package}/{folder}")
-        if not inner and package != "tests" and row is not None and row.name == package:
-            yield Finding(path, 1, f"the table of {PAGE} has no row for {package}/{folder}")
-    met: set[tuple[str, str]] = set()
-    for path, line, own, other, row in uses(tree, rows):
-        met.add((own.name, row.name))
-        if rows.index(row) > rows.index(own):
-            yield Finding(path, line, f"imports {other}, and {row.name} is below {own.name} in {PAGE}")
-        elif row.name not in own.named and not own.takes_all:
-            yield Finding(path, line, f"imports {other}, and the row of {own.name} in {PAGE} leaves {row.name} out")
+        folders[str(PurePosixPath(path).parent)] += 1
+        own = _row_of(rows, path.removeprefix(PYTHON))
+        if own is None:
+            if not path.endswith("/__init__.py"):
+                yield Finding(path, 1, f"the table of {PAGE} has no row for it")
+            continue
+        met.add(own)
+        for line, other in sorted(set(imported(tree, path))):
+            row = _row_of(rows, other)
+            if row is not None and rows.index(row) > rows.index(own):
+                yield Finding(path, line, f"imports {other}, and {row.name} is below {own.name} in {PAGE}")
     for row in rows:
-        for name in row.named:
-            if (row.name, name) not in met:
-                yield Finding(PAGE, row.line, f"nothing of {row.name} imports {name}")
-
-
-def written(tree: Tree) -> str:
-    """The page with a new column of imports in its table: the imports in the tree, in the order of the rows. The
-    packages, their descriptions and the row that imports everything above it don't change. An import from a lower row
-    is left out, because it is an error in the code."""
-    rows, lines = rows_of(tree), tree.text(PAGE).split("\n")
-    met: dict[str, set[str]] = {row.name: set() for row in rows}
-    for _, _, own, _, other in uses(tree, rows):
-        if rows.index(other) < rows.index(own):
-            met[own.name].add(other.name)
-    for row in rows:
-        if not row.takes_all:
-            cells = lines[row.line - 1].strip("|").split("|")
-            named = ", ".join(f"`{one.name}`" for one in rows if one.name in met[row.name])
-            cells[IMPORTS] = f" {named} " if named else " "
-            lines[row.line - 1] = f"|{'|'.join(cells)}|"
-    return "\n".join(lines)
+        if row not in met:
+            yield Finding(PAGE, row.line, f"{row.name} contains no module")
+    for folder, count in folders.items():
+        if count > MOST:
+            yield Finding(f"{folder}/__init__.py", 1, f"{count} modules in its folder, {MOST} at most")
 
 
 def _row_of(rows: list[Row], path: str) -> Row | None:

@@ -99,15 +99,14 @@ PLANTED: list[tuple[str, str, str, str, str]] = [
         "from .cli import main",
         "nrdb/cli.py is below nrdb",
     ),
+    ("imports", "CONTRIBUTING.md", "| `words` | words |\n", "", "has no row for it"),
     (
         "imports",
         "CONTRIBUTING.md",
-        "counts | `words`",
-        "counts | ",
-        "the row of nrdb in CONTRIBUTING.md leaves words out",
+        "| `words` |",
+        "| `words/sums` | sums |\n| `words` |",
+        "words/sums contains no module",
     ),
-    ("imports", "python/nrdb/counting.py", "from words import plain", "import json", "nothing of nrdb imports words"),
-    ("imports", "CONTRIBUTING.md", "| `words` | words | |\n", "", "has no row for it"),
     ("imports", "CONTRIBUTING.md", "Python", "C", "no table under"),
     ("docstrings", "python/nrdb/counting.py", "Counts.", "The same of two.", "leans on the comment before it"),
     ("modules", "crates/counting/specs/Lib.antt", "need\n", "need\npub mod Spare\n", "imports Spare"),
@@ -184,29 +183,24 @@ class Pages(SmallTree):
     def test_each_rule_is_named_where_it_is_said_what_they_are(self) -> None:
         self.assertEqual([rule for rule in PAGES.RULES if rule not in str(PAGES.__doc__)], [])
 
-    def test_the_table_of_imports_is_written(self) -> None:
-        page = TREE["CONTRIBUTING.md"]
-        self.assertIn("counts | `words` |", page)
-        for wrong in ("counts | |", "counts | `words`, `nothing` |"):
-            self.write("CONTRIBUTING.md", page.replace("counts | `words` |", wrong))
-            self.assertEqual(self.run_over("imports")[0], 1)
-            self.assertEqual(self.run_over("--write", "imports")[0], 0)
-            self.assertEqual((self.top / "CONTRIBUTING.md").read_text(encoding="utf-8"), page)
-        self.write("python/words/plain.py", TREE["python/words/plain.py"] + "\nimport nrdb.counting\n")
-        self.assertEqual(self.run_over("--write", "imports")[0], 1)
-        self.assertEqual((self.top / "CONTRIBUTING.md").read_text(encoding="utf-8"), page)
-
     def test_a_page_that_is_gone_is_missed(self) -> None:
         (self.top / "docs/proof/THEOREM.md").unlink()
         status, printed = self.run_over()
         self.assertEqual((status, printed.split("\n")[0]), (1, "there is no docs/proof/THEOREM.md"))
 
-    def test_a_package_within_another_has_a_row_of_its_own(self) -> None:
-        self.write("python/nrdb/views/__init__.py", '"""Views."""\n')
-        self.assertIn("the table of CONTRIBUTING.md has no row for nrdb/views", self.run_over("imports")[1])
-        row = "| `nrdb` | counts | `words` |\n"
-        self.write("CONTRIBUTING.md", TREE["CONTRIBUTING.md"].replace(row, f"{row}| `nrdb/views` | views | |\n"))
+    def test_a_folder_has_at_most_fifteen_modules(self) -> None:
+        for count in range(4, 16):
+            self.write(f"python/nrdb/view_{count}.py", '"""A view."""\n')
         self.assertEqual(self.run_over("imports")[0], 0)
+        self.write("python/nrdb/view_16.py", '"""A view."""\n')
+        self.assertIn("16 modules in its folder, 15 at most", self.run_over("imports")[1])
+
+    def test_a_folder_in_another_may_have_a_row_of_its_own(self) -> None:
+        row = "| `nrdb` | counts |\n"
+        self.write("python/nrdb/views/text.py", '"""Text."""\n\nfrom nrdb.counting import counted\n')
+        for rows, status in ((f"{row}| `nrdb/views` | views |\n", 0), (f"| `nrdb/views` | views |\n{row}", 1)):
+            self.write("CONTRIBUTING.md", TREE["CONTRIBUTING.md"].replace(row, rows))
+            self.assertEqual(self.run_over("imports")[0], status)
 
     def test_an_unknown_rule_is_refused(self) -> None:
         self.assertIn("there is no rule sums", self.run_over("sums")[1])

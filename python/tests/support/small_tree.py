@@ -168,11 +168,11 @@ CONTRIBUTING = """\
 
 ## Python
 
-| Package | What it is | Imports |
-|---|---|---|
-| `words` | words | |
-| `nrdb` | counts | `words` |
-| `nrdb/cli.py`, `nrdb/__main__.py` | how it is called | all above |
+| Folder | Contains |
+|---|---|
+| `words` | words |
+| `nrdb` | counts |
+| `nrdb/cli.py`, `nrdb/__main__.py` | the command line |
 """
 TREE = {
     "README.md": "# Read me\n\nIt counts ([how](docs/internals/GLOSSARY.md)), in `crates/counting/src/lib.rt`.\n\n    rattle-kit-1 logic d0e1\n",
