@@ -1,11 +1,11 @@
 """Measures how fast a shared session searches with several workers:  python3 python dev.bench.searches [WORKERS ..]
 
-For 1, 2 and 4 workers or WORKERS, prints the positions a second of a `continue` and of a `reverse-continue` over a
+For 1, 2 and 4 workers or WORKERS, prints how many positions a second `continue` and `reverse-continue` search in a
 recording of 1,000,000 steps in which no mark hits. For comparison, the same number of separate sessions, with one
 worker each, make the same searches at the same time; their positions are added up. Each figure is the best of RUNS. The
 last column is the workers' figure for `continue` divided by the sessions' figure. If valgrind is installed, the
-instructions per position follow; callgrind counts them over COUNTED positions in each direction. No time is limited; a
-wrong reply ends the run.
+instructions per position follow; callgrind counts them over COUNTED positions in each direction. No figure is checked
+against a limit. A wrong reply ends the run.
 """
 
 import os

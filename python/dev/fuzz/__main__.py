@@ -1,6 +1,6 @@
 """Runs the fuzzer, as `make fuzz` does:  python3 python dev.fuzz [--minutes M] [--cases N] [--seed S] [--of nrdb]
 
-Runs random cases until the time or their number is used up. Half of the time goes to cases for netrev and half to
+Runs random cases until M minutes have passed or N cases have run. Half of the time goes to cases for netrev and half to
 sessions of nrdb, except that `--cases` runs no sessions; `--of` runs only one kind. Each case has a seed: `S-1`, `S-2`
 and so on, or `S-nrdb-1` and so on for nrdb; `--case S-7` runs only that case. If netrev's output differs from the
 model's, the case is kept in `out/fuzz/S-7/`, reduced to the lines that still show the difference, with netrev's output

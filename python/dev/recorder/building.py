@@ -14,9 +14,8 @@ from .suites import DEBIAN, SAMPLES, Suite
 
 
 def environment(is_of_others: bool, **settings: str) -> dict[str, str]:
-    """The environment for building, in which Go finds other projects through GOPATH. Go's own tests are built as in a module, because
-    newer
-    releases otherwise use old defaults."""
+    """The environment for building. Go finds other projects through GOPATH. Go's own tests are built in module mode,
+    because newer releases fall back to old defaults outside it."""
     found = {"GO111MODULE": "off", "GOPATH": str(DEBIAN)} if is_of_others else {"GO111MODULE": "", "GOWORK": "off"}
     return os.environ | found | {"GOFLAGS": "", "GOTOOLCHAIN": "local"} | settings
 

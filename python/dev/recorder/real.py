@@ -5,7 +5,8 @@ and compares every answer and every lock word with netrev's.
                                   [--tests WORD] [--small] [--record | --check]
     python3 python dev.recorder.real --gate
 
-The default is the `go` on the PATH; --go fetches a release of Debian's if it is missing (dev.recorder.fetching). --seconds limits a release.
+The default is the `go` on the PATH. --go chooses one of Debian's releases, and fetches it if it is missing
+(dev.recorder.fetching). --seconds limits the time for each release.
 The words of --only and --tests are regular expressions, for example `--only '^net$' --tests '^TestUnix'`. The recordings stay in
 out/real/RELEASE, with a line of JSON for each test's process in results.jsonl; --check compares existing recordings and makes none. --small
 omits most tests. --gate is --small with the releases in GATE, or with the `go` on the PATH if neither is installed; if there is no Go, it

@@ -31,7 +31,7 @@ class Scout:
         self._stands: Optional[int] = None  # netrev's position, if known
 
     def prepare(self) -> None:
-        """Starts netrev, unless it runs already, without waiting until it has read the recording."""
+        """Starts netrev unless it is already running. Doesn't wait until netrev has read the recording."""
         if self._netrev is None:
             try:
                 self._netrev, self._placed, self._stands = self._opened(), 0, None

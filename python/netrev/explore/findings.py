@@ -160,8 +160,8 @@ class Exploring:
         return self._all_of(player)
 
     def _with_the_rest(self, player: Player, copy: Player) -> Played:
-        """The result of a schedule that has reached a state of the recorded run, including the objects' numbers. The rest
-        of its steps are the recorded ones."""
+        """The result of a schedule that has reached a state of the recorded run, with the same numbers for all objects.
+        The rest of its steps are the recorded ones."""
         steps = self._steps[: player.before] + player.steps + self._steps[copy.before :]
         recorded = self.recorded
         return Played(steps, recorded.world, recorded.places, recorded.sockets, player.has_news)

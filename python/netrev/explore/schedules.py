@@ -56,7 +56,7 @@ class Touched(NamedTuple):
     kind: str
 
     def matters_to(self, other: "Touched") -> bool:
-        """Whether the other step is by another actor, and the order of the two steps may matter."""
+        """Whether the two steps are by different actors and their order may matter."""
         if self.who == other.who:
             return False
         return THING_OF[self.kind] != WAIT or self.kind in TO_OTHERS or other.kind in TO_OTHERS

@@ -52,7 +52,7 @@ class Standing:
         self.following: dict[int, Step] = {}  # the next step of each goroutine that is scheduled
         self.coming = [0] * len(script.goroutines)  # the number of each goroutine's next recorded step, or 0
         self.off: set[int] = set()  # the actors that have made steps that the recording doesn't have
-        # whether a step had an answer of NEWS that the recording doesn't have, or a watched call failed
+        # whether a step got an answer in NEWS that differs from the recorded answer, or a watched call failed
         self.has_news = False
         self.failed: Optional[Failed] = None  # the first watched call that failed
         self.is_over = False  # whether the failed call has ended

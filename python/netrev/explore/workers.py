@@ -17,8 +17,8 @@ from .findings import Exploring, Key
 from .schedules import Schedule, schedules
 from .scripts.scripts import Script
 
-# several processes are used only if all schedules together have at least this many steps; each schedule is counted
-# as long as the recording
+# several processes are used only if all schedules together have at least this many steps; each schedule is assumed to
+# have as many steps as the recording
 WORTH_IT = 100_000
 SECONDS = 0.2  # seconds between two messages
 LENGTH = 8  # the number of bytes that encode a message's length
@@ -50,7 +50,7 @@ class Told(NamedTuple):
 
 
 class Share(NamedTuple):
-    """The share of a process: every `of`th schedule, beginning with number `which`."""
+    """The share of a process: one schedule in `of`, beginning with number `which`."""
 
     script: Script
     lines: Lines

@@ -93,7 +93,7 @@ class Machine:
         return d < len(self.descs) and d not in self.free
 
     def inside(self, d: int, side: str) -> list[int]:
-        """The goroutines, at most one, inside the wait of a descriptor and side."""
+        """The goroutines (at most one) that are inside a wait on this side of the descriptor."""
         g = self._seats.get((d, side))
         return [] if g is None else [g]
 

@@ -103,7 +103,7 @@ class World(NamedTuple):
         return d < len(self.descs) and d not in self.free
 
     def inside(self, d: int, side: str) -> list[int]:
-        """The goroutines that are inside the wait of a descriptor and side."""
+        """The goroutines that are inside a wait on this side of the descriptor."""
         return [g for g, status in enumerate(self.goroutines) if status[0] in INSIDE and status[1:] == (d, side)]
 
     def with_status(self, g: int, status: Status) -> World:

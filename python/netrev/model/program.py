@@ -44,8 +44,8 @@ class Replayed(NamedTuple):
 
 
 def replay(recording: bytes, observer: Observer, keeps_worlds: bool = True, keeps_answers: bool = True) -> Replayed:
-    """Replays the recording. Raises Fault if the recording has a fault, and Doubtful if the model can't decide. Keeps
-    states and answers on request."""
+    """Replays the recording. Raises Fault if the recording has a fault, and Doubtful if the model can't decide. The
+    result has the states and the answers only if the caller asks for them."""
     text = read_text(recording)
     worlds, answers = held_together(positions(text, observer), keeps_worlds, keeps_answers)
     return Replayed(text, worlds, answers)

@@ -86,7 +86,7 @@ def came_of_deadlines(replayed: Replayed) -> Iterator[str]:
 
 
 def passed_deadlines(replayed: Replayed, n: int) -> Iterator[str]:
-    """Step n, if it is a `fire` answered `done` that sets a deadline to -1."""
+    """Step n, if it is a `fire` with the answer `done` and sets a deadline to -1."""
     for d, side in passings(replayed, n):
         yield f"at {n} {PASSED_DEADLINE} {setting(replayed, n, d, side)}"
 

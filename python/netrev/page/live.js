@@ -104,7 +104,7 @@ function showStand() {
   if (S.picture && S.stands) S.picture.stand(S.stands.position, $("follow").checked);
 }
 
-// Shows how far nrdb is with the picture, until the picture is here.
+// Shows nrdb's progress on the picture until the picture arrives.
 function making(text) {
   if (!S.picture) $("part").textContent = text ? `${text}. Lines are answered meanwhile.` : "";
   $("part").hidden = Boolean(S.picture) || !text;

@@ -101,7 +101,7 @@ function alongStory(way) {
 }
 
 // Goes to the next change in the chosen row, or to the previous one. In a descriptor's row, only changes during its uses count. In a row
-// of calls or waits, a change is where one begins or ends.
+// of calls or waits, the changes are the steps at which a call or wait begins or ends.
 function change(way) {
   const row = rowNow() || V.rows.find((one) => one.kind === "gor");
   if (!row) return;

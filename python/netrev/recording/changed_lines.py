@@ -26,7 +26,7 @@ class NoChanges(ValueError):
 
 
 class ChangedLines:
-    """Lines of changes, in pieces of whole lines. One thread may add lines while another thread reads."""
+    """The lines of changes, in pieces that never split a line. One thread may add lines while another thread reads."""
 
     def __init__(self) -> None:
         self.pieces: list[bytes] = []

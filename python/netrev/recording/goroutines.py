@@ -245,15 +245,15 @@ class AllGoroutines:
             self._owned[goid] = number
 
     def goid_of(self, number: int, step: Optional[int] = None) -> int:
-        """Go's number for the goroutine that has `number` in the recording at a step. Without a step, the result is for
-        the last goroutine that had that number. The result is 0 if unknown."""
+        """Go's number for the goroutine that has this number in the recording at a step. Without a step, the result is
+        for the last goroutine that had the number. The result is 0 if unknown."""
         if step is None or number not in self.owners:
             return self._goids.get(number, 0)
         return next((goid for taken, goid in reversed(self.owners[number]) if taken < max(step, 1)), 0)
 
     def reused_goid(self, number: int, step: int) -> int:
-        """Go's number for the goroutine that has `number` in the recording at a step, if several goroutines have had
-        that number; 0 if only one goroutine has had it, or if the goroutine is unknown."""
+        """Go's number for the goroutine that has this number in the recording at a step, if several goroutines have had
+        the number; 0 if only one goroutine has had it, or if the goroutine is unknown."""
         return self.goid_of(number, step) if number in self.owners else 0
 
     def number_of(self, goid: int, step: Optional[int] = None) -> int:

@@ -1,7 +1,7 @@
 """Facts that no cell shows, gathered in one pass over a recording's steps and their changes. The notes say which
 goroutine has held which reference since when, which goroutine set which deadline or took which event, and how long
-goroutines paused. This is nrdb's own analysis. A recording may have a million steps, so two functions are prepared once
-for all similar lines nearby: one notes a step, the other inspects the state."""
+goroutines paused. This is nrdb's own analysis. Two functions are prepared for each step: one notes the step, the other
+inspects the state. A recording may have a million steps, so equal lines near each other share the two functions."""
 
 from collections import deque
 from types import MappingProxyType

@@ -13,7 +13,7 @@ OF_LINES = b'{"where":'  # the beginning of a file of lines beside a recording (
 
 
 def beside(path: Path) -> Path:
-    """A new name in the folder of a file, which is short even if the file's name is long."""
+    """A new name in a file's folder. It is short even if the file's own name is long."""
     return path.with_name(f".netrev-{os.getpid()}-{secrets.token_hex(4)}")
 
 

@@ -15,8 +15,8 @@ class LineStarts:
         self._data = data
         counts = (data.count(b"\n", begin, begin + BLOCK) for begin in range(0, len(data), BLOCK))
         self._before = list(accumulate(counts, initial=0))  # how many line feeds precede each block
-        # `_first` and `_last` count the line feeds before the block used last and up to its end, `_behind` has the places
-        # after that block's line feeds, and `_kept` has such places for a few blocks
+        # for the most recently used block: `_first` counts the line feeds before it, `_last` also those in it, and
+        # `_behind` has the places after its line feeds; `_kept` has such places for a few blocks
         self._first = self._last = 0
         self._behind = [0]
         self._kept: dict[int, list[int]] = {}

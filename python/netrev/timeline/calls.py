@@ -128,7 +128,7 @@ class Telling:
         return steps[step - 1] if 0 < step <= len(steps) else 0
 
     def _line(self, stack: int) -> int:
-        """The index of the text of a stack's line. The text is empty if the stack is unknown."""
+        """The index of the text for a stack's line. The text is empty if the stack is unknown."""
         if stack not in self._lines:
             self._lines[stack] = self.texts[self._recording.lines.stacks[stack].words()]
         return self._lines[stack]

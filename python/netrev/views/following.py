@@ -169,7 +169,8 @@ def finish_goal(recording: Recording, goroutine: int, position: int) -> Goal:
 
 
 def return_goal(recording: Recording, goroutine: int, position: int) -> Goal:
-    """The position just before the goroutine's first step outside the program's function that it is now in."""
+    """The position just before the goroutine's next step outside the function that it is in. Of the functions in its
+    stack, that is the program's innermost one."""
     found = position_of_return(recording, goroutine, position)
     if found is not None:
         return Goal(found)
@@ -185,7 +186,7 @@ def start_goal(recording: Recording, goroutine: int, position: int) -> Goal:
 
 
 def _own_step(book: Book, goroutine: int, numbers: range) -> int:
-    """The first step of the goroutine among these."""
+    """The first of these steps that the goroutine made."""
     found = next((number for number in numbers if book.whose.goroutines[number - 1] == goroutine), None)
     if found is None:
         way = "later" if numbers.step > 0 else "earlier"

@@ -18,7 +18,7 @@ from .toolchain import Go, Trouble, find_go, points_program
 
 
 class Row(NamedTuple):
-    """Calls that make the same steps, the steps, and the actions of these calls that aren't recorded."""
+    """Calls that make the same steps, those steps, and what the recording omits of the calls."""
 
     calls: str
     steps: str

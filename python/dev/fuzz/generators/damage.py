@@ -110,7 +110,7 @@ def word_changed(dice: random.Random, text: bytes) -> bytes:
 
 
 def last_element_changed(dice: random.Random, text: bytes) -> bytes:
-    """Removes, duplicates or changes the last element of a line, in version 2 the recorded answer."""
+    """Removes, duplicates or changes the last element of a line; in version 2, that is the recorded answer."""
     lines = text.split(b"\n")
     place = dice.randrange(len(lines))
     if found := re.fullmatch(rb"(\[.*),((?:\[[^\[\]]*\]|[^,\]]*))\](\s*)", lines[place]):

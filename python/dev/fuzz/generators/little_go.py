@@ -1,5 +1,6 @@
-"""A small Go that makes recordings. A goroutine is a generator that makes Go's calls, with the control flow of internal/poll and
-runtime/netpoll: one step of the model's machine each time it is resumed. A random scheduler chooses the goroutine."""
+"""A small model of Go that makes recordings. A goroutine is a generator that makes Go's calls, with the control flow of
+internal/poll and runtime/netpoll: one step of the model's machine each time it is resumed. A random scheduler chooses
+the goroutine."""
 
 import json
 import random

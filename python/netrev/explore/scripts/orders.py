@@ -1,5 +1,5 @@
 """The orders that every schedule keeps. Some steps must precede steps of another goroutine, because the recorder saw
-that the program orders them. Other steps must precede the network's reactions to them. The orders are kept between
+that the program orders them. The network's reaction to a step must follow the step. The orders are kept between
 operations: one operation begins after another operation has ended."""
 
 from typing import NamedTuple, Optional, Sequence
@@ -178,7 +178,7 @@ class Passing:
         return self.orders[g][self.passed[g]].until
 
     def settle(self) -> None:
-        """Records that all waiters that were due have checked again."""
+        """Records that every due waiter has checked again."""
         for waiting in self.waiting.values():
             waiting.settle((NEVER, 0))
 

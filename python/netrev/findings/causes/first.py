@@ -278,8 +278,8 @@ def paragraph(says: list[str]) -> list[str]:
 
 
 def is_telling(recording: Recording, call: Call) -> bool:
-    """Whether a failed call is worth printing: it reads, writes or accepts, it wasn't made by Go's own code only, and
-    it isn't the Accept of a listener that was closed."""
+    """Whether a failed call is worth printing: it reads, writes or accepts, it isn't known to come from Go's own
+    code alone, and it isn't the Accept of a listener that was closed."""
     if is_of_go(recording, call) or call.name not in READING + WRITING:
         return False
     return not (call.outcome is Outcome.CLOSED and index_of(recording).is_listening(call))

@@ -85,7 +85,7 @@ def never_read(index: Index) -> Iterator[Cause]:
 
 
 def first_beyond(index: Index, socket: int, count: int) -> Optional[Call]:
-    """The first Write that brought the bytes written to a socket above this number."""
+    """The first Write with which more than `count` bytes had been written to a socket."""
     together = 0
     for call in index.by_socket[socket]:
         together += size_of(index, call) if call.name == "Write" else 0

@@ -112,7 +112,7 @@ class Index:
         return any(one.function in ACCEPTS for one in self.recording.lines.of(call.first).calls)
 
     def moved(self, socket: int, name: str, until: int) -> int:
-        """The number of bytes that calls of a name moved on a socket. Only calls that ended by step `until` count."""
+        """The number of bytes that calls with a name moved on a socket. Only calls that ended by step `until` count."""
         calls = self.by_socket.get(socket, ())
         return sum(one.moved or 0 for one in calls if one.name == name and 0 < one.last <= until)
 

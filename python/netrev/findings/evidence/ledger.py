@@ -53,7 +53,7 @@ class Ledger:
         return {found[0] for wait in self._locked[number] if (found := wait.stack.own())}
 
     def last_holder(self, number: int) -> Optional[Waiting]:
-        """The last wait for a mutex to end; its goroutine then got the mutex. None if no wait has ended."""
+        """Of a mutex's waits, the one that ended last; its goroutine then got the mutex. None if no wait has ended."""
         ended = [wait for wait in self._locked[number] if wait.last is not None]
         last = max(ended, key=attrgetter("last", "begin"), default=None)
         return last

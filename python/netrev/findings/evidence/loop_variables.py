@@ -19,7 +19,7 @@ MOST_FOLDERS = 12
 
 
 def shared_variables(recording: Recording, file: str) -> list[str]:
-    """A sentence for each loop of a file that shares its variables with the goroutines that it starts."""
+    """A sentence for each loop in a file, if the goroutines that the loop starts share its variables."""
     minor = language_of(os.path.dirname(os.path.abspath(file)))
     if minor is None or minor >= FIRST:
         return []

@@ -77,7 +77,7 @@ def kinds_of(recording: Recording, did: Collection[int]) -> list[Kind]:
 
 
 def odd_ones(recording: Recording, goids: list[int]) -> Optional[tuple[list[int], Call]]:
-    """The goroutines that didn't pass a line which at least half of `goids` passed, and the line."""
+    """The goroutines in `goids` that didn't pass a line, and the line. At least half of `goids` passed it."""
     passed = lines_of(recording)
     often = Counter(line for goid in goids for line in passed.of(goid))
     most = {line: count for line, count in often.items() if len(goids) <= 2 * count < 2 * len(goids)}
@@ -90,8 +90,8 @@ def odd_ones(recording: Recording, goids: list[int]) -> Optional[tuple[list[int]
 def lines_words(
     recording: Recording, odd: Iterable[int], others: Iterable[int], known: Collection[Call] = frozenset()
 ) -> str:
-    """Text for the lines that only the odd goroutines passed, and for the lines that only the others passed: `; only
-    they passed a.go:3 in ask`. Lines in `known` are left out. The result is empty if no such line exists."""
+    """Text for the lines that only goroutines in `odd` passed, and for the lines that only those in `others` passed: `;
+    only they passed a.go:3 in ask`. Lines in `known` are left out. The result is empty if no such line exists."""
     passed = lines_of(recording)
     its, theirs = ([passed.of(goid) for goid in some] for some in (odd, others))
     if not its or not theirs:

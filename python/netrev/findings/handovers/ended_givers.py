@@ -22,8 +22,8 @@ MOST = 50  # the most goroutines to examine
 
 
 def ended_giver(index: Index, wait: Waiting) -> Optional[Need]:
-    """What a waiting goroutine needs: a value, or room for one, that other goroutines perhaps should have provided
-    before they ended. None if no such goroutine is found."""
+    """What a waiting goroutine needs: a value, or room for one. Other goroutines ended before they provided it, and
+    perhaps should have. None if no such goroutine is found."""
     own, recording = wait.stack.own(), index.recording
     is_select = wait.kind == A_SELECT
     if not own or own[0].of != OF_THE_PROGRAM or not wait.objects or wait.objects[0].use not in WORDS:

@@ -255,12 +255,12 @@ class NeedsOfChannels:
         return [*(closing.more if closing else []), *perhaps_dropped(self._recording, wait, self._waiters[by])]
 
     def _of_siblings(self, wait: Waiting) -> list[str]:
-        """Sentences about goroutines that ended without doing what others of the same `go` statement did."""
+        """Sentences about goroutines that ended without doing what others from the same `go` statement did."""
         what = GIVES.get(wait.objects[0].use, "")
         return [ended_words(self._recording, kind, DID[what]) for kind in self._kinds_of(wait)]
 
     def _ended_siblings(self, wait: Waiting) -> tuple[Name, ...]:
-        """The goroutines that ended without the awaited operation, unlike others of the same `go` statement."""
+        """The goroutines that ended without the awaited operation, unlike others from the same `go` statement."""
         return tuple(name_of_goid(self._recording.lines, goid) for kind in self._kinds_of(wait) for goid in kind.ended)
 
     def _kinds_of(self, wait: Waiting) -> list[Kind]:

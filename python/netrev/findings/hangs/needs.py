@@ -158,8 +158,8 @@ class Needs:
         return first.name if first else None
 
     def _started_by(self, last: Call) -> Optional[Name]:
-        """The goroutine that should perhaps write what a Read waits for, if nothing has been written at the other end.
-        That goroutine waits elsewhere. The other end's reader started it after the last request, and now reads
+        """The goroutine that was perhaps meant to write what a Read waits for, if nothing has been written at the other
+        end. That goroutine waits elsewhere. The other end's reader started it after the last request, and now reads
         again."""
         lines, reads = self._recording.lines, self._index.by_socket[last.socket]
         got = [

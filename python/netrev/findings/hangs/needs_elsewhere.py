@@ -110,8 +110,8 @@ class NeedsElsewhere:
         return need
 
     def _reader_for(self, wait: Waiting) -> Optional[Name]:
-        """The goroutine that could give a value to a waiter, if the waiter wrote a request and no value was put into
-        its channel yet. The result is the goroutine that waits to read from the waiter's connection, as a client's
+        """The goroutine that could give a value to a waiter, if the waiter wrote a request and no value has been put
+        into its channel yet. The result is the goroutine that waits to read from the waiter's connection, as a client's
         reader does."""
         if wait.name.is_goid or not self._channels.is_new(wait) or not is_for_values(wait):
             return None

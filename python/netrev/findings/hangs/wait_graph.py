@@ -153,8 +153,8 @@ class WaitGraph:
 
     def _is_idle(self, name: Name, by: Name) -> bool:
         """Whether a goroutine that has answered the last request reads from a connection that the other end perhaps no
-        longer uses. The goroutine that wrote last there waits for a connection, because finished calls have kept
-        theirs."""
+        longer uses. At that end, goroutine `by` made the last Write, and now it waits for a connection, because
+        finished calls have kept theirs."""
         call = self.waiters[name].call
         if call is None or call.name not in READING or not self.needs[by].is_kept:
             return False

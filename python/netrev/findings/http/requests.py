@@ -143,9 +143,9 @@ def cancelled(index: Index, every: list[Request], ended: Use, close: Use) -> Ite
 
 def timer_of(recording: Recording, request: Request, close: Use) -> Optional[Timer]:
     """The timer of the deadline that ended a request's context; None if uncertain. If the client has a Timeout, the
-    result is the timer of that Timeout: the request's goroutine made it at the request's line, as the last such timer
-    before the request was handed over. Otherwise, the result is the only timer of the program's contexts that was due
-    by then."""
+    result is the timer of that Timeout: the last such timer that the request's goroutine made at the request's line
+    before it handed the request over. Otherwise, the result is the only timer of the program's contexts that was due by
+    then."""
     stacks = recording.lines.stacks
     timers = [
         timer for some in recording.lines.timers.values() for timer in some

@@ -1,5 +1,5 @@
-"""How much goroutines added to a WaitGroup, and which goroutines called Done. The module finds how many calls of Done
-are missing, and the goroutines that ended without calling it."""
+"""The counts that goroutines added to a WaitGroup, and the goroutines that called Done. The module finds how many calls
+of Done are missing, and the goroutines that ended without calling it."""
 
 from collections import Counter
 from typing import NamedTuple, Optional

@@ -100,7 +100,7 @@ def since_an_answer(reads: list[Call], calls: list[Call]) -> list[Call]:
 
 
 def lost_with(index: Index, file: str, line: int, read: Call, last: Call, why: str) -> str:
-    """A sentence which says that bytes in a reader's buffer are perhaps lost."""
+    """A sentence that says that bytes in a reader's buffer may be lost."""
     since = "since" if read is last else f"since step {last.last}"
     return (
         f"Perhaps bytes that were read before are lost: {file}:{line} made a reader with a buffer, which got "

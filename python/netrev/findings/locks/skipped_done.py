@@ -34,8 +34,9 @@ class Rounds(NamedTuple):
 
 
 def skipped_done(recording: Recording, waits: Waits, count: Count, position: int) -> list[str]:
-    """Sentences about the iterations of a loop that ended without Done, if as many calls of Done are missing; none if
-    unknown."""
+    """Sentences about a loop that explains the missing calls of Done. They name the iterations that ended without Done,
+    if their number is the number of missing calls. Otherwise, they name the paths that put no value into the loop's
+    channel, or the paths that perhaps skip Done. None if no loop explains the missing calls."""
     lines = recording.lines
     loops: dict[tuple[str, int], set[Rounds]] = defaultdict(set)
     for use in count.done:

@@ -15,8 +15,8 @@ DID = {PUT: "put a value into", TOOK: "took one from", CLOSED: "closed"}
 
 def giver_at_siblings(recording: Recording, wait: Waiting, waiters: Container[Name]) -> Optional[Need]:
     """What a goroutine needs while it waits on a channel, if no goroutine has yet done the awaited operation there.
-    The same line had made an earlier channel, and `by` is another waiting goroutine that did the operation on that one.
-    """
+    The same line had made an earlier channel. `by` is another waiting goroutine, which did the operation on the earlier
+    channel."""
     for use in given_at_siblings(recording, wait):
         name, place = name_of_goid(recording.lines, use.goid), place_in(recording.lines.stacks[use.stack])
         if name != wait.name and name in waiters and place:

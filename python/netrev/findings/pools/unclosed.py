@@ -114,8 +114,8 @@ def closes_in_its_loop(source: Lines, stack: Stack, file: str, closings: list[Cl
 
 
 def ended_in(recording: Recording, file: str, closing: Closing) -> str:
-    """Text that says how far goroutines got in a function toward the line that closes a channel. It names the last
-    line before the close that any of them passed, and is empty if none passed such a line."""
+    """Text that says how far goroutines got in a function toward the line that closes a channel. Of the lines before
+    that line, it names the last one that any goroutine passed. It is empty if none passed such a line."""
     passed = {
         call
         for stack in recording.lines.stacks.values()

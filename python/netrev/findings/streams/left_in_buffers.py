@@ -43,8 +43,8 @@ def left_in_buffer(index: Index, call: Call) -> list[str]:
 
 
 def unflushed_in(recording: Recording, frame: LineCall) -> str:
-    """The last line, among those before the goroutine's line in its function, that writes into a buffer. The result is
-    empty if no such line exists, or if a later one of them flushes a buffer."""
+    """The last line that writes into a buffer, of the lines before the goroutine's line in its function. The result is
+    empty if no such line exists, or if a line between the two flushes a buffer."""
     lines = source_of(recording, frame.file)
     within = range_of(lines, frame) if lines else None
     if not lines or not within:

@@ -57,8 +57,8 @@ def unfinished_reply(index: Index, call: Call, other: int, position: int) -> lis
 
 
 def has_part(index: Index, call: Call, wrote: Call) -> bool:
-    """Whether a waiting goroutine has already read part of another goroutine's last Write, at the line at which it
-    waits now."""
+    """Whether a waiting goroutine has already read part of another goroutine's last Write. It must have made that Read
+    at the line at which it now waits."""
     reads = [one for one in index.by_socket[call.socket] if one.name == "Read" and one.moved and one.last]
     last = reads[-1] if reads else None
     if last is None or last.goroutine != call.goroutine or not wrote.first < last.last < call.first:

@@ -17,8 +17,8 @@ class Weight(IntEnum):
     DOUBTFUL = 10
 
 
-# added to the weight if the suspect's goroutine hangs there, if it is still there, if it has gone on, and if a call
-# timed out because of the suspect
+# each is added to the weight in one case: the suspect's goroutine hangs there, it is still there, it has gone on, or a
+# call timed out because of the suspect
 HANGS, STILL_THERE, WENT_ON, TIMED_OUT = 50, 40, -30, 20
 
 

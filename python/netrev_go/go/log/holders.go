@@ -1,10 +1,10 @@
 // netrev's table of locked mutexes: which goroutine holds each, and the calls that locked it. In an overlaid Go, these
 // functions are appended to runtime/sema.go.
 //
-// A mutex is locked and unlocked too often to log a point in the ring each time. Instead, a row is written after a mutex is locked, and
-// freed before the mutex is unlocked, so the table always has the locked mutexes, even after the process has ended. Most mutexes are
-// unlocked soon, on the same processor, so each processor has a few rows of its own, which stay
-// in its cache; the other rows are used only if these are taken.
+// Programs lock and unlock mutexes too often to log a point in the ring each time. Instead, a row is written after a
+// mutex is locked, and freed before the mutex is unlocked, so the table always has the locked mutexes, even after the
+// process has ended. Most mutexes are unlocked soon, on the same processor, so each processor has a few rows of its own,
+// which stay in its cache; the other rows are used only if these are taken.
 
 package runtime
 
@@ -78,7 +78,7 @@ func netrevFar(place uint64) *netrevHolderRow {
 	return netrevHolderRowAt(netrevNearEnd + place%netrevFarRows)
 }
 
-// netrevNearby returns the processor on which a goroutine runs, if that has rows of its own; else netrevNearEnd.
+// netrevNearby returns a goroutine's processor if the processor has rows of its own, or else netrevNearEnd.
 func netrevNearby(gp *g) uint64 {
 	if pp := gp.m.p.ptr(); pp != nil && uint64(pp.id) < netrevNearEnd/netrevNearRows {
 		return uint64(pp.id)

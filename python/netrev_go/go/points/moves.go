@@ -1,6 +1,6 @@
 package main
 
-// The files that move bytes in other ways than FD.Read and FD.Write.
+// The files, besides fd_unix.go, whose functions move bytes.
 const (
 	splicing = "internal/poll/splice_linux.go"
 	vectors  = "internal/poll/writev.go"

@@ -35,7 +35,7 @@ var orders = []rule{
 		one(before, "chanbuf(c, c.sendx)", "netrevChannel(netrevSentKind, c)")),
 }
 
-// The point of a value that goes to a goroutine also says that the goroutine is made ready.
+// The point for a value handed to a waiting goroutine also says that the goroutine becomes ready, so goready logs none.
 var readied = one(replace, "goready(gp, skip+1)", "goready(gp, skip+1+netrevSema)")
 
 func ordered(file, function string, edits ...edit) rule {

@@ -1,6 +1,6 @@
 package main
 
-// A point is an edit of one of Go's functions: of a call, a comparison or the function's name, found by syntax, so that
+// An edit changes one of Go's functions at a call, a comparison or the function's name. It finds the place by syntax, so
 // layout and comments don't matter.
 type edit struct {
 	how   how

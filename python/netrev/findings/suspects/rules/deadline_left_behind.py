@@ -21,8 +21,8 @@ def rule(run: Run) -> Iterator[Suspect]:
 
 
 def left_behind(run: Run, passed: OfDeadline, moved: By) -> Optional[Suspect]:
-    """The suspect about a deadline that passes, if a goroutine set the other side's deadline in its place. `moved` is
-    the first step that set the other side's deadline instead."""
+    """The suspect about a deadline that passes, if a goroutine set the other side's deadline instead. `moved` is the
+    first step that did so."""
     side, other, (set_at, g) = passed.side, "w" if passed.side == "r" else "r", passed.setting
     use = run.use_at(passed.descriptor, passed.step)
     if passed.sides == "rw":

@@ -1,4 +1,4 @@
-"""No event: a goroutine is parked for reading, bytes are unread or the peer has closed, and no event came since."""
+"""No event: a goroutine is parked for reading, bytes are unread or the peer has closed, and no event has followed."""
 
 from typing import Iterator
 

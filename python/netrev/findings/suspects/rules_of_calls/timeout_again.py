@@ -1,4 +1,4 @@
-"""Timeout again and again: 20 calls in a row, by one goroutine and at one side of a connection, time out by the same
+"""Timeout again and again: 20 calls in a row, by one goroutine and at one side of a connection, time out at the same
 deadline, and no goroutine sets another deadline."""
 
 from typing import Iterator
@@ -26,7 +26,7 @@ def rule(run: Run) -> Iterator[Suspect]:
 
 
 def is_next(last: Call, call: Call) -> bool:
-    """Whether a call timed out by the same deadline as its goroutine's previous call."""
+    """Whether a call timed out at the same deadline as its goroutine's previous call."""
     are_late = last.outcome is call.outcome is Outcome.TIMED_OUT
     return are_late and last.cause == call.cause > 0 and last.goroutine == call.goroutine
 
