@@ -38,8 +38,8 @@ function positionOf(far) {
   return high >= END + 1 ? END + 1 : low;
 }
 
-// Measured once for each drawing: the sizes of the picture and its labels, and the part of the axis in view, which begins
-// at `base` and is `reach` long.
+// Measured once for each drawing: the sizes of the picture and its labels, and the part of the axis in view, which
+// begins at `base` and is `reach` long.
 const G = { wide: 0, tall: 0, left: 0, room: 1, base: 0, reach: 1, times: 1 };
 function measure() {
   G.wide = C.clientWidth;

@@ -3,8 +3,8 @@
 //
 // Programs lock and unlock mutexes too often to log a point in the ring each time. Instead, a row is written after a
 // mutex is locked, and freed before the mutex is unlocked, so the table always has the locked mutexes, even after the
-// process has ended. Most mutexes are unlocked soon, on the same processor, so each processor has a few rows of its own,
-// which stay in its cache; the other rows are used only if these are taken.
+// process has ended. Most mutexes are unlocked soon, on the same processor, so each processor has a few rows of its
+// own, which stay in its cache; the other rows are used only if these are taken.
 
 package runtime
 

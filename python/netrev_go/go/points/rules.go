@@ -1,7 +1,7 @@
 package main
 
-// An edit changes one of Go's functions at a call, a comparison or the function's name. It finds the place by syntax, so
-// layout and comments don't matter.
+// An edit changes one of Go's functions at a call, a comparison or the function's name. It finds the place by syntax,
+// so layout and comments don't matter.
 type edit struct {
 	how   how
 	find  string   // as gofmt prints it; "...)" at the end means any further arguments
