@@ -1,7 +1,7 @@
 #!/bin/sh
 # Makes a Debian package of the archive that scripts/archive.sh left in a folder:  scripts/deb.sh VERSION [FOLDER]
 #
-# FOLDER (out by default) gets netrev_VERSION_amd64.deb. It contains the netrev of the archive, byte for byte, nrdb,
+# FOLDER (out by default) gets netrev_VERSION_amd64.deb. It contains the archive's netrev (byte for byte), nrdb,
 # netrev-go, their man pages and completions, the editors' files, the examples, the pages, the licenses and the gate's
 # log. If lintian (a Debian package) is installed, it must report nothing. COMPRESSION=gzip packs faster than xz, but
 # less tightly.
@@ -81,7 +81,7 @@ fi
 END
 cat > "$updates/netrev.rtupdate" <<END
 #!/bin/sh
-# Compiles the modules again when Debian's Python has changed its version.
+# Compiles the modules again when the version of Debian's Python has changed.
 set -e
 if [ "\$1" = rtupdate ]; then
 	py3clean -p netrev /usr/lib/netrev

@@ -4,8 +4,8 @@
 # It runs `rt ci` first, with the log in out/gate.log and the time of each crate in out/minutes.tsv. A toolchain that
 # stores results skips what passed in an earlier run on this machine and hasn't changed. --anew makes such a toolchain
 # prove and try everything again; other toolchains don't know this option. The verdicts are stored in out/verdicts.json,
-# to be compared with docs/proof/TRUSTED.md. If `rt ci` passes, each edit that must fail has to have been refused for
-# the right reason: an edit doesn't count if it couldn't be tried, if the prover gave up on it, or if it is refused only
+# to be compared with docs/proof/TRUSTED.md. If `rt ci` passes, each edit that must fail must also be refused for the
+# right reason: an edit doesn't count if it couldn't be tried, if the prover gave up on it, or if it is refused only
 # because a proof file names what the edit removes. Then all tests in Python run, and the scripts that belong to them
 # (scripts/tests.sh): the tests of the built program in python/tests/program, scripts/refused.sh, each example and
 # examples/shared.sh, the tests of nrdb, which include the hunts of examples/hunts, and the tests of the recorder and
@@ -47,7 +47,7 @@ sh scripts/tests.sh || more=$((more + $?))
 # prints the time of each crate from out/minutes.tsv
 python3 scripts/minutes.py out/minutes.tsv | tail -n 2
 
-# names what was left out here, which doesn't count as passed
+# names what was left out here; that doesn't count as passed
 skipped=$(wc -l < out/left-out.txt)
 [ "$skipped" = 0 ] || { echo "left out here:" && sed 's/^/    /' out/left-out.txt; }
 

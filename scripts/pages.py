@@ -6,7 +6,7 @@ The gate runs all rules. These are about pages and Python code, and about what p
     quotes, texts, runs  the quotes of docs/proof/THEOREM.md, and the computed sessions, equal their files
     beliefs              the reading list of docs/proof/THEOREM.md is what scripts/beliefs.py prints, and within its limits
     verdict              docs/proof/TRUSTED.md lists what the verdict on netrev takes as given, and no called function may wait
-    raw-calls            calls that reach a stream or a caller are made only where docs/proof/TRUSTED.md has them read by eye
+    raw-calls            calls that reach a stream or a caller are made only in code that docs/proof/TRUSTED.md lists
     promises, names      the functions, clauses and definitions that pages cite exist
     in-files             a name is in the file that a page names for it: `Step` in `nr_rev/src/step.rt`
     links, paths         each link, anchor and path leads somewhere

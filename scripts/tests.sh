@@ -15,7 +15,7 @@ for program in "${NETREV:-crates/netrev/out/netrev}" "${NETREV_PLAIN:-crates/net
 	[ -x "$program" ] || { echo "$program isn't built" >&2; exit 1; }
 done
 
-# Runs tests. If pytest has no test, or can't run them, that counts as one failure.
+# Runs tests. If pytest finds no tests, or can't run them, that counts as one failure.
 play() {
 	{ sh scripts/pytest.sh "$@" 2>&1 && echo 0 > out/tests.status || echo $? > out/tests.status; } | tee out/tests.log
 	read -r status < out/tests.status

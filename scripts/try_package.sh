@@ -1,5 +1,5 @@
 #!/bin/sh
-# Tries an archive as a user would who has nothing else of netrev:  scripts/try_package.sh ARCHIVE
+# Tries an archive as a user with nothing else of netrev would:  scripts/try_package.sh ARCHIVE
 #
 # It unpacks the archive in an empty folder. There, without a toolchain on the PATH and without variables that name
 # anything in this checkout, it verifies the checksums, and runs all examples and a hunt in nrdb.

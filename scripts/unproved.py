@@ -172,7 +172,8 @@ def started(command: list[str], log: IO[bytes]) -> Iterator[subprocess.Popen[byt
 
 
 def stop(process: subprocess.Popen[bytes]) -> None:
-    """Interrupts `rt try` as Ctrl-C does, so that it ends its program and removes it; kills both if that takes too long."""
+    """Interrupts `rt try` as Ctrl-C does, so that `rt try` ends and removes its program. Kills both if that takes too
+    long."""
     for number in (signal.SIGINT, signal.SIGKILL):
         try:
             os.killpg(process.pid, number)
@@ -201,7 +202,7 @@ def await_program(process: subprocess.Popen[bytes], pipe: str, log: IO[bytes], s
 
 
 def running_program(ancestor: int, pipe: str) -> Optional[Path]:
-    """The file of the program that checks the pipe, among the descendants of a process."""
+    """Finds the program that checks the pipe among the descendants of a process, and returns its file."""
     parents = {int(path.name): parent_of(path) for path in Path("/proc").iterdir() if path.name.isdigit()}
     for process in parents:
         if is_below(process, ancestor, parents):

@@ -115,7 +115,8 @@ def faults_of_manifest(data: dict[str, bytes], package: dict[str, Any]) -> Itera
 
 
 def faults_of_package(package: dict[str, Any]) -> Iterator[str]:
-    """The faults in package.json: the extension has no code, and claims no files of a language that VS Code knows."""
+    """The faults in package.json: it must have no keys for code and no language of its own, and each debugger must be
+    `nrdb --dap`."""
     yield from (f"package.json has {name}, and the extension has no code" for name in CODE if name in package)
     if "languages" in package["contributes"]:
         yield "package.json has a language of its own, which would take files from another one"

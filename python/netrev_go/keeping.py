@@ -52,7 +52,7 @@ class Saying:
             self._count += len(lines)
 
     def rest(self, lines: list[str]) -> None:
-        """Prints the lines that weren't printed yet."""
+        """Prints the lines that haven't been printed yet."""
         self.hear(lines[self._count :])
 
 

@@ -95,8 +95,9 @@ class Watch:
         return self._calls[stack]
 
     def is_meant(self, one: Waiting) -> bool:
-        """Whether it is a call of the program that should continue: calls that accept don't count, nor do reads in goroutines that run only
-        Go's own code, such as those of idle connections."""
+        """Whether this is one of the program's calls that should not wait for long. Calls that accept don't count.
+        Neither do reads in goroutines that run only Go's own code, such as those of idle connections, or whose lines
+        are unknown."""
         calls = self.calls(one.stack)
         if calls is None or not calls.calls:
             return not one.is_reader

@@ -63,7 +63,8 @@ class Cited:
 
 
 def _wrong_in(part: str, cited: Cited, before: list[str]) -> Iterator[str]:
-    """The names that a part of a cell cites although they don't exist. Adds the part's subjects to the list of earlier subjects."""
+    """The names that a part of a cell cites, but that don't exist. Adds the part's subjects to the list of earlier
+    subjects."""
     left, colon, right = (OUTSIDE_CODE.split(part, maxsplit=1) + ["", ""])[:3]
     subjects = CODE.findall(left) if colon else CODE.findall(part)
     before.extend(subjects)
@@ -103,7 +104,7 @@ def promises(tree: Tree) -> Iterator[Finding]:
 ELSEWHERE = {"TestMain", "RuntimeError", "O_NONBLOCK", "ReadTimeout"}
 # the history page, which may name things that no longer exist
 HISTORY = "CHANGELOG.md"
-# a page's name for something in the sources: with an owner, or of more than one word
+# names on a page that must exist in the sources: qualified names, and names of several words
 OURS = re.compile(r"[A-Za-z]\w*(?:::\w+)+|[a-z]+(?:_[a-z0-9]+)+|(?:[A-Z][a-z0-9]+){2,}|[A-Z]+(?:_[A-Z]+)+")
 
 

@@ -20,7 +20,7 @@ LEANS = re.compile(
 
 
 def long_lines(tree: Tree) -> Iterator[Finding]:
-    """Lines of definitions that are too long."""
+    """Overlong lines in definitions."""
     for path in tree.matching("crates/*/specs/*.antt"):
         for number, line in tree.lines(path):
             if len(line) > MOST_COLUMNS and not line.startswith("use "):
@@ -44,5 +44,5 @@ def leaning_docstrings(tree: Tree) -> Iterator[Finding]:
 
 
 def leaning_comments(tree: Tree) -> Iterator[Finding]:
-    """Comments of the crates that mean nothing without the comment before them."""
+    """In the crates, comments that mean nothing without the comment before them."""
     return _leaning(tree, tree.matching("crates/*/src/*.rt", "crates/*/specs/*.antt"))

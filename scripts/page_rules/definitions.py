@@ -96,7 +96,7 @@ def defined(tree: Tree) -> dict[str, dict[str, tuple[str, int]]]:
 
 
 def listed_as_shared(tree: Tree) -> Iterator[tuple[int, str, set[str]]]:
-    """The rows of the list of shared names, a name each: the line, the name and its crates."""
+    """The rows of the shared-names list, one per name: the line, the name and its crates."""
     for number, line in tree.lines(SHARED) if tree.has(SHARED) else ():
         crates, colon, names = line.partition(":")
         if colon and not line.startswith("#"):

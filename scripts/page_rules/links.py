@@ -45,7 +45,8 @@ def links(tree: Tree) -> Iterator[Finding]:
 
 
 def is_there(tree: Tree, path: str) -> bool:
-    """Whether a file or folder has this path, or a path that ends with it: a page names `src/kind.rt` if the crate is clear."""
+    """Whether a file or folder has this path, or a path that ends with it. A page may write `src/kind.rt`
+    if it is clear which crate is meant."""
     wanted = path.rstrip("/")
     if "*" in wanted:
         return any(fnmatch(place, wanted) or fnmatch(place, "*/" + wanted) for place in tree.places)

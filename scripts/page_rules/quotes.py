@@ -110,7 +110,7 @@ def _is_run(tree: Tree, name: str, limits: str, steps: str) -> bool:
 
 
 def runs(tree: Tree) -> Iterator[Finding]:
-    """Definitions whose limits and steps differ from the recording that they name."""
+    """Definitions whose limits or steps differ from those of the recording that they name."""
     for path in filter(tree.has, (EXAMPLES, SHORT)):
         source = tree.text(path)
         found = list(RUN.finditer(source))

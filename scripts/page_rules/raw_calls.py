@@ -73,7 +73,7 @@ HELD = {
 }
 # a function that makes none of these calls but is read by eye too, because it joins functions that do
 JOINS = {"LoggedCallers::serve_next"}
-# files that are read by eye as a whole
+# files whose whole code is read by eye
 FILES = {LOOPBACK, "crates/netrev/src/main.rt"}
 
 HEADING = "## Code read by eye"

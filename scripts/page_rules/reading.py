@@ -173,8 +173,8 @@ class ReadingList:
             yield from ((path, name) for name in sorted(others))
 
     def misplaced(self) -> Iterator[tuple[str, str]]:
-        """Files that a crate lists under the heading although no law rests on them, and files that it should list: the list and the
-        name."""
+        """Files that a crate lists under the heading although no law rests on them, and files that it should list.
+        Yields the path of the list and the name of the file."""
         for crate in self.tree.crates:
             wanted = {_file(path) for path, _ in self.files(crate)}
             path = f"crates/{crate}/specs/Lib.antt"

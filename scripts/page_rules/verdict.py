@@ -24,8 +24,8 @@ NOT_OF_TRUST = {"functions"}
 SECTION = re.compile(r"^== (\w+)$")
 # on the page, a line break may occur here
 LINE = re.compile(r"^    (logic=proved .*(?:\n    \S.*)*)", re.MULTILINE)
-# words of lines that aren't a verdict on a crate: lines about its tests, or from a check that continued an earlier
-# check
+# words in lines that aren't a verdict on a crate: the lines are about its tests, or come from a check that continued an
+# earlier one
 NO_VERDICT = re.compile(r" (?:tests|incremental)=")
 KIT = re.compile(r"rattle-kit-\w+ logic (\w+)")
 MAY_WAIT = re.compile(r"^(\w+)\b[^:\n]*\bmay_wait=(\d+)", re.MULTILINE)

@@ -136,7 +136,7 @@ def still_written(folder: pathlib.Path) -> list[pathlib.Path]:
 
 
 def send(log: pathlib.Path, number: signal.Signals) -> None:
-    """Sends a signal to the process that writes a log, if it runs."""
+    """Sends a signal to the process that writes a log, if the process is still running."""
     if writes(process_of(log), log):
         with contextlib.suppress(ProcessLookupError):
             os.kill(process_of(log), number)

@@ -17,7 +17,7 @@ class Unconvertible(Exception):
 
 
 def parts(count: int, most: int) -> list[int]:
-    """A number of bytes, split into parts that each fit into one step: mostly one part."""
+    """A number of bytes, split into parts that each fit into one step: usually just one part."""
     if 0 < count <= most:
         return [count]
     return [most] * (count // most) + ([count % most] if count % most else [])

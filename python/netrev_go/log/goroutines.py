@@ -276,7 +276,7 @@ class Passing:
         self.found.rooms[key] = point.b
 
     def _objects(self, what: int, at: int, b: int, c: int) -> tuple[At, ...]:
-        """The objects of a wait; channels have their keys."""
+        """The objects of a wait, with the key of each channel instead of its address."""
         keys, objects = self._keys, objects_of(what, at, b, c)
         if not any([one.address in keys for one in objects]):  # (as nearly always)
             return objects

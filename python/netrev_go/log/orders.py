@@ -134,6 +134,6 @@ def orders_of(points: Iterable[Point], steps: Iterable[Made]) -> list[tuple[int,
 
 
 def parts(found: list[tuple[int, int]], size: int) -> Iterator[list[tuple[int, int]]]:
-    """The pairs in parts of this size; at least one part."""
+    """The pairs, split into parts of at most this size. If there are no pairs, one part is empty."""
     for first in range(0, max(len(found), 1), size):
         yield found[first : first + size]

@@ -1,11 +1,12 @@
-"""Steps that lead the empty machine to a noted socket, so that a recording can begin in the middle of a run.
+"""Steps that bring an empty machine to the noted state of a socket, so that a recording can begin in the middle of a
+run.
 
 These states can be reached:
 
 - Any lock word whose holders are known: a goroutine that has a lock or a reference releases it later in the log, or is inside the wait of
 that side. Goroutines that wait for a lock are queued in the order in which they came.
-- Each stage of a wait; the wait word is nil, ready, wait or the goroutine. A woken goroutine first parks, and then an event, a past
-deadline or the close wakes it.
+- Each stage of a wait, and each value of the wait word: nil, ready, wait or the goroutine. A woken goroutine first
+parks, and then an event, a past deadline or the close wakes it.
 - Future deadlines, deadlines that passed while their timers run, and deadlines set in the past; also one timer for both sides.
 - Go's sequences and tags may be in the millions, but the machine counts its own from the beginning. So an event names the use of its
 descriptor, and a firing names its timer, and neither has Go's number.

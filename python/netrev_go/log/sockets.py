@@ -1,7 +1,8 @@
 """The socket of each point, and the sockets that fit into a recording.
 
-Steps of different sockets share only the order of their goroutines, the clock and the list of firings, so the points of some of the sockets
-make a recording too. A socket is left out if the log has neither its opening nor a note of it.
+Steps of different sockets share only the order of their goroutines, the clock and the list of firings. So the points
+of a subset of the sockets form a recording too. A socket is left out if the log has neither its opening nor a note of
+it.
 """
 
 from __future__ import annotations
@@ -24,7 +25,7 @@ DEADLINE_CALL, INCREF, SET_DEADLINE, DECREF = map(
     int, (Kind.DEADLINE_CALL, Kind.INCREF, Kind.SET_DEADLINE, Kind.DECREF)
 )
 UNLIKE = {READ, WRITE, NAMED, NOTED, NOTED_NAMED, DEADLINE_CALL}  # points with more than one step of their socket
-# one reference in a lock word; the bit of a point for Go's function having returned true
+# one reference in a lock word; the bit of a point that says that Go's function returned true
 REFERENCE, RETURNS_TRUE = 8, 2
 INIT, OPEN, OPEN_FAILED, CLOSE = int(Kind.INIT), int(Kind.OPEN), int(Kind.OPEN_FAILED), int(Kind.CLOSE)
 EVENT, FIRE = int(Kind.EVENT), int(Kind.FIRE)
@@ -200,7 +201,8 @@ def points_of_call(point: Point, socket: Socket) -> list[tuple[Point, Socket]]:
 
 
 def count_bytes(socket: Socket, point: Point) -> None:
-    """Adds a read or a write to its socket's counts: the characters of text, for a write the bytes written, and for a read the steps."""
+    """Counts a read or a write for its socket: the characters of its text, and the steps of a read or the bytes of a
+    write. A write also updates the last and the largest write, and whether the output is full."""
     _, kind, _, _, asked, got, failed, _, _ = point
     got = max(got, 0)
     if kind == READ:
@@ -257,7 +259,7 @@ class Owned:
     def began(self) -> dict[int, int]:
         """For each goroutine, the number of its first point. If a note says that the goroutine waited for a socket or was using it, the
         note's number counts too; the smaller number is returned. (The points are read from the last to the first, so that the first one
-        stays: there may be a million points.)"""
+        wins. No loop is used, because there may be a million points.)"""
         points = list(map(POINT, reversed(self.points)))
         began = dict(zip(map(GOROUTINE, points), map(NUMBER, points)))
         for note in (socket.note for socket in self.sockets if socket.note):

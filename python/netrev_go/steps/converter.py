@@ -118,7 +118,7 @@ class Converter:
         return self.calls.setdefault((identity, socket), [0])
 
     def _others(self) -> dict[int, Callable[[Point, Socket], None]]:
-        """The functions that make the steps of all points that aren't repeated lines."""
+        """For each kind, the function that makes the steps of a point, unless the point has a repeated line."""
         return {
             Kind.INIT: self.socket_opens, Kind.READ: self.read, Kind.WRITE: self.write, Kind.CLOSE_WRITE: self.close_write,
             Kind.OPEN: self.open, Kind.CLOSE: self.close, Kind.PARK: self.park, Kind.SET_DEADLINE: self.set_deadline,
@@ -347,8 +347,9 @@ class Converter:
 
     def noted(self, point: Point, socket: Socket) -> None:
         """Makes the steps that bring a socket into its noted state. At the first note, the clock advances to the note's time, but not past a
-        deadline that these steps will set. The steps of later notes advance the clock too. Until the last note, the clock lags behind Go's
-        by the time that the steps of the remaining notes will add. So deadlines set between the notes equal Go's."""
+        deadline that these steps will set. The steps of later notes advance the clock too. Until the last note,
+        the clock lags Go's by the time that the steps of the remaining notes will add. So deadlines set between the
+        notes equal Go's."""
         if not self.clock:
             sockets = {socket for one, socket in self.points if one.kind == Kind.NOTED}
             dues = [due - 1 for socket in sockets if socket.note for due in socket.note.deadlines if due > 0]

@@ -180,7 +180,8 @@ class Everybody:
     def lines(
         self, calls: dict[int, Calls], stack: Callable[[int], int], call: Callable[[int], int], most: int = MOST
     ) -> Iterable[tuple[str, list[tuple[object, ...]]]]:
-        """The lines by name. `stack` numbers a stack, `call` numbers the `go` statement of a stack's goroutine."""
+        """The lines by name. `stack` gives the number of a stack. `call` gives the number of the `go` statement that
+        started a stack's goroutine."""
         objects = Objects(self.found.rooms)
         parks = [self.park(park, calls.get(park.stack), objects, stack(park.stack)) for park in self.kept.parks]
         uses: list[tuple[object, ...]] = [
@@ -240,8 +241,9 @@ class Everybody:
         return (*park[:5], REASONS[found], stack, park.by, at, *([park.due] if park.due else []))
 
     def goroutines(self, most: int) -> dict[int, int]:
-        """Go's numbers of the goroutines in the file, each with a stack (0 if unknown): the recording's goroutines, and those that wait,
-        used a channel, made a timer or woke others; the newest if not all fit."""
+        """Go's numbers of the goroutines in the file, each with a stack (0 if unknown). These are the recording's
+        goroutines, and those that wait, wake others, use channels, make timers, dial or hold locks. If not all fit, the
+        recording's goroutines and those that still wait come first, and newer goroutines come before older ones."""
         stacks: dict[int, int] = dict(self.last_stacks)
         for park in self.kept.parks:
             if not stacks.get(park.goroutine):

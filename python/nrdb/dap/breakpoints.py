@@ -82,7 +82,7 @@ def is_function(asked: Body) -> bool:
 
 
 def data_info(target: Target, _: Numbering, request: Request) -> Body:
-    """The protocol's answer to whether a name is a cell that can be watched."""
+    """The protocol's reply that says whether a name is a cell that can be watched."""
     name = request.text("name")
     if target.looks.value(name) is None:
         return {"dataId": None, "description": texts.NOT_A_CELL.format(name=plain(name))}

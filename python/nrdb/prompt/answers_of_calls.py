@@ -88,8 +88,8 @@ def answer_commands(session: Session, words: list[str]) -> None:
 
 
 def answer_condition(session: Session, words: list[str]) -> None:
-    """Sets or removes the condition of a mark. A command without a number is about the mark set last; `save breakpoints`
-    writes such commands."""
+    """Sets or removes the condition of a mark. A command without a number applies to the mark set last.
+    `save breakpoints` writes such commands."""
     marks = {mark.number: mark.sort for mark in session.netrev.marks()}
     standing = [*marks, *session.breaks.standing]
     is_named = bool(words) and words[0] in standing

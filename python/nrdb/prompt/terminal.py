@@ -135,7 +135,7 @@ class Terminal:
 
 
 def repeats(line: str) -> bool:
-    """Whether an empty line after this line repeats it. Only a line that steps is repeated."""
+    """Whether an empty line after this line repeats it. Only commands that make steps are repeated."""
     try:
         first = whole_words(line.split())[0]
     except Ambiguous:

@@ -73,7 +73,7 @@ def test_a_connection_is_admitted_by_a_launch_with_the_token(
 
 
 class _Unoptioned(socket.socket):
-    """One end of a pair, which has no options of TCP."""
+    """One end of a pair. It has no TCP options, so it ignores them."""
 
     def __init__(self, of: socket.socket) -> None:
         super().__init__(of.family, of.type, of.proto, of.detach())

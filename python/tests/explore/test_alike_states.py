@@ -1,5 +1,5 @@
-"""Tests when two states are alike: a schedule continues from both in the same way. The states may differ in the numbers of
-their objects, and in values that no later step can read."""
+"""Tests which states count as alike: a schedule continues from both in the same way. The states may differ in
+the numbers of their objects, and in values that no later step can read."""
 
 from typing import Any
 

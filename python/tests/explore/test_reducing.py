@@ -175,7 +175,8 @@ def reopened(socket: int) -> Steps:
 
 @pytest.mark.parametrize(("tag", "left"), [(3, 1), (4, 2), (7, 5), (2, 0), (1, 2), (0, 0)])
 def test_an_events_tag_stays_as_far_from_its_descriptors(tag: int, left: int) -> None:
-    """A tag that would be less than 0 stays as it is, unless the descriptor then has that tag."""
+    """A tag that would be less than 0 stays as recorded. If the descriptor has that tag, the event gets the next
+    one."""
     recording = recording_of(OPEN + reopened(0) + reopened(1) + [["pollevent", 0, tag, "rw", 1]])
     player, units, events = player_of(recording)
     last = {at for at, unit in enumerate(units) if events.all[unit.events[0]].number in (14, 15, 16)}

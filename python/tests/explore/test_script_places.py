@@ -106,7 +106,8 @@ def board_of(*steps: Step) -> Board:
 
 
 def numbers_of() -> Numbers:
-    """Socket 5 of the recording is the schedule's socket 1, and uses 3 and 0 are its descriptors 0 and 2."""
+    """Socket 5 of the recording is socket 1 of the schedule. The uses with numbers 3 and 0 are descriptors 0 and
+    2."""
     numbers = Numbers()
     numbers.has_socket(5, 1)
     numbers.descriptors.update({3: 0, 0: 2})

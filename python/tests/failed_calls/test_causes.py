@@ -43,7 +43,7 @@ READS_ON: Steps = [*WAITS, ["blockarm", 1], ["blockcheck", 1], ["parkcommit", 1]
 
 
 def writes(g: int) -> Steps:
-    """A goroutine fills the output of the socket with its own number, and parks for room."""
+    """Goroutine `g` fills the output of socket `g`, and parks for room."""
     put = [["rwlock", g, g, "w"], ["pollreset", g, g, "w"], ["syswrite", g, g, FILLS], ["syswrite", g, g, "00"]]
     return [*put, ["waitbegin", g, g, "w"], ["blockarm", g], ["blockcheck", g], ["parkcommit", g]]
 

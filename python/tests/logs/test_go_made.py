@@ -1,5 +1,6 @@
-"""Tests the lines made from made-up logs, and that nrdb reads them: where channels are made, even if one reuses another's
-address, and which dials fail. Other tests are about the functions that belong to the recorder itself. No program is needed."""
+"""Tests the lines made from made-up logs, and tests that nrdb reads these lines. They say where channels are made, even
+if one reuses another's address, and which dials fail. Other tests are about the functions that belong to the recorder
+itself. No program is needed."""
 
 import errno
 import json

@@ -140,7 +140,7 @@ def made_of(drawn_part: Drawn, symbols: Symbols) -> str:
 
 
 def of_program(number: int) -> str:
-    """The files that are made from a random program's log, without the answers, which other tests compare."""
+    """The files made from a random program's log, except the answers: other tests compare these."""
     try:
         made = make(log_of(program_of(str(number))), most=2 + number % 3, all_bytes=number % 2 == 0)
     except Nothing as fault:

@@ -1,5 +1,5 @@
 """Waits outside the poller: points of the recorder become waits in NAME.where, and the text about a hanging call names
-them."""
+these waits."""
 
 import json
 import unittest

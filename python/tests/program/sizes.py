@@ -249,7 +249,7 @@ def play_commands(folder: Path) -> None:
 
 
 def greatest_memory(path: Path, steps: int) -> int:
-    """The most bytes that netrev has held by the time it has read a recording. (The figure from `wait4` includes this
+    """The peak memory of netrev, in bytes, after it has read a recording. (The figure from `wait4` includes this
     process's memory from before the program began.)"""
     with subprocess.Popen([NETREV, "run", str(path)], stdin=subprocess.PIPE, stdout=subprocess.PIPE, text=True) as ran:
         assert ran.stdin and ran.stdout

@@ -625,8 +625,8 @@ def play_stopped_run(stop, _folder):
 
 
 def play_stopped_serve(stop, _folder):
-    """The signal comes while there are callers with a reply, silent callers and callers that don't read; another server
-    serves at the same ports at once."""
+    """The signal comes while one caller has a reply, one is silent and one doesn't read. Another server can use the
+    same ports immediately."""
     with Server(FIRST, fronts=3, connections=None) as server:
         answered, silent, busy = (server.call(front) for front in range(3))
         answered.sendall(b"stepi\n")

@@ -1,6 +1,6 @@
 """The recorder's rules still fit Go 1.19 and 1.27: each changed file has the stored checksum (this repository contains
-no source of Go). For each test change to Go's source, stored lines say what isn't recorded. It needs the Go that
-dev.recorder.fetching fetches.
+no source of Go). For each of the tests' changes to Go's source, stored lines say what isn't recorded. This needs the Go
+that dev.recorder.fetching fetches.
 
     /usr/bin/python3 python tests.releases.test_go_overlays    stores new checksums and lines"""
 

@@ -1,4 +1,5 @@
-"""Parts of nrdb at the boundaries of their definitions: pauses, uses of descriptors, sizes, hints, rules, the command line, and calls inside calls."""
+"""Tests boundary cases of nrdb: pauses, uses of descriptors, sizes, hints, rules, the command line, and calls inside
+calls."""
 
 import argparse
 import os

@@ -57,9 +57,9 @@ def steps_of(text: Text, worlds: list[World]) -> Steps:
 
 
 def holders(steps: Steps, s: int) -> list[tuple[int, int, str]]:
-    """A step that raises the count of a lock word takes a reference. A step that lowers the count gives back a
-    reference: the goroutine's newest reference of that side, or else the newest reference of that side, or else the
-    newest reference of all."""
+    """A step that raises the count of a lock word takes a reference. A step that lowers the count gives back
+    the goroutine's newest reference of that side. If it has none, the step gives back any goroutine's newest reference
+    of that side, and if none exists, the newest of all."""
     held: list[tuple[int, int, str]] = []
     for number, (kind, *arguments), before, after in steps:
         if s >= len(after.sockets):
@@ -218,7 +218,7 @@ def all_of(use: Use) -> list[object]:
 
 
 def side_of(before: World, kind: str, g: int, arguments: list[Any]) -> tuple[int, str]:
-    """The descriptor and the side of a step of a wait."""
+    """The descriptor and the side to which a wait's step belongs."""
     if kind in ("pollreset", "waitbegin"):
         return arguments[1], arguments[2]
     _, d, side = before.goroutines[g]

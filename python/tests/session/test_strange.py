@@ -166,8 +166,8 @@ class Strangers(unittest.TestCase):
 
 
 class WhoSays(unittest.TestCase):
-    """nrdb gives no input to the program that checks a file. The program may not be netrev, and may read
-    its input."""
+    """nrdb gives no input to the program that checks a file. The program may be something other than
+    netrev, and may read its input."""
 
     def test_it_isnt_waited_for(self) -> None:
         with tempfile.TemporaryDirectory() as folder:

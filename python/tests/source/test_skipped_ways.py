@@ -218,7 +218,7 @@ def test_no_way_is_named_without_the_source(name: str) -> None:
 
 
 def with_often(name: str, what: str, often: int) -> Recording:
-    """A recording in which each goroutine did `what` more times: `often` is added to each count."""
+    """A stored recording, with `often` added to the count of each use of the kind `what`."""
     recording = stored(f"{name}-bad")
     for uses in recording.lines.uses.values():
         uses[:] = [one._replace(often=one.often + often) if one.what == what else one for one in uses]

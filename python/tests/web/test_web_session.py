@@ -85,7 +85,7 @@ class Played(unittest.TestCase):
         return [text for event in self.types(line) if event["event"] == "said" for text in event["lines"]]
 
     def look(self) -> list[dict[str, Any]]:
-        """The events when the session checks for moves by others."""
+        """The events that follow a check for moves by others."""
         self.running.turn()
         return self.streams.take()
 

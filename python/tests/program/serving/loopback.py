@@ -168,7 +168,7 @@ class Lines:
         return [self.line() for _ in range(count)] + [b"quit"]
 
     def some_forwards(self, count):
-        """This many steps forwards and queries, and `quit`."""
+        """This many lines, each a step forwards or a query, and `quit`."""
         lines = [self.dice.choice(["stepi", "si 2", self.look(), "info position"]) for _ in range(count)]
         return [line.encode() for line in lines] + [b"quit"]
 
@@ -442,7 +442,7 @@ def play_mixed(lives, dice, windows, workers):
 
 
 def test_histories(parked, lives, dice):
-    """The replies to random lines at many fronts have a history."""
+    """A history exists for the replies to random lines at many fronts."""
     history_of(lives, race_forwards(lives, dice, fronts=64, connections=2))
     for windows, workers in ((1,), 1), ((1, 4), 3):
         play_mixed(lives, dice, windows, workers)
@@ -474,8 +474,8 @@ def test_altered(parked, lives, dice):
 
 
 def expect_no_other(recording, exchanged, has_one_place):
-    """Checks that a history exists. For each line that can have only one place in a history, then alters its
-    reply alone, and checks that no history exists."""
+    """Checks that a history exists. For each line that can have only one place in a history, alters its reply
+    alone, and checks that no history exists then."""
     history_of(recording, exchanged)
     for front, exchanges in enumerate(exchanged):
         for at, one in enumerate(exchanges):

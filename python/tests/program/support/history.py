@@ -140,8 +140,8 @@ class Search:
         return self.clues[front][self.taken[front]]
 
     def open_fronts(self) -> list[int]:
-        """The fronts whose next line can be the next line of the history. The line must have been sent before any reply to
-        a line that isn't in the history yet was read."""
+        """The fronts whose next line can come next in the history: it was sent before the first reply to any remaining
+        line was read."""
         left = [front for front, at in enumerate(self.taken) if at < len(self.fronts[front])]
         first: int = min((self.known[front][self.taken[front]] for front in left), default=0)
         return [front for front in left if self.next_of(front).sent < first]

@@ -1,6 +1,6 @@
 """A serving netrev and callers that talk to it at the same time, for the scripts that test `netrev serve`.
 
-No function here waits by sleeping. To wait for a port, a function connects until it succeeds. To wait for replies, it
+No function here waits by sleeping. To wait for a port, a function keeps trying to connect. To wait for replies, it
 reads the socket. To wait for netrev's end, it waits for the process. Each wait has a limit.
 """
 

@@ -51,7 +51,7 @@ func serve(listener net.Listener) {
 	}
 }
 
-// talk runs two goroutines on one connection, which add their round trips to made, until made reaches most.
+// talk runs two goroutines on one connection. They count their round trips in *made, until it reaches most.
 func talk(address string, made *int64, most int64) {
 	connection, err := net.Dial("tcp", address)
 	must(err)

@@ -116,7 +116,7 @@ func earlier(bad bool) error {
 	return nil
 }
 
-// unread: one end never reads a report that it is sent, and waits until the writer is done.
+// unread: one end never reads a report sent to it, and waits until the writer is done.
 func unread(bad bool) error {
 	const size = 2 << 20 // more than both ends buffer
 	near, far := pair()
