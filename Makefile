@@ -193,8 +193,8 @@ try-deb:
 	@sh scripts/try_deb.sh out/netrev_$(VERSION)_amd64.deb
 
 # Records Go's own tests, those of other projects and the samples, and compares all answers and lock words: `make real` with the
-# `go` on the PATH, `make real GO=1.27` or `make real GO=all` with releases of Debian's, fetched and not installed. A release
-# takes about an hour. `make real ONLY=net/rpc` runs some packages, `ONLY='^net$$' TESTS='^TestUnix'` some tests of a package. The gate runs a
+# `go` on the PATH, `make real GO=1.27` or `make real GO=all` with Debian's releases, which are fetched but not installed. A
+# release takes about an hour. `make real ONLY=net/rpc` runs some packages, `ONLY='^net$$' TESTS='^TestUnix'` some tests of a package. The gate runs a
 # small part.
 real: ready
 	@sh scripts/pytest.sh $(addprefix python/tests/support/,go_tool.py go_kept.py go_planted.py go_signals.py go_tests.py go_waits.py)

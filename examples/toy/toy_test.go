@@ -15,7 +15,7 @@ func greet(c net.Conn) error {
 	return err
 }
 
-// answer is a server's answer to one client, which takes it five seconds.
+// answer serves one client, and replies after five seconds.
 func answer(l net.Listener) {
 	c, err := l.Accept()
 	if err != nil {

@@ -1,8 +1,7 @@
 """Measures how long nrdb takes to answer, on recordings of the shape `mix`:  python3 python dev.bench.companion [STEPS ..]
 
-Each line is sent when a session is at three quarters of the recording and has read the changes of all earlier steps;
-only the first `goto` waits for these changes. A line's time is measured from sending it to its output. NETREV names
-the program.
+The first `goto` goes to three quarters of the recording, and waits until the changes of all earlier steps are read. The
+other lines follow. A line's time is measured from sending it to its output. NETREV names the program.
 """
 
 import json

@@ -1,8 +1,12 @@
 """Measures the memory for copies of full buffers:  python3 python dev.bench.copies
 
-Makes four recordings of a million steps whose first steps fill buffers. Between two copies of the world, the later
-steps of two recordings change no buffers, those of the third change only other buffers, and those of the fourth change
-all these buffers. For each recording, prints the greatest memory and the processor time of `netrev check` and of a
+Makes four recordings of a million steps. The first steps fill the inputs of sockets. The later steps differ:
+
+    five, still  only the clock moves, so no buffer changes
+    moving       the outputs change, but not the filled inputs
+    turning      all filled inputs change between two copies of the world
+
+For each recording, prints the greatest memory and the processor time of `netrev check` and of a
 session that has loaded the recording, as a row of a Markdown table. NETREV names the program. Linux only.
 """
 

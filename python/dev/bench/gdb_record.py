@@ -1,10 +1,15 @@
 """Measures GDB's `record full`, the alternative without netrev, on a small C program:  python3 python dev.bench.gdb_record [ROUNDS]
 
 The program (gdb_record.c) makes 1,000 rounds, or ROUNDS: it takes a lock, writes to a socket pair, reads from it and
-releases the lock. Prints, per second, how many rounds the program makes alone, how many instructions and rounds GDB
-records, how many instructions a `reverse-stepi 10000` goes back, and how many a `reverse-continue` over the whole
-record examines, with a watchpoint that never hits. Each figure is the best of three runs, in elapsed time. If gdb or a
-C compiler is missing, prints only a line that says so.
+releases the lock. Prints, per second:
+
+    the rounds that the program makes without GDB
+    the instructions, and the rounds, that GDB records
+    the instructions that a `reverse-stepi 10000` goes back
+    the instructions that a `reverse-continue` over the whole record examines
+
+A watchpoint that never hits is set during both reverse commands. Each figure is the best of three runs, in elapsed
+time. If gdb or a C compiler is missing, prints only a line that says so.
 """
 
 import re

@@ -133,7 +133,7 @@ def writes(program: str, recording: Recording, part: str) -> int:
 
 
 def _writes_of(program: str, recording: Recording, script: bytes) -> int:
-    """The number of system calls with which a session writes."""
+    """The number of `write` system calls that a session makes."""
     with tempfile.TemporaryFile() as lines, tempfile.NamedTemporaryFile("r", encoding="ascii") as table:
         lines.write(script)  # (a file, so that each read is full)
         lines.seek(0)

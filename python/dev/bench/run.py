@@ -24,8 +24,8 @@ give the same replies; a wrong reply ends the run. If a tool is missing, a line 
 is left out: the columns of the baseline or the older netrev, the instructions without valgrind, the writes without
 strace, the servers without Go. NETREV and NETREV_BASELINE name the programs, and SHAPES the shapes. SOCKETS has the
 numbers of sockets for the larger limits (default `16 239`; if empty, these limits are omitted), and COUNTED the sizes
-at which instructions are counted (default 10000). RUNS=0 omits the times, and SERVERS=0 omits the servers. No time is
-limited.
+at which instructions are counted (default 10000). RUNS=0 omits the times, and SERVERS=0 omits the servers. There is no
+time limit.
 """
 
 import os
@@ -108,8 +108,8 @@ def shapes(folder: Path, steps: int, sockets: int = 0) -> Iterator[Recording]:
 
 
 class Sort:
-    """One kind of figures for all recordings: the shapes with their own limits, the shapes with larger limits, and the
-    runs of servers."""
+    """One kind of figure, instructions or times, for all recordings: the shapes with their own limits, the shapes with
+    larger limits, and the runs of servers."""
 
     def __init__(self, name: str, titles: dict[str, str], sizes: list[int], measure: Measuring) -> None:
         self.name, self.sizes, self._measure = name, sizes, measure
@@ -126,8 +126,8 @@ class Sort:
         self.servers = measured(servers, self._measure)
 
     def show(self) -> None:
-        """Prints a table for each figure of the shapes with their own limits, and a single table for the other
-        recordings."""
+        """Prints a table for each figure, over the shapes with their own limits; one table for all other recordings;
+        and tables that show how restarts and memory grow with the number of sockets."""
         names = list(self.own.titles)
         for name in names:
             show(figure_table(self.own, name))
@@ -171,7 +171,7 @@ def show_ratios(sorts: list[Sort]) -> None:
 
 
 def show_writes(programs: Programs, folder: Path, steps: int) -> None:
-    """Prints the number of lines of a walk, and the number of system calls with which each program writes the replies."""
+    """Prints the number of lines of a walk, and the number of system calls that write each program's replies."""
     rows = []
     for recording in shapes(folder, steps):
         counts = [writes(program, recording, "walk") for program in programs.values()]
