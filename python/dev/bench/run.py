@@ -24,8 +24,8 @@ give the same replies; a wrong reply ends the run. If a tool is missing, a line 
 is left out: the columns of the baseline or the older netrev, the instructions without valgrind, the writes without
 strace, the servers without Go. NETREV and NETREV_BASELINE name the programs, and SHAPES the shapes. SOCKETS has the
 numbers of sockets for the larger limits (default `16 239`; if empty, these limits are omitted), and COUNTED the sizes
-at which instructions are counted (default 10000). RUNS=0 omits the times, and SERVERS=0 omits the servers. There is no
-time limit.
+at which instructions are counted (default 10000). RUNS=0 omits the times, and SERVERS=0 omits the servers. No figure is
+checked against a limit.
 """
 
 import os

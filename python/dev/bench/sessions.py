@@ -4,7 +4,7 @@ Prints the commands and queries per second through one front, over a pipe (`netr
 interface, with all lines sent at once. Then several fronts, each over its own connection, place 1,000 commands each at
 the same time: it prints their total of commands per second, and how long the slowest front takes until a query shows
 all commands. Finally it prints the round trips per second of one caller that waits for each reply. Each figure is the
-best of three. There is no time limit; a wrong reply ends the run.
+best of three. No figure is checked against a limit. A wrong reply ends the run.
 """
 
 import subprocess
