@@ -118,7 +118,7 @@ refuse_each() {
 # Checks `changes` and `suspects` with each allocation refused.
 play_lists() {
 	for program in changes suspects; do
-		python3 "$here/../python" netrev.machine "$program" "$2" > "$work/right" || [ "$1" != 0 ]
+		python3 "$here/../python" netrev.model "$program" "$2" > "$work/right" || [ "$1" != 0 ]
 		refuse_each "$1" "$work/nothing" "$program" "$2"
 	done
 }

@@ -1,4 +1,4 @@
-"""A fuzzer of netrev: random recordings and command lines, run by netrev and by its model, netrev.machine.
+"""A fuzzer of netrev: random recordings and command lines, run by netrev and by its model, netrev.model.
 
     randomsteps, texts, damage, lines   random recordings, texts and command lines
     cases, playing, counts              the case for a seed, its runs by netrev and the model, and counts of events

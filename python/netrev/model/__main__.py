@@ -1,4 +1,4 @@
-"""Runs the model instead of netrev:  python3 python netrev.machine run|check|upgrade|changes|suspects FILE
+"""Runs the model instead of netrev:  python3 python netrev.model run|check|upgrade|changes|suspects FILE
 
 It prints what netrev would print, unless the model can't decide that. It is unproved, and slow for long recordings.
 Tests of nrdb that don't need a built netrev use it.

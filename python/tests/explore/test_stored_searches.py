@@ -33,7 +33,7 @@ LINES = (
     "explore 120", "explore failures 60", "reduce out.jsonl", "report out.md", "reduce cell.jsonl lock 0 8", "report held.md lock 0 *", "report out.md 2",
     "explore 0", "reduce", "reduce out.jsonl 99", "report x.md lock 99 8",
 )  # fmt: skip
-ANSWERED = ("exploring.commands", "reducing.writing", "reducing.reduced", "reducing.report", "reducing.hang_report")
+ANSWERED = ("explore.commands", "reduce.writing", "reduce.reduced", "reduce.report", "reduce.hang_report")
 
 
 def answered_by(_: str, command: str, data: bytes) -> tuple[int, bytes]:
@@ -52,7 +52,7 @@ def modelled() -> Iterator[None]:
     """In this context, the model answers instead of netrev, and one process runs the schedules."""
     with ExitStack() as patched:
         for module in ANSWERED:
-            patched.enter_context(mock.patch(f"nrdb.{module}.answered_by", answered_by))
+            patched.enter_context(mock.patch(f"netrev.{module}.answered_by", answered_by))
         patched.enter_context(mock.patch("netrev.reduce.report.Own", own))
         patched.enter_context(mock.patch("netrev.explore.commands.processors", lambda: 1))
         yield

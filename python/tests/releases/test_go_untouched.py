@@ -45,6 +45,6 @@ def test_a_recorded_program_leaves_what_it_leaves_without_recording() -> None:
 
 
 def test_the_pages_say_how_many_programs_there_are() -> None:
-    root = SOURCE.parents[2]
+    root = SOURCE.parents[3]
     for page in ("docs/internals/INSTRUMENTING.md", "docs/proof/PROMISES.md", "README.md"):
         assert re.search(rf"\b{len(NAMES)} programs\b", (root / page).read_text()), page

@@ -66,12 +66,12 @@ class Tests(unittest.TestCase):
         for name in ("scripts/tests.sh", "scripts/pytest.sh", "conftest.py", "pyproject.toml"):
             (self.top / name).parent.mkdir(exist_ok=True)
             shutil.copy(ROOT / name, self.top / name)
-        program = self.top / "python/tests/program"
-        program.mkdir(parents=True)
-        for name in ("__init__.py", "program/__init__.py", "program/sharing.py"):
-            shutil.copy(ROOT / "python/tests" / name, self.top / "python/tests" / name)
-        for package in ("netrev.text", "netrev.machine"):
-            (self.top / "python" / package).symlink_to(ROOT / "python" / package)
+        support = self.top / "python/tests/program/support"
+        support.mkdir(parents=True)
+        for folder in ("", "program/", "program/support/"):
+            shutil.copy(ROOT / f"python/tests/{folder}__init__.py", self.top / f"python/tests/{folder}__init__.py")
+        shutil.copy(ROOT / "python/tests/program/support/sharing.py", support)
+        (self.top / "python/netrev").symlink_to(ROOT / "python/netrev")
         (self.top / "python/tests/test_few.py").write_text(TESTS)
 
     def played(self, **settings: str) -> tuple[int, str, str]:

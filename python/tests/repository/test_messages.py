@@ -9,19 +9,18 @@ from typing import NamedTuple, Optional
 
 import pytest
 
-PACKAGES = Path(__file__).resolve().parents[2]
-TABLES = {
-    "netrev_go": ["netrev/messages/recorder.py"],
-    "nrdb": [f"netrev/messages/{name}.py" for name in ("browsers", "editors", "lines", "searches", "session", "texts")],
-}
+PYTHON = Path(__file__).resolve().parents[2]
+FOLDER = "netrev/messages"
+TABLES = [
+    f"{FOLDER}/{name}.py" for name in ("browsers", "editors", "lines", "recorder", "searches", "session", "texts")
+]
+PACKAGES = ("netrev", "nrdb", "netrev_go", "dev/recorder")
 # The calls that take the text of an error, and which argument that is.
 ERRORS = {
-    "netrev_go": dict.fromkeys(("Trouble", "NoLog", "Nothing", "NoSocket", "Unconvertible", "Late", "complain"), 0),
-    "nrdb": {
-        **dict.fromkeys(("Misused", "NoRecording", "Mismatched", "NoChanges", "Lost", "Stay", "Unusable"), 0),
-        **dict.fromkeys(("Unanswerable", "Malformed", "Unset", "NoToken", "Stranger", "Unavailable"), 0),
-        "Rejected": 1,
-    },
+    **dict.fromkeys(("Trouble", "NoLog", "Nothing", "NoSocket", "Unconvertible", "Late", "complain"), 0),
+    **dict.fromkeys(("Misused", "NoRecording", "Mismatched", "NoChanges", "Lost", "Stay", "Unusable"), 0),
+    **dict.fromkeys(("Unanswerable", "Malformed", "Unset", "NoToken", "Stranger", "Unavailable"), 0),
+    "Rejected": 1,
 }
 
 
@@ -40,7 +39,7 @@ def table(path: str) -> dict[str, object]:
     """The messages of a table, and its rows of messages."""
     return {
         target.id: ast.literal_eval(node.value)
-        for node in ast.parse((PACKAGES / path).read_text()).body
+        for node in ast.parse((PYTHON / path).read_text()).body
         if isinstance(node, ast.Assign)
         for target in node.targets
         if isinstance(target, ast.Name)
@@ -48,18 +47,18 @@ def table(path: str) -> dict[str, object]:
 
 
 @cache
-def modules(package: str) -> list[tuple[str, ast.Module]]:
-    paths = sorted((PACKAGES / package).rglob("*.py"))
-    return [(str(path.relative_to(PACKAGES)), ast.parse(path.read_text())) for path in paths]
+def modules() -> list[tuple[str, ast.Module]]:
+    paths = sorted(path for package in PACKAGES for path in (PYTHON / package).rglob("*.py"))
+    return [(str(path.relative_to(PYTHON)), ast.parse(path.read_text())) for path in paths]
 
 
-def tables_in(package: str, tree: ast.Module) -> dict[str, str]:
+def tables_in(tree: ast.Module) -> dict[str, str]:
     """The tables that a module imports, by the module's names for them."""
-    tables = {Path(path).stem: path for path in TABLES[package]}
+    tables = {Path(path).stem: path for path in TABLES}
     return {
         name.asname or name.name: tables[name.name]
         for node in ast.walk(tree)
-        if isinstance(node, ast.ImportFrom) and node.level and node.module in (None, "messages")
+        if isinstance(node, ast.ImportFrom) and node.module == "netrev.messages"
         for name in node.names
         if name.name in tables
     }
@@ -72,9 +71,9 @@ def message_of(node: ast.expr, known: dict[str, str]) -> Optional[tuple[str, str
     return None
 
 
-def uses(package: str) -> Iterator[Use]:
-    for module, tree in modules(package):
-        known = tables_in(package, tree)
+def uses() -> Iterator[Use]:
+    for module, tree in modules():
+        known = tables_in(tree)
         for node in ast.walk(tree) if known else ():
             if isinstance(node, ast.expr) and (found := message_of(node, known)):
                 yield Use(*found, f"{module}:{node.lineno}", None)
@@ -90,30 +89,27 @@ def literal(node: ast.expr) -> str:
     return "".join(part.value for part in parts if isinstance(part, ast.Constant) and isinstance(part.value, str))
 
 
-@pytest.mark.parametrize("package", TABLES)
-def test_each_message_is_used(package: str) -> None:
-    written = {(path, name) for path in TABLES[package] for name in table(path)}
-    assert written == {(use.table, use.name) for use in uses(package)}
+@pytest.mark.parametrize("path", TABLES)
+def test_each_message_is_used(path: str) -> None:
+    assert set(table(path)) == {use.name for use in uses() if use.table == path}
 
 
-@pytest.mark.parametrize("package", TABLES)
-def test_the_words_in_braces_are_filled_in(package: str) -> None:
-    filled = [use for use in uses(package) if use.given is not None]
+def test_the_words_in_braces_are_filled_in() -> None:
+    filled = [use for use in uses() if use.given is not None]
     wanted = {
         (path, name): {word for _, word, _, _ in string.Formatter().parse(text) if word is not None}
-        for path in TABLES[package]
+        for path in TABLES
         for name, text in table(path).items()
         if isinstance(text, str)
     }
     assert filled and [use for use in filled if use.given != wanted[use.table, use.name]] == []
 
 
-@pytest.mark.parametrize("package", TABLES)
-def test_errors_are_in_the_tables(package: str) -> None:
+def test_errors_are_in_the_tables() -> None:
     written = []
-    for module, tree in modules(package):
+    for module, tree in modules():
         for node in ast.walk(tree):
-            at = ERRORS[package].get(ast.unparse(node.func)) if isinstance(node, ast.Call) else None
+            at = ERRORS.get(ast.unparse(node.func)) if isinstance(node, ast.Call) else None
             if isinstance(node, ast.Call) and at is not None and len(node.args) > at:
                 written += [(module, node.lineno)] if literal(node.args[at]).strip(": \n") else []
     assert written == []

@@ -13,7 +13,6 @@ from nrdb.options import parser as nrdb_parser
 
 ROOT = Path(__file__).resolve().parents[3]
 README = (ROOT / "README.md").read_text(encoding="utf-8")
-MOST_LINES = 300  # the most lines of a module
 OF_OTHERS = {"ready", "install-files"}  # targets that only other targets use
 CODE = re.compile(r"`((?:make|nrdb|netrev-go) [^`]+)`")
 
@@ -65,13 +64,6 @@ def test_make_help_lists_each_target() -> None:
     listed = dict(re.findall(r"^make ([\w-]+) +(.+)$", printed("make", "-s", "help"), re.MULTILINE))
     assert len(targets()) >= 25
     assert targets() == set(listed)
-
-
-def test_modules_of_nrdb_are_short() -> None:
-    assert f"at most {MOST_LINES} lines" in (ROOT / "CONTRIBUTING.md").read_text(encoding="utf-8")
-    lengths = {path: path.read_bytes().count(b"\n") for path in (ROOT / "python/nrdb").rglob("*.py")}
-    assert len(lengths) > 40
-    assert [str(path) for path, length in lengths.items() if length > MOST_LINES] == []
 
 
 def test_a_term_of_the_glossary_has_one_row() -> None:

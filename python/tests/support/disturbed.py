@@ -92,7 +92,7 @@ class Disturbances(unittest.TestCase, Generic[Of]):
     def setUp(self) -> None:
         with ExitStack() as stack:
             for name, size in SMALL:
-                stack.enter_context(mock.patch(f"nrdb.{name}", size))
+                stack.enter_context(mock.patch(f"netrev.connection.{name}", size))
             self.addCleanup(stack.pop_all().close)
 
     def opened(self, weather: Weather[Of]) -> Of:

@@ -282,7 +282,7 @@ class Pictures(Played):
         folder = folder_of(self)
         program = folder / "netrev"
         program.write_text(
-            f'#!/bin/sh\nexec {sys.executable} {EXAMPLES.parent / "python"} netrev.machine "$@"\n', encoding="ascii"
+            f'#!/bin/sh\nexec {sys.executable} {EXAMPLES.parent / "python"} netrev.model "$@"\n', encoding="ascii"
         )
         program.chmod(0o755)
         self.told: list[str] = []
