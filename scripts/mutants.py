@@ -38,7 +38,7 @@ IMPL = re.compile(r"^impl(?:<.*?>)? (?:([\w:]+)(?:<.*?>)? for )?&?(?:'\w+ )?([\w
 UNPROVED = re.compile(r"not proved$|.*did not prove|.*could not tell")
 
 
-class Wrong(Exception):
+class MutantError(Exception):
     """Raised if an edit or a check can't be used."""
 
 
@@ -116,7 +116,7 @@ def place_functions(crate, folder, edit):
         path = folder / change.file
         text = path.read_text(encoding="utf-8") if path.is_file() else ""
         if text.count(change.old) != 1:
-            raise Wrong(f"{edit.name}: its text occurs {text.count(change.old)} times in {change.file}, not once")
+            raise MutantError(f"{edit.name}: its text occurs {text.count(change.old)} times in {change.file}, not once")
         place = text.index(change.old) + len(change.old) - len(change.old.lstrip())
         function = function_at(crate, change.file, text, place)
         if function is None:
@@ -232,7 +232,7 @@ def main():
     given = parser.parse_args()
     try:
         edits = edits_of(given.crate, given.plant, given.names)
-    except (Wrong, OSError) as wrong:
+    except (MutantError, OSError) as wrong:
         print(f"mutants.py: {wrong}", file=sys.stderr)
         return 1
     alone = [edit.name for edit in edits if not edit.functions]

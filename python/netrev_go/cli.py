@@ -17,7 +17,7 @@ from .go_command.outputs import base_name, look, numbered
 from .go_command.run_folders import claim
 from .go_command.running import Runner, as_a_shell_has_it, behind_the_folder, limits_of, log_of_process, logs_folder
 from .go_command.status import Status
-from .go_command.toolchain import Go, Trouble, find_go
+from .go_command.toolchain import Go, RecorderError, find_go
 from .keeping import Making, Saying, complain, say, unwritten
 from .options import POSSIBLE, SUSPECTS, asks_for_help, check, help_of, of_a_process, parser
 from .recovery import offer, recover
@@ -33,7 +33,7 @@ KNOWN: list[object] = []  # data of the last converted log; kept until exit, bec
 def flags(go: Go, words: list[str]) -> list[str]:
     """The flags that make Go's command record. They disable inlining into the named packages, so that source lines are exact."""
     if any(word.lstrip("-").startswith("overlay") for word in words if word.startswith("-")) or "-overlay" in go.flags:
-        raise Trouble(messages.OVERLAY_IS_TAKEN)
+        raise RecorderError(messages.OVERLAY_IS_TAKEN)
     own = any(word.lstrip("-").startswith("gcflags") for word in words if word.startswith("-"))
     return ["-overlay", str(ready(go)), *([] if own else ["-gcflags=-l"])]
 
@@ -80,7 +80,7 @@ def go_if_any() -> Go | None:
     """The installed Go; without one a recording has no source lines."""
     try:
         return find_go()
-    except Trouble:
+    except RecorderError:
         return None
 
 
@@ -121,7 +121,7 @@ def build(options: argparse.Namespace, go: Go) -> int:
 def env(go: Go) -> int:
     path = str(ready(go))
     if any(c.isspace() for c in path):
-        raise Trouble(messages.SPACE_IN_PATH.format(path=path))
+        raise RecorderError(messages.SPACE_IN_PATH.format(path=path))
     folder = pathlib.Path("/dev/shm" if pathlib.Path("/dev/shm").is_dir() else "/tmp")
     print(f"export GOFLAGS={shlex.quote(f'{go.flags} -overlay={path} -count=1'.strip())}")
     print(f"export NETREV_LOG={folder}/mine")
@@ -151,7 +151,7 @@ def main(arguments: list[str] | None = None) -> int:
         if options.command == "build":
             return build(options, go)
         return env(go) if options.command == "env" else record(options, go)
-    except Trouble as trouble:
+    except RecorderError as trouble:
         complain(str(trouble))
         return Status.TROUBLE
     except KeyboardInterrupt:

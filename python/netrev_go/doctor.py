@@ -11,7 +11,7 @@ from netrev.system.command_lines import how_to_get_netrev
 from .go_command.calls_of_go import unknown_calls
 from .go_command.line_reader import build_line_reader
 from .go_command.running import MOST_POINTS, logs_folder
-from .go_command.toolchain import WITHOUT, Go, Trouble, cache, find_go, fit, overlay, tried
+from .go_command.toolchain import WITHOUT, Go, RecorderError, cache, find_go, fit, overlay, tried
 from .trying import trial
 
 
@@ -22,7 +22,7 @@ def doctor() -> int:
         words = {"version": go.version, "system": go.system, "folder": go.root, "tried": tried(go.version)}
         print(messages.DOCTOR_GO.format(**words))
         fits = rules_fit(go)
-    except Trouble as trouble:
+    except RecorderError as trouble:
         print(messages.DOCTOR_NO_GO.format(why=trouble))
         return 1
     room, writable = has_room(), can_write()
@@ -52,7 +52,7 @@ def has_room() -> bool:
     """Whether the logs have room."""
     try:
         folder = logs_folder(MOST_POINTS)
-    except Trouble as trouble:
+    except RecorderError as trouble:
         print(messages.ROOM_MISSING.format(why=trouble))
         return False
     print(messages.ROOM.format(folder=folder.parent))
@@ -78,7 +78,7 @@ def reads_lines(go: Go) -> str:
     """The message that names the program that reads source lines; builds the program if it is missing."""
     try:
         return messages.LINES_READ_BY.format(program=build_line_reader(go))
-    except Trouble as trouble:
+    except RecorderError as trouble:
         return messages.LINES_NOT_READ.format(why=trouble)
 
 
@@ -86,7 +86,7 @@ def tries_well(go: Go) -> bool:
     """Whether the changed files compile, and a trial program is recorded correctly."""
     try:
         overlay(go)
-    except Trouble as trouble:
+    except RecorderError as trouble:
         print(messages.NOT_COMPILED.format(why=trouble))
         return False
     print(messages.COMPILED)

@@ -10,7 +10,7 @@ from netrev.messages import recorder as messages
 from netrev.system.version import VERSION
 
 from .go_command.running import MOST_POINTS
-from .go_command.toolchain import Trouble
+from .go_command.toolchain import RecorderError
 from .log.sockets import FEW_BYTES, MOST_MEGABYTES, MOST_SOCKETS
 from .log.times import seconds
 from .usage import SUMMARY, USAGES
@@ -200,16 +200,16 @@ LIMITS = (
 
 
 def check(options: argparse.Namespace) -> None:
-    """Raises Trouble if an option has an unusable value."""
+    """Raises RecorderError if an option has an unusable value."""
     for name, least, most in LIMITS:
         given = getattr(options, name)
         if given is not None and not least <= given <= most:
             option = f"{'-' if len(name) == 1 else '--'}{name}"
-            raise Trouble(messages.OUT_OF_RANGE.format(option=option, least=least, most=most))
+            raise RecorderError(messages.OUT_OF_RANGE.format(option=option, least=least, most=most))
     if options.command == "test":
         if options.github and any(word in ("-json", "--json", "-json=true") for word in options.words_of_go):
-            raise Trouble(messages.TWO_ON_STANDARD_OUTPUT)
+            raise RecorderError(messages.TWO_ON_STANDARD_OUTPUT)
         return
     for name in OF_TESTS:
         if getattr(options, name) not in (None, False):
-            raise Trouble(messages.ONLY_FOR_TESTS.format(option=f"--{name.replace('_', '-')}"))
+            raise RecorderError(messages.ONLY_FOR_TESTS.format(option=f"--{name.replace('_', '-')}"))

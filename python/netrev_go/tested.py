@@ -21,7 +21,7 @@ from .go_command.outputs import LONGEST_ENDING, numbered
 from .go_command.running import as_a_shell_has_it, logs_in
 from .go_command.toolchain import Go
 from .keeping import Saying, complain, say, unwritten
-from .log.logfile import NoLog, read_log
+from .log.logfile import NotALogError, read_log
 from .log.ran import Ran, Tests, of_log
 from .steps.asking import PACKAGES
 from .steps.converting import Outcome, ReadLog, Wish, converted
@@ -138,7 +138,7 @@ class Recordings:
     def read(self, log: pathlib.Path, tests: Tests) -> ReadLog | None:
         try:
             return ReadLog(log, read_log(log), tests)
-        except NoLog as fault:
+        except NotALogError as fault:
             self.all_recorded = False
             complain(f"{log}: {fault}")
             return None

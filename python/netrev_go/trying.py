@@ -19,12 +19,12 @@ from netrev.text.plain import plain
 
 from .go_command.line_reader import prepare_line_reader
 from .go_command.running import LOG
-from .go_command.toolchain import SOURCES, Go, Trouble, is_tried, left_out, overlay, quiet_go, tried
+from .go_command.toolchain import SOURCES, Go, RecorderError, is_tried, left_out, overlay, quiet_go, tried
 from .keeping import say
-from .log.logfile import NoLog, read_log
+from .log.logfile import NotALogError, read_log
 from .steps.asking import check
 from .steps.compare import DIFFERS, by_the_model, differing
-from .steps.making import Nothing, Recording, Unconvertible, make, write, write_words
+from .steps.making import NothingRecordedError, Recording, UnconvertibleError, make, write, write_words
 
 PATIENCE = 60
 KEPT = "trial.json"
@@ -92,7 +92,7 @@ def recorded(command: list[str], folder: pathlib.Path, processors: int, is_whole
         return Trial(False, messages.TRIAL_FAILED.format(**words))
     try:
         made = make(read_log(logs[0]))
-    except (NoLog, Nothing, Unconvertible) as fault:
+    except (NotALogError, NothingRecordedError, UnconvertibleError) as fault:
         return Trial(False, messages.NO_TRIAL_RECORDING.format(why=fault))
     if fault_found := incomplete(made, run.stdout if is_whole else ""):
         return Trial(False, fault_found)
@@ -163,7 +163,7 @@ def ready(go: Go) -> pathlib.Path:
     came = before or trial(go)
     if not came.good:
         words = {"version": go.version, "tried": tried(go.version), "why": came.said}
-        raise Trouble(messages.NOT_RECORDABLE.format(**words, netrev_go=command("netrev-go")))
+        raise RecorderError(messages.NOT_RECORDABLE.format(**words, netrev_go=command("netrev-go")))
     without = left_out(go)
     if before is None and (without or not is_tried(go.version)):
         said = messages.RECORDABLE.format(version=go.version, tried=tried(go.version), how=came.said)

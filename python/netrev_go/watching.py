@@ -18,10 +18,10 @@ from .go_command.line_reader import line_reader
 from .go_command.outputs import base_name, look, numbered
 from .go_command.running import log_of_process, writes
 from .go_command.status import Status
-from .go_command.toolchain import Go, Trouble
+from .go_command.toolchain import Go, RecorderError
 from .keeping import Saying, complain, say
 from .log.lines import Calls, Roots, lines_of
-from .log.logfile import HEADER_BYTES, ROW_WORDS, WAITER_WORDS, WORD, Header, NoLog, stack_at
+from .log.logfile import HEADER_BYTES, ROW_WORDS, WAITER_WORDS, WORD, Header, NotALogError, stack_at
 from .log.notes import PARKED
 from .log.points import Log
 from .steps.converting import Wish, convert, program_of
@@ -141,7 +141,7 @@ def watch(options: argparse.Namespace, go: Go | None, wish: Wish, known: list[ob
         with log.open("rb", buffering=0) as file:
             header = Header(file.read(HEADER_BYTES))
             if not header.rows:
-                raise Trouble(messages.NO_TABLE.format(log=plain(str(log))))
+                raise RecorderError(messages.NO_TABLE.format(log=plain(str(log))))
             watching = Watch(log, file, header, go)
             say([f"netrev-go: watching process {options.pid}; Ctrl-C ends that"])
             while writes(options.pid, log):
@@ -150,7 +150,7 @@ def watch(options: argparse.Namespace, go: Go | None, wish: Wish, known: list[ob
                     say([plain(watching.words(found))])
                     return snapshot(options, go, replace(wish, first=found.word, failed=True), known)
                 time.sleep(pause)
-    except (OSError, NoLog) as fault:
-        raise Trouble(messages.LOG_UNREADABLE.format(log=plain(str(log)), why=fault)) from None
+    except (OSError, NotALogError) as fault:
+        raise RecorderError(messages.LOG_UNREADABLE.format(log=plain(str(log)), why=fault)) from None
     complain(messages.NO_LONG_WAIT.format(process=options.pid))
     return Status.DONE

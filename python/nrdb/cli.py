@@ -14,19 +14,19 @@ from functools import partial
 from typing import Callable, Optional, Sequence
 
 from netrev.connection.arriving_changes import ArrivingChanges
-from netrev.connection.errors import Mismatched, unexpected
-from netrev.connection.netrev import Ended, Joined, Netrev, Own, Reply
+from netrev.connection.errors import MismatchedRecordingError, unexpected
+from netrev.connection.netrev import NetrevEndedError, Joined, Netrev, Own, Reply
 from netrev.connection.output import JsonPrinter, Printer, TextPrinter, has_colours
-from netrev.connection.scout import Lost, Scout
-from netrev.connection.shapes import POSITION, Refused, Strange
+from netrev.connection.scout import ScoutUnavailableError, Scout
+from netrev.connection.shapes import POSITION, LineRefusedError, StrangeReplyError
 from netrev.messages import session as messages
-from netrev.recording.recording import NoRecording, Recording
+from netrev.recording.recording import NotARecordingError, Recording
 from netrev.recording.suspect_list import SuspectList
 from netrev.session.queries import answer_run, lines_together, runs_of
 from netrev.session.refusals import explained, fault_of
-from netrev.session.session import Misused, Session
+from netrev.session.session import UsageError, Session
 from netrev.system.command_lines import how_to_get_netrev, make_command
-from netrev.system.interrupts import GivenUp, Interrupted, Interrupts
+from netrev.system.interrupts import SessionAbandonedError, SearchInterruptedError, Interrupts
 
 from .options import parsed, parser
 from .prompt.answers import ANSWERS
@@ -61,13 +61,13 @@ def run(wanted: argparse.Namespace, printer: Printer) -> int:
     """Runs the requested session, reports how the session ended, and returns the exit status."""
     try:
         status = start(wanted, printer)
-    except Ended as ended:
+    except NetrevEndedError as ended:
         printer.note(messages.NETREV_ENDED)
         status = ended.status if ended.status and ended.status > 0 else FAILED
-    except (Lost, Mismatched, NoRecording, Strange) as wrong:
+    except (ScoutUnavailableError, MismatchedRecordingError, NotARecordingError, StrangeReplyError) as wrong:
         printer.note(str(wrong))
         status = FAILED
-    except (GivenUp, KeyboardInterrupt):
+    except (SessionAbandonedError, KeyboardInterrupt):
         printer.note(messages.NETREV_IS_SILENT)
         status = FAILED
     except BrokenPipeError:
@@ -140,7 +140,7 @@ def session_of(wanted: argparse.Namespace, netrev: Netrev, interrupts: Interrupt
     """The requested session, which hasn't begun yet."""
     recording = Recording.read(wanted.file) if wanted.file else None
     if wanted.join and wanted.file and (fault := fault_of(wanted.netrev, wanted.file)):
-        raise NoRecording(messages.NOT_A_RECORDING.format(path=wanted.file, fault=fault))
+        raise NotARecordingError(messages.NOT_A_RECORDING.format(path=wanted.file, fault=fault))
     lent = netrev if is_of_all(wanted) and not wanted.lines and not wanted.join else None
     scout = Scout(lambda: Own(wanted.netrev, wanted.file, interrupts), lent) if wanted.file else None
     # (in a batch, the output mustn't depend on how fast netrev runs)
@@ -159,7 +159,7 @@ def session_of(wanted: argparse.Namespace, netrev: Netrev, interrupts: Interrupt
 def refused(wanted: argparse.Namespace, netrev: Netrev, first: str, printer: Printer) -> int:
     """Reports that netrev's first reply is a fault, explains a fault in a recording, and returns the exit status."""
     if wanted.join and not first.startswith("fault "):
-        raise Strange("info position", first)
+        raise StrangeReplyError("info position", first)
     printer.reply("", Reply(first), "")
     for told in explained(wanted.netrev, wanted.file, first) if wanted.file else ():
         printer.note(told)
@@ -202,7 +202,7 @@ def unless_stopped(session: Session, work: Callable[[], int]) -> int:
     try:
         with session.interrupts.held():
             return work()
-    except (Interrupted, Lost, Misused, Refused) as stopped:
+    except (SearchInterruptedError, ScoutUnavailableError, UsageError, LineRefusedError) as stopped:
         session.printer.note(str(stopped) or messages.INTERRUPTED)
         return FAILED
 

@@ -10,7 +10,7 @@ import time
 from concurrent.futures import Future, ThreadPoolExecutor
 from pathlib import Path
 
-from tests.program.support.sharing import Wrong
+from tests.program.support.sharing import WrongResultError
 
 from .recordings import RESTARTS, Recording
 
@@ -44,7 +44,7 @@ def greatest_memory(process: "subprocess.Popen[bytes]") -> int:
     for line in Path(f"/proc/{process.pid}/status").read_text(encoding="ascii").splitlines():
         if line.startswith("VmHWM:"):
             return int(line.split()[1]) * 1024
-    raise Wrong("the system doesn't report a program's memory")
+    raise WrongResultError("the system doesn't report a program's memory")
 
 
 def seconds_of_children() -> float:
@@ -84,7 +84,7 @@ def instructions(words: list[str | Path], lines: bytes) -> tuple[int, bytes]:
     for line in ended.stderr.decode().splitlines():
         if " Collected : " in line:
             return int(line.split()[-1]), ended.stdout
-    raise Wrong(f"callgrind counted nothing: {ended.stderr.decode()}")
+    raise WrongResultError(f"callgrind counted nothing: {ended.stderr.decode()}")
 
 
 def script_up_to(recording: Recording, last: str) -> bytes:
@@ -141,5 +141,5 @@ def _writes_of(program: str, recording: Recording, script: bytes) -> int:
         subprocess.run(words, stdin=lines, stdout=subprocess.DEVNULL, check=True)
         found = WRITES.search(table.read())
     if found is None:
-        raise Wrong(f"strace counted no write of {program}")
+        raise WrongResultError(f"strace counted no write of {program}")
     return int(found[1])

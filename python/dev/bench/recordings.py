@@ -11,7 +11,7 @@ from collections.abc import Iterator
 from pathlib import Path
 from typing import Optional
 
-from tests.program.support.sharing import Wrong
+from tests.program.support.sharing import WrongResultError
 
 from .programs import write_recording
 
@@ -76,11 +76,11 @@ class Recording:
             if right is None:
                 asked[index] = (line, reply)
             elif reply != right:
-                raise Wrong(f"{program}: {self.file.name}: {line}: {reply}, not {right}")
+                raise WrongResultError(f"{program}: {self.file.name}: {line}: {reply}, not {right}")
 
     def expect_checked(self, program: str, printed: bytes) -> None:
         if printed.decode() != f"ok {self.steps} steps\n":
-            raise Wrong(f"{program}: {self.file.name}: check: {printed.decode()!r}")
+            raise WrongResultError(f"{program}: {self.file.name}: check: {printed.decode()!r}")
 
 
 def of_shape(folder: Path, shape: str, steps: int, sockets: int = 0) -> Recording:

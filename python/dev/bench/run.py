@@ -37,7 +37,7 @@ from collections.abc import Callable, Iterable, Iterator
 from concurrent.futures import ThreadPoolExecutor
 from pathlib import Path
 
-from tests.program.support.sharing import Wrong
+from tests.program.support.sharing import WrongResultError
 
 from .measurements import begun_counting, counted, least, writes
 from .programs import NETREV, NETREV_BEFORE, built_baseline
@@ -218,5 +218,5 @@ def main(sizes: list[int]) -> None:
 if __name__ == "__main__":
     try:
         main([int(word) for word in sys.argv[1:]] or SIZES)
-    except (OSError, Wrong, subprocess.CalledProcessError) as error:
+    except (OSError, WrongResultError, subprocess.CalledProcessError) as error:
         sys.exit(f"run.py: {error}")

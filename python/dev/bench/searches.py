@@ -19,7 +19,7 @@ import time
 from concurrent.futures import ThreadPoolExecutor
 from pathlib import Path
 
-from tests.program.support.sharing import ROOT, Server, Wrong, expect
+from tests.program.support.sharing import ROOT, Server, WrongResultError, expect
 
 STEPS = 1_000_000
 COUNTED = 100_000
@@ -112,5 +112,5 @@ def main(counts):
 if __name__ == "__main__":
     try:
         main([int(word) for word in sys.argv[1:]] or [1, 2, 4])
-    except Wrong as wrong:
+    except WrongResultError as wrong:
         sys.exit(f"searching.py: {wrong}")

@@ -7,7 +7,8 @@ from pathlib import Path
 from dev.races.explored import recorded
 from dev.recorder.building import built, source_folder
 from dev.recorder.suites import Suite
-from netrev_go.go_command.toolchain import Go, Trouble, find_go
+from netrev.errors import NetrevError
+from netrev_go.go_command.toolchain import Go, RecorderError, find_go
 
 from .recordings import Recording
 
@@ -16,7 +17,7 @@ SUITES = (Suite("net/rpc"), Suite("net/http", "^(TestServe|TestTransportKeepAliv
 ONLY_IN_TWO = ("closewrite",)  # kinds of steps that version 1 doesn't have
 
 
-class Unrecorded(Exception):
+class UnrecordedError(NetrevError):
     """Raised if a recording couldn't be made; the message is the reason."""
 
 
@@ -32,13 +33,13 @@ def of_server(go: Go, suite: Suite, folder: Path) -> Recording:
     """The recording of a package's tests."""
     program = built(go, suite, folder)
     if program is None:
-        raise Unrecorded(f"the tests of {suite.package} aren't built")
+        raise UnrecordedError(f"the tests of {suite.package} aren't built")
     name = folder.resolve() / f"{suite.package.replace('/', '_')}.jsonl"
     command = [str(program), "-test.run", suite.tests, "-test.short", "-test.timeout=60s"]
     run = recorded(go, command, source_folder(go, suite), PROCESSORS, name)
     program.unlink()
     if run.recording is None:
-        raise Unrecorded(f"the tests of {suite.package} left no recording")
+        raise UnrecordedError(f"the tests of {suite.package} left no recording")
     lines = plain_lines(run.recording.read_text(encoding="ascii"))
     sockets = json.loads(lines[0])["sock"]
     plain = run.recording.with_suffix(".1.jsonl")
@@ -50,12 +51,12 @@ def of_servers(folder: Path) -> tuple[list[Recording], list[str]]:
     """The recordings that could be made, and the reasons why the other recordings are missing."""
     try:
         go = find_go()
-    except Trouble as trouble:
+    except RecorderError as trouble:
         return [], [f"no runs of servers: {trouble}"]
     found, missing = [], []
     for suite in SUITES:
         try:
             found.append(of_server(go, suite, folder))
-        except (OSError, Trouble, Unrecorded) as why:
+        except (OSError, RecorderError, UnrecordedError) as why:
             missing.append(f"no run of {suite.package}: {why}")
     return found, missing

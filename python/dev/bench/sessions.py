@@ -14,7 +14,7 @@ import threading
 import time
 from pathlib import Path
 
-from tests.program.support.sharing import NETREV, ROOT, Server, Wrong, expect
+from tests.program.support.sharing import NETREV, ROOT, Server, WrongResultError, expect
 
 STEPS = 100_000
 MANY = 50_000
@@ -61,7 +61,7 @@ def place(caller, count):
     while left:
         came = caller.recv(1 << 16)
         if not came:
-            raise Wrong("a connection ended before all was answered")
+            raise WrongResultError("a connection ended before all was answered")
         left -= came.count(b"\n")
     sender.join()
     return time.perf_counter() - began
@@ -141,5 +141,5 @@ def main():
 if __name__ == "__main__":
     try:
         main()
-    except Wrong as wrong:
+    except WrongResultError as wrong:
         sys.exit(f"serving.py: {wrong}")

@@ -47,16 +47,16 @@ SORTS: dict[str, Judgement] = {
 }
 
 
-class Late(BaseException):
+class CaseTimeoutError(BaseException):
     """Raised if a case takes too long. No exception handler of a case catches it."""
 
 
 @contextmanager
 def in_time() -> Iterator[None]:
-    """In this context, Late is raised after the time limit."""
+    """In this context, CaseTimeoutError is raised after the time limit."""
 
     def end(*_: object) -> None:
-        raise Late
+        raise CaseTimeoutError
 
     before = signal.signal(signal.SIGALRM, end)
     signal.alarm(PATIENCE)
@@ -90,7 +90,7 @@ def fault_of(seed: str, program: str) -> str:
         with in_time(), tracebacks() as printed:
             fault = SORTS[sort](seed, folder, program)
         return fault or (printed.getvalue() if "Traceback " in printed.getvalue() else "")
-    except Late:
+    except CaseTimeoutError:
         return f"it takes more than {PATIENCE} s"
     except Exception:
         return traceback.format_exc()

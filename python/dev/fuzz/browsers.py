@@ -10,7 +10,7 @@ from typing import Any
 from netrev.connection.collected_output import Collecting
 from netrev.session.commands import COMMANDS, TOPICS
 from netrev.text.writing import write_plain
-from nrdb.web.requests import LONGEST_LINE, Rejected, line_of
+from nrdb.web.requests import LONGEST_LINE, RejectedRequestError, line_of
 from nrdb.web.shared import Shared
 from nrdb.web.streams import Streams, message
 
@@ -129,7 +129,7 @@ def typed(dice: random.Random, shared: Shared, told: Told, length: int) -> str:
         data = body(dice, length)
         try:
             line = line_of(data)
-        except Rejected:
+        except RejectedRequestError:
             continue
         WATCHED.asked.clear()
         WATCHED.is_on = True

@@ -14,7 +14,7 @@ from pathlib import Path
 from typing import Optional, Sequence
 
 from netrev.connection.arriving_changes import ArrivingChanges
-from netrev.connection.netrev import Ended
+from netrev.connection.netrev import NetrevEndedError
 from netrev.connection.output import JsonPrinter
 from netrev.connection.scout import Scout
 from netrev.machine.cells import CELLS_OF_ALL, CELLS_OF_ONE
@@ -23,7 +23,7 @@ from netrev.model.program import replay
 from netrev.model.session import Session as ModelSession, recording_of
 from netrev.recording.recording import Recording
 from netrev.session.session import Session
-from netrev.system.interrupts import GivenUp, Interrupts
+from netrev.system.interrupts import SessionAbandonedError, Interrupts
 from netrev.text.writing import write_plain
 from nrdb.prompt.answers import ANSWERS
 
@@ -153,8 +153,8 @@ def told_all(session: Session, line: str) -> str:
     """Answers a line, and returns how the session ended, if it did."""
     try:
         heard(lambda: session.run(line))
-    except GivenUp:
+    except SessionAbandonedError:
         return "given up"
-    except Ended:
+    except NetrevEndedError:
         return "netrev has ended"
     return ""

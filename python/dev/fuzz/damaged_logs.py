@@ -16,7 +16,7 @@ from pathlib import Path
 from xml.etree import ElementTree
 
 from netrev.recording.where import Lines
-from netrev_go.log.logfile import HEADER_BYTES, NoLog, read_log
+from netrev_go.log.logfile import HEADER_BYTES, NotALogError, read_log
 from netrev_go.log.points import KINDS, Log, Point
 from netrev_go.log.ran import ENDING, Tests, of_log
 from netrev_go.steps import forms, report
@@ -246,7 +246,7 @@ def tests_wrong(log: Path, tests: Tests, folder: Path) -> str:
         one.add(test)
     try:
         read = ReadLog(log, read_log(log), tests)
-    except NoLog:
+    except NotALogError:
         return ""
     for at, test in enumerate(tests.ran[:TESTS]):
         name = folder / f"test-{at}.jsonl"

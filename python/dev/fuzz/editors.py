@@ -10,7 +10,7 @@ from typing import Any, Optional
 from netrev.text.writing import write_plain
 from nrdb.dap.adapter import Adapter
 from nrdb.dap.hearing import Reading
-from nrdb.dap.view.messages import Malformed, Wire
+from nrdb.dap.view.messages import MalformedMessageError, Wire
 
 from .companion import line_of
 from .generators.random_steps import Author
@@ -117,7 +117,7 @@ def wrong(seed: str, folder: Path, program: str) -> str:
     wire = Wire(io.BytesIO(b"".join(map(framed, asked)) + behind), written)
     try:
         Adapter(wire, Reading(wire), program).serve()
-    except Malformed:
+    except MalformedMessageError:
         pass
     return answers_wrong(asked, told_in(written.getvalue()))
 

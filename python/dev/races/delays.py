@@ -13,7 +13,7 @@ import tempfile
 from pathlib import Path
 
 from netrev_go.go_command.running import logs_folder
-from netrev_go.go_command.toolchain import Trouble, find_go
+from netrev_go.go_command.toolchain import RecorderError, find_go
 
 from .explored import environment
 from .races import RACES, built, names
@@ -55,7 +55,7 @@ def main() -> int:
     with tempfile.TemporaryDirectory() as folder:
         try:
             program = built(find_go(), Path(folder), True)
-        except (Trouble, subprocess.CalledProcessError) as trouble:
+        except (RecorderError, subprocess.CalledProcessError) as trouble:
             print(trouble, file=sys.stderr)
             return 3
         print(f"| Race | without delays, of {options.runs} | with delays, of {options.runs} |")

@@ -14,7 +14,7 @@ from typing import Iterator, NamedTuple, Optional
 from dev.recorder.building import built, source_folder, tests_of
 from dev.recorder.suites import Suite
 from netrev.recording.recording import Recording
-from netrev_go.go_command.toolchain import Go, Trouble, find_go
+from netrev_go.go_command.toolchain import Go, RecorderError, find_go
 
 from .explored import explored, is_good, named, read, recorded
 
@@ -83,7 +83,7 @@ def main() -> int:
     gc.disable()
     try:
         go = find_go()
-    except Trouble as trouble:
+    except RecorderError as trouble:
         print(trouble, file=sys.stderr)
         return 3
     print("| Test | steps | orders | schedules | findings | a second |")

@@ -13,7 +13,7 @@ from pathlib import Path
 from typing import Optional
 
 from netrev.recording.recording import Recording
-from netrev_go.go_command.toolchain import Go, Trouble, find_go, overlay
+from netrev_go.go_command.toolchain import Go, RecorderError, find_go, overlay
 
 from .explored import environment, explored, is_good, read, recorded
 
@@ -68,7 +68,7 @@ def main() -> int:
     try:
         go = find_go()
         recording_one, plain_one = built(go, options.out, True), built(go, options.out, False)
-    except (Trouble, subprocess.CalledProcessError) as trouble:
+    except (RecorderError, subprocess.CalledProcessError) as trouble:
         print(trouble, file=sys.stderr)
         return 3
     print("| Race | on | steps | schedules | that end with | first | real runs that go wrong |")

@@ -25,7 +25,7 @@ from dataclasses import dataclass, field
 from netrev.messages import recorder as messages
 from netrev.text.plain import plain
 from netrev_go.go_command.running import logs_folder
-from netrev_go.go_command.toolchain import Go, Trouble, release_of
+from netrev_go.go_command.toolchain import Go, RecorderError, release_of
 from netrev_go.log.logfile import HEADER_BYTES, POINT_BYTES, Header
 from netrev_go.trying import ready
 
@@ -84,7 +84,7 @@ def overlay_by(recorder: pathlib.Path, go: Go) -> str:
     settings = {"PYTHONPATH": str(recorder / "python")}
     run = subprocess.run(words, env=os.environ | settings, capture_output=True, text=True, check=False)
     if run.returncode != 0:
-        raise Trouble(messages.NO_OVERLAY.format(folder=recorder, why=run.stderr.strip()[-600:]))
+        raise RecorderError(messages.NO_OVERLAY.format(folder=recorder, why=run.stderr.strip()[-600:]))
     return run.stdout.strip()
 
 
@@ -289,7 +289,7 @@ def main(arguments: list[str]) -> int:
         try:
             measured = all_measured(options.releases, options.before, pathlib.Path(name), options.requests)
             logs = logs_folder(2**20)
-        except Trouble as trouble:
+        except RecorderError as trouble:
             print(plain(str(trouble)), file=sys.stderr)
             return 3
         for _ in range(options.times):

@@ -12,7 +12,7 @@ import subprocess
 import sys
 
 from netrev.messages import recorder as messages
-from netrev_go.go_command.toolchain import Go, Trouble, cache, find_go
+from netrev_go.go_command.toolchain import Go, RecorderError, cache, find_go
 
 # Outside the repository, because a release contains links, which `rt ci` doesn't accept in a tree.
 FETCHED = cache() / "releases"
@@ -52,12 +52,12 @@ def is_here(release: str) -> bool:
 def commands_of(release: str) -> pathlib.Path:
     """The folder of a release's `go`; fetches the release if it is missing."""
     if release not in SUITES:
-        raise Trouble(messages.UNKNOWN_RELEASE.format(release=release, releases=", ".join(SUITES)))
+        raise RecorderError(messages.UNKNOWN_RELEASE.format(release=release, releases=", ".join(SUITES)))
     if not is_here(release):
         fetch(release)
     commands = here(release)
     if commands is None:
-        raise Trouble(messages.PACKAGE_IS_INCOMPLETE.format(release=release, folder=FETCHED / release))
+        raise RecorderError(messages.PACKAGE_IS_INCOMPLETE.format(release=release, folder=FETCHED / release))
     return commands
 
 
@@ -76,9 +76,11 @@ def run(words: list[str | pathlib.Path], folder: pathlib.Path, **settings: str) 
             words, cwd=folder, env=os.environ | settings, capture_output=True, text=True, errors="replace", check=False
         )
     except OSError as fault:
-        raise Trouble(messages.CANNOT_START.format(program=words[0], why=fault.strerror)) from None
+        raise RecorderError(messages.CANNOT_START.format(program=words[0], why=fault.strerror)) from None
     if done.returncode != 0:
-        raise Trouble(messages.COMMAND_FAILED.format(command=" ".join(map(str, words)), why=done.stderr.strip()[-600:]))
+        raise RecorderError(
+            messages.COMMAND_FAILED.format(command=" ".join(map(str, words)), why=done.stderr.strip()[-600:])
+        )
 
 
 def own_apt(suite: str) -> pathlib.Path:
@@ -116,7 +118,7 @@ def main(arguments: list[str]) -> int:
         return 2
     try:
         print(commands_of(arguments[0]))
-    except (Trouble, OSError) as trouble:
+    except (RecorderError, OSError) as trouble:
         print(trouble, file=sys.stderr)
         return 3
     return 0

@@ -8,7 +8,7 @@ import pathlib
 import re
 from dataclasses import asdict, dataclass
 
-from netrev_go.go_command.toolchain import Go, Trouble, fit, overlay
+from netrev_go.go_command.toolchain import Go, RecorderError, fit, overlay
 from netrev_go.trying import trial
 
 KEPT = "standing.json"
@@ -49,7 +49,7 @@ def standing_of(go: Go) -> Standing:
     fitting = sum(line.startswith(FITS) for line in said)
     try:
         overlay(go)
-    except Trouble as trouble:
+    except RecorderError as trouble:
         return Standing(go.version, len(said), fitting, False, str(trouble))
     came = trial(go)
     return Standing(go.version, len(said), fitting, True, came.said, came.good)

@@ -29,11 +29,11 @@ from dataclasses import replace
 from netrev.messages import recorder as messages
 from netrev.system.built import netrev_program
 from netrev_go.go_command.running import LOG, logs_folder
-from netrev_go.go_command.toolchain import Go, Trouble, find_go, is_tried
-from netrev_go.log.logfile import NoLog, read_log
+from netrev_go.go_command.toolchain import Go, RecorderError, find_go, is_tried
+from netrev_go.log.logfile import NotALogError, read_log
 from netrev_go.steps.asking import check, suspects
 from netrev_go.steps.compare import differing
-from netrev_go.steps.making import NoSocket, Nothing, Unconvertible, make, write, write_words
+from netrev_go.steps.making import NoSocketError, NothingRecordedError, UnconvertibleError, make, write, write_words
 
 from . import suites
 from .building import built, built_sample, environment, source_folder, tests_of
@@ -65,9 +65,9 @@ def recorded(log: pathlib.Path, result: Result, name: pathlib.Path) -> bool:
     """Makes the recording of a log, if sockets were opened."""
     try:
         made = make(read_log(log))
-    except NoSocket:
+    except NoSocketError:
         return False
-    except (NoLog, Nothing, Unconvertible) as fault:
+    except (NotALogError, NothingRecordedError, UnconvertibleError) as fault:
         result.said = f"not made: {fault}"
         with log.open("rb") as file:
             return any(file.read(8))  # otherwise the process was killed before its log began
@@ -194,7 +194,7 @@ def of_release(name: str, options: argparse.Namespace, netrev: str | None) -> li
         stands = standing_of(go)
         say(f"{go.version} ({said}): {stands.trial}")
         if not stands.is_good:
-            raise Trouble(messages.RELEASE_UNRECORDED.format(release=go.version, why=stands.trial))
+            raise RecorderError(messages.RELEASE_UNRECORDED.format(release=go.version, why=stands.trial))
         recorder = Recorder(go, name or go.version, options)
         stands.keep(recorder.out)
         recorder.all()
@@ -249,7 +249,7 @@ def main(arguments: list[str] | None = None) -> int:
             os.environ["PATH"] = path
             results += (some := of_release(name, options, netrev))
             standings |= {one.release: read_standing(options.out / one.release) for one in some[:1]}
-    except (Trouble, OSError) as trouble:
+    except (RecorderError, OSError) as trouble:
         say(str(trouble))
         return 3
     if options.record:

@@ -8,12 +8,12 @@ from threading import Condition, Thread, current_thread
 from typing import Callable, Iterator, Optional
 
 from netrev.messages import session as messages
-from netrev.recording.changed_lines import NoChanges
+from netrev.recording.changed_lines import IncompleteChangesError
 from netrev.recording.changes import RecordedChanges, Told
 from netrev.system.interrupts import Interrupts
 
 from .netrev import READ, SILENCE
-from .scout import Lost
+from .scout import ScoutUnavailableError
 
 LOOKS = 0.05  # seconds between two checks for Ctrl-C
 PAUSE = 0.001  # seconds to wait for more output of netrev
@@ -46,7 +46,7 @@ class ArrivingChanges(RecordedChanges):
                 start_new_session=True,
             )
         except OSError as error:
-            raise Lost(f"{error.filename}: {error.strerror}") from None
+            raise ScoutUnavailableError(f"{error.filename}: {error.strerror}") from None
         self._process, self._reader = process, Thread(target=self._read, args=[process], daemon=True)
         self._reader.start()
 
@@ -77,7 +77,7 @@ class ArrivingChanges(RecordedChanges):
         if why := self._failure:
             super().__init__()
             self._process, self._reader, self._failure = None, None, ""
-            raise Lost(f"{' '.join(self._words)}: {why}")
+            raise ScoutUnavailableError(f"{' '.join(self._words)}: {why}")
 
     def texts(self) -> Iterator[tuple[str, str, str]]:
         self._wait(None)
@@ -104,8 +104,8 @@ class ArrivingChanges(RecordedChanges):
         """Context in which a line that isn't a change counts as a failure of netrev."""
         try:
             yield
-        except NoChanges as wrong:
-            raise Lost(f"{' '.join(self._words)}: {wrong}") from None
+        except IncompleteChangesError as wrong:
+            raise ScoutUnavailableError(f"{' '.join(self._words)}: {wrong}") from None
 
     def _hold_piece(self) -> None:
         with self._interrupts.shielded():
@@ -127,7 +127,7 @@ class ArrivingChanges(RecordedChanges):
                         self._came.notify_all()
                 if len(piece) < READ:
                     time.sleep(PAUSE)
-        except NoChanges as wrong:
+        except IncompleteChangesError as wrong:
             failure = str(wrong)
         if failure or not self._is_current():
             process.kill()

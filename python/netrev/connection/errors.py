@@ -6,6 +6,7 @@ import sys
 import traceback
 from typing import Optional, TypeVar
 
+from netrev.errors import NetrevError
 from netrev.messages import session as messages
 from netrev.text.plain import plain
 
@@ -13,7 +14,7 @@ WANTED_BY = "NRDB_TRACEBACK"  # the environment variable that turns tracebacks o
 LONGEST = 200  # the maximum number of characters in an error's text
 
 
-class Misused(Exception):
+class UsageError(NetrevError):
     """Raised for a command of nrdb with wrong arguments; the message says what is wrong."""
 
 
@@ -21,14 +22,14 @@ Part = TypeVar("Part")
 
 
 def needed(part: Optional[Part]) -> Part:
-    """Returns a part of a session that exists only with a recording; raises Misused if a session was joined without a
+    """Returns a part of a session that exists only with a recording; raises UsageError if a session was joined without a
     recording."""
     if part is None:
-        raise Misused(messages.NEEDS_RECORDING)
+        raise UsageError(messages.NEEDS_RECORDING)
     return part
 
 
-class Mismatched(Exception):
+class MismatchedRecordingError(NetrevError):
     """Raised if the joined session has a different recording."""
 
 

@@ -10,10 +10,11 @@ from contextlib import suppress
 from dataclasses import dataclass
 from typing import Callable, Optional, Sequence
 
+from netrev.errors import NetrevError
 from netrev.messages import session as messages
 from netrev.system.interrupts import Interrupts
 
-from .shapes import Listed, Strange, entries_in, mark_of, value_of
+from .shapes import Listed, StrangeReplyError, entries_in, mark_of, value_of
 
 AT_ONCE = 16_384  # the maximum number of bytes sent before the replies are read; every pipe has room for that many
 READ = 65_536
@@ -32,7 +33,7 @@ def bytes_of(text: str) -> bytes:
         return text.encode("utf-8", "surrogatepass")
 
 
-class Ended(Exception):
+class NetrevEndedError(NetrevError):
     """Raised when netrev, or the connection to it, has ended. `status` is its exit status, if known."""
 
     def __init__(self, status: Optional[int] = None):
@@ -68,11 +69,11 @@ class Lines:
         self._rest = b""
 
     def next(self, asked: str) -> Optional[str]:
-        """The next line, without its line feed; None at the end. If a line has no end, raises Strange with the line
+        """The next line, without its line feed; None at the end. If a line has no end, raises StrangeReplyError with the line
         that was sent."""
         while not self._whole:
             if len(self._rest) > LONGEST:
-                raise Strange(asked, self._rest[:READ].decode("latin-1"))
+                raise StrangeReplyError(asked, self._rest[:READ].decode("latin-1"))
             came = self._read()
             if not came:
                 return None
@@ -126,7 +127,7 @@ class Netrev:
         for query in queries:
             try:
                 self._ahead.append((query, self._reply(query)))
-            except (Ended, Strange) as wrong:
+            except (NetrevEndedError, StrangeReplyError) as wrong:
                 self._ahead.append((query, wrong))
                 return
 
@@ -180,7 +181,7 @@ class Netrev:
             self._kept.clear()
         if self._unread:  # the next line would be the reply to another query
             self.drop()
-            raise Ended
+            raise NetrevEndedError
         self._unread = len(lines)
         if lines:
             self._send(bytes_of("".join(f"{line}\n" for line in lines)))
@@ -194,7 +195,7 @@ class Netrev:
     def _line(self, asked: str) -> str:
         line = self._next(asked)
         if line is None:
-            raise Ended(self.close())
+            raise NetrevEndedError(self.close())
         return line
 
     def _send(self, text: bytes) -> None:

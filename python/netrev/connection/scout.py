@@ -4,9 +4,10 @@ query starts another. If netrev ended by itself, the scout repeats the query onc
 
 from typing import Callable, Optional, Sequence, TypeVar
 
+from netrev.errors import NetrevError
 from netrev.messages import session as messages
 
-from .netrev import Ended, Netrev
+from .netrev import NetrevEndedError, Netrev
 from .shapes import move_of
 
 JOURNAL = 65_536  # the number of commands that fit into a session of `netrev run`
@@ -15,7 +16,7 @@ MOST_PLACED = 2  # a move to a position takes at most this many commands
 Seen = TypeVar("Seen")
 
 
-class Lost(Exception):
+class ScoutUnavailableError(NetrevError):
     """Raised, with the reason, if the second netrev isn't available."""
 
 
@@ -36,7 +37,7 @@ class Scout:
             try:
                 self._netrev, self._placed, self._stands = self._opened(), 0, None
             except OSError as error:
-                raise Lost(f"{error.filename}: {error.strerror}") from None
+                raise ScoutUnavailableError(f"{error.filename}: {error.strerror}") from None
 
     def drop(self) -> None:
         """Stops netrev, even in the middle of a query. A netrev that the session lent keeps running."""
@@ -56,12 +57,12 @@ class Scout:
         """The result of a query. If netrev ended during the query, the query is repeated on another netrev."""
         try:
             return self._whole(look)
-        except Ended:
+        except NetrevEndedError:
             pass
         try:
             return self._whole(look)
-        except Ended:
-            raise Lost(messages.SECOND_NETREV_ENDED) from None
+        except NetrevEndedError:
+            raise ScoutUnavailableError(messages.SECOND_NETREV_ENDED) from None
 
     def _whole(self, look: Callable[[], Seen]) -> Seen:
         """The complete result of a query. If anything interrupts the query, the scout drops its netrev."""

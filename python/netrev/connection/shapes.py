@@ -4,6 +4,7 @@ line, so that nrdb doesn't mistake it for the reply to another line. A reply in 
 import re
 from typing import Callable, Match, NamedTuple
 
+from netrev.errors import NetrevError
 from netrev.messages import session as messages
 from netrev.text.vocabulary import CELLS, MOST_STANDING
 
@@ -31,11 +32,11 @@ OF_DUMP = {
 }
 
 
-class Refused(Exception):
+class LineRefusedError(NetrevError):
     """Raised, with the reply, if netrev refused a line."""
 
 
-class Strange(Exception):
+class StrangeReplyError(NetrevError):
     """Raised for a reply that netrev never sends: another program must have answered."""
 
     def __init__(self, line: str, reply: str):
@@ -72,11 +73,11 @@ class Listed(NamedTuple):
 
 
 def matched(shape: re.Pattern[str], line: str, reply: str) -> Match[str]:
-    """The parts of a reply to this line. If the reply doesn't have this form, raises Refused for a fault, and Strange
+    """The parts of a reply to this line. If the reply doesn't have this form, raises LineRefusedError for a fault, and StrangeReplyError
     for anything else."""
     found = shape.fullmatch(reply)
     if found is None:
-        raise Refused(reply) if reply.startswith("fault ") else Strange(line, reply)
+        raise LineRefusedError(reply) if reply.startswith("fault ") else StrangeReplyError(line, reply)
     return found
 
 
@@ -103,7 +104,7 @@ def entries_in(line: str, first: str) -> int:
         return 0
     count = int(matched(LISTING, line, first)[1])
     if count > MOST_STANDING:
-        raise Strange(line, first)
+        raise StrangeReplyError(line, first)
     return count
 
 
@@ -113,7 +114,7 @@ def value_of(line: str, reply: str) -> str:
     found = matched(VALUE, line, reply)
     shape = (OF_CELL if verb == "print" else OF_DUMP)[what.split()[0]]
     if found[1] != what or not shape.fullmatch(found[2]):
-        raise Strange(line, reply)
+        raise StrangeReplyError(line, reply)
     return found[2]
 
 

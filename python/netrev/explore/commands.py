@@ -11,15 +11,15 @@ from netrev.recording.recording import Recording
 from netrev.reduce.reduced import Reducing, Wanted, answered_recording, reduced_of
 from netrev.reduce.writing import answered_by, text_of, write_recording
 from netrev.run.calls import book_of
-from netrev.session.session import Misused, Session
-from netrev.system.interrupts import Interrupted
+from netrev.session.session import UsageError, Session
+from netrev.system.interrupts import SearchInterruptedError
 from netrev.text.vocabulary import number_of
 
 from .failures import stays_of, watched
 from .findings import Exploring, Finding
 from .hangs import moved_by
 from .scripts.making import script_of
-from .scripts.runs import Impossible
+from .scripts.runs import ImpossibleScheduleError
 from .sentences import Telling, summary
 from .workers import Share, play_all, processors
 
@@ -34,7 +34,7 @@ def answer_explore(session: Session, words: list[str]) -> None:
     rest = words[is_of_failures:]
     number = number_of(rest[0]) if len(rest) == 1 else MOST if not rest else None
     if number is None or not 0 < number <= GREATEST:
-        raise Misused(messages.EXPLORE.format(most=GREATEST))
+        raise UsageError(messages.EXPLORE.format(most=GREATEST))
     session.printer.note(explored(session, number, is_of_failures).text)
 
 
@@ -50,7 +50,7 @@ def explored(session: Session, most: int = MOST, is_of_failures: bool = False) -
     the schedules in which a call fails although it succeeded in the recording."""
     recording = session.text()
     if recording.length > MOST_STEPS:
-        raise Misused(messages.TOO_LONG.format(most=MOST_STEPS))
+        raise UsageError(messages.TOO_LONG.format(most=MOST_STEPS))
     answered = answered_recording(session.program, recording, recording.length)
     answered.lines = recording.lines
     begun = time.monotonic()
@@ -59,13 +59,13 @@ def explored(session: Session, most: int = MOST, is_of_failures: bool = False) -
         if is_of_failures:
             script.watched = watched(script)
         exploring = Exploring(script, recording.lines.words)
-    except Impossible as why:
-        raise Misused(messages.NOT_CALLS.format(why=why)) from None
+    except ImpossibleScheduleError as why:
+        raise UsageError(messages.NOT_CALLS.format(why=why)) from None
     progress = Progress(exploring, most, session.interrupts.check)
     is_stopped = False
     try:
         play_all(exploring, Share(script, recording.lines, most, 0, processors()), progress.tell)
-    except Interrupted:
+    except SearchInterruptedError:
         is_stopped = True
     progress.end()
     lines = [summary(exploring, time.monotonic() - begun, is_stopped)]
@@ -131,7 +131,7 @@ class Keeping:
         reducing = Reducing(whole, self.session.path, self.session.program, self.session.interrupts.check)
         try:
             return reduced_of(reducing, short, self._wanted(whole, finding)).words(whole.length)
-        except Misused as wrong:
+        except UsageError as wrong:
             return str(wrong)
 
     def _wanted(self, whole: Recording, finding: Finding) -> Wanted:

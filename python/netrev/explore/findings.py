@@ -19,7 +19,7 @@ from .player import Player
 from .schedules import Schedule, schedules, single_delays
 from .scripts.arrivals import with_events
 from .scripts.control import Place
-from .scripts.runs import Delay, Impossible, Made
+from .scripts.runs import Delay, ImpossibleScheduleError, Made
 from .scripts.scripts import Script
 
 COPIES, MOST_COPIES = 200, 2_000  # the number of copies of the recorded run from which schedules continue
@@ -107,7 +107,7 @@ class Exploring:
         self.seed = max(self.seed, schedule.seed)
         try:
             played = self.ends_of(schedule.delays)
-        except Impossible:
+        except ImpossibleScheduleError:
             self.left += 1
             return set()
         if not played or not self._is_otherwise(played):
@@ -137,7 +137,7 @@ class Exploring:
         """The findings at the end of a schedule."""
         try:
             played = self.ends_of(schedule.delays)
-        except Impossible:
+        except ImpossibleScheduleError:
             return []
         return list(self._findings(schedule, played)) if played else []
 

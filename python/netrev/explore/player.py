@@ -5,14 +5,25 @@ it is due. A goroutine waits while it sleeps, and a step waits until its object 
 from heapq import heappop, heappush
 from typing import Optional
 
-from netrev.machine.machine import Refused, Status
+from netrev.machine.machine import StepRefusedError, Status
 from netrev.reduce.events import Event
 from netrev.run.flow import ASLEEP, Sort
 from netrev.text.contents import Answer, Step
 
-from .scripts.control import GOROUTINE, MADE, NETWORK, NEVER, NotMade, Place, behind, is_about, next_number, number_of
+from .scripts.control import (
+    GOROUTINE,
+    MADE,
+    NETWORK,
+    NEVER,
+    MissingObjectError,
+    Place,
+    behind,
+    is_about,
+    next_number,
+    number_of,
+)
 from .scripts.orders import Waiting
-from .scripts.runs import Delay, Impossible
+from .scripts.runs import Delay, ImpossibleScheduleError
 from .scripts.scripts import Script
 from .state import Standing, Turn
 
@@ -80,7 +91,7 @@ class Player(Standing):
             return
         try:
             step = self._next(g)
-        except NotMade:
+        except MissingObjectError:
             self.lacking.append((GOROUTINE, g))
             return
         if step is None:
@@ -238,8 +249,8 @@ class Player(Standing):
         """Makes a step, and schedules the goroutines that it wakes."""
         try:
             made = self.board.make(step, number)
-        except Refused as refused:
-            raise Impossible(f"{step}: reason {refused.reason}") from None
+        except StepRefusedError as refused:
+            raise ImpossibleScheduleError(f"{step}: reason {refused.reason}") from None
         self.steps.append(made)
         kind, answer = step[0], made.answer
         if answer in NEWS and (not number or self.script.answers[number - 1] != answer):
@@ -262,7 +273,7 @@ class Player(Standing):
             return
         try:
             steps = self.others.steps_of(item, self.board, self.numbers)
-        except NotMade:
+        except MissingObjectError:
             self.lacking.append((actor, which))
             return
         if steps is None:

@@ -8,7 +8,7 @@ from typing import Any, NamedTuple, Optional, TypeVar
 
 from netrev.text.contents import Answer, Limits, Step
 
-from .machine import IDLE, INSIDE, Desc, Refused, Socket, Status, Timer, World
+from .machine import IDLE, INSIDE, Desc, StepRefusedError, Socket, Status, Timer, World
 from .steps import OF_KIND
 
 ONE_OF_MANY = ("goroutines", "sockets", "descs")
@@ -53,12 +53,12 @@ class Machine:
         return self.steps[-1] if self.steps else []
 
     def step(self, step: Step) -> Answer:
-        """Makes a step and returns its answer. If it raises Refused, nothing has changed."""
+        """Makes a step and returns its answer. If it raises StepRefusedError, nothing has changed."""
         changes: Changes = []
         self._changes = changes
         try:
             _, answer = OF_KIND[step[0]](self, *step[1:])
-        except Refused:
+        except StepRefusedError:
             self._lead_back(changes)
             raise
         self.steps.append(changes)

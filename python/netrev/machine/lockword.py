@@ -1,7 +1,7 @@
 """The five operations on a lock word. Each returns the answer, the new word, and the number of releases that are owed to each side.
 """
 
-from .machine import Lock, Refused, at, put
+from .machine import Lock, StepRefusedError, at, put
 
 FULL = 2**20 - 1
 NOTHING: tuple[int, ...] = (0, 0)
@@ -12,7 +12,7 @@ Operated = tuple[str, Lock, tuple[int, ...]]
 def more(number: int) -> int:
     """A field of 20 bits, increased by one."""
     if number == FULL:
-        raise Refused(6)
+        raise StepRefusedError(6)
     return number + 1
 
 
@@ -37,7 +37,7 @@ def increfclose(lock: Lock) -> Operated:
 
 def decref(lock: Lock) -> Operated:
     if lock.references == 0:
-        raise Refused(7)
+        raise StepRefusedError(7)
     answer, lock = given_up(lock)
     return answer, lock, NOTHING
 
@@ -56,7 +56,7 @@ def rwlock(lock: Lock, side: str) -> Operated:
 def rwunlock(lock: Lock, side: str) -> Operated:
     place = at(side)
     if not lock.taken[place] or lock.references == 0:
-        raise Refused(7)
+        raise StepRefusedError(7)
     answer, lock = given_up(lock._replace(taken=put(lock.taken, place, False)))
     if lock.waiting[place] == 0:
         return answer, lock, NOTHING

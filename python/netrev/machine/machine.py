@@ -8,6 +8,7 @@ from __future__ import annotations
 
 from typing import Any, NamedTuple, TypeVar, Union
 
+from netrev.errors import NetrevError
 from netrev.text.contents import Answer, Limits
 
 Status = tuple[Any, ...]  # a name, numbers and a side
@@ -22,7 +23,7 @@ GREATEST_SEQUENCE = 2**64 - 1
 GREATEST_COUNT = 2**32 - 1
 
 
-class Refused(Exception):
+class StepRefusedError(NetrevError):
     """Raised if a step is refused; `reason` is the number of the reason."""
 
     def __init__(self, reason: int) -> None:

@@ -5,7 +5,7 @@ from typing import Optional, Sequence
 
 from netrev.text.contents import GREATEST_TIME
 
-from .machine import GREATEST_SEQUENCE, Desc, Refused, Timer, Word, World, at, put
+from .machine import GREATEST_SEQUENCE, Desc, StepRefusedError, Timer, Word, World, at, put
 
 
 def check(desc: Desc, side: str) -> int:
@@ -26,7 +26,7 @@ def summary(desc: Desc) -> int:
 def raised(number: int) -> int:
     """A sequence, fdseq or arming number, increased by one."""
     if number == GREATEST_SEQUENCE:
-        raise Refused(18)
+        raise StepRefusedError(18)
     return number + 1
 
 
@@ -50,7 +50,7 @@ def opened(world: World, s: int) -> tuple[World, int]:
     """The world with a descriptor opened for a socket, and its number. The step is refused with reason 3 if no
     descriptor is free and all have been made."""
     if not world.free and len(world.descs) == world.limits.desc:
-        raise Refused(3)
+        raise StepRefusedError(3)
     if world.free:
         d, world = world.free[0], world._replace(free=world.free[1:])
     else:
@@ -150,6 +150,6 @@ def fired(world: World, firing: Timer) -> Optional[World]:
     for side in firing.covers:
         desc = world.descs[d]
         if desc.deadlines[at(side)] <= 0 or not desc.running[own]:
-            raise Refused(21)
+            raise StepRefusedError(21)
         world = unblock(world.with_desc(d, deadlines=put(desc.deadlines, at(side), -1)), d, side, False)
     return world

@@ -3,9 +3,9 @@
 from typing import Callable, Iterator, Optional
 
 from netrev.text.contents import Answer, Recording, Step
-from netrev.text.reading import Fault
+from netrev.text.reading import FaultError
 
-from .machine import Refused, World
+from .machine import StepRefusedError, World
 from .observer import Observer
 from .steps import apply
 
@@ -21,12 +21,12 @@ def answers(recording: Recording, observer: Observer, make: Callable[[Step], Ans
     for number, (step, recorded) in enumerate(zip(recording.steps, recording.answers), 1):
         try:
             answer = make(step)
-        except Refused as refused:
+        except StepRefusedError as refused:
             observer.refused(step[0], refused.reason)
-            raise Fault(f"step {number}: fault 107 reason {refused.reason}") from refused
+            raise FaultError(f"step {number}: fault 107 reason {refused.reason}") from refused
         if recorded is not None and differs(recorded, answer):
             observer.differed(step[0], recorded, answer)
-            raise Fault(f"step {number}: fault 109 answer")
+            raise FaultError(f"step {number}: fault 109 answer")
         observer.applied(step[0], answer)
         yield answer
 

@@ -1,4 +1,4 @@
-"""The 31 kinds of step: each is a function of the state and the arguments that returns the next state and the answer, or raises Refused
+"""The 31 kinds of step: each is a function of the state and the arguments that returns the next state and the answer, or raises StepRefusedError
 with the first reason, in the order of the table in docs/internals/MACHINE.md.
 
 Answers are the words of docs/internals/MACHINE.md in lower case; `number`, `code`, `got` and `put` come with their number.
@@ -9,14 +9,14 @@ from typing import Callable
 from netrev.text.contents import Step
 
 from . import lockword, polling
-from .machine import GONE, GREATEST_COUNT, IDLE, Desc, Outcome, Refused, Socket, Status, World, at, put
+from .machine import GONE, GREATEST_COUNT, IDLE, Desc, Outcome, StepRefusedError, Socket, Status, World, at, put
 
 Operation = Callable[..., lockword.Operated]
 
 
 def need(holds: object, reason: int) -> None:
     if not holds:
-        raise Refused(reason)
+        raise StepRefusedError(reason)
 
 
 def there(world: World, g: int) -> Status:

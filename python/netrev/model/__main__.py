@@ -8,7 +8,7 @@ import sys
 from pathlib import Path
 
 from netrev.machine.observer import Observer
-from netrev.text.reading import Fault
+from netrev.text.reading import FaultError
 
 from .program import printed, replay
 from .session import Session, recording_of
@@ -18,7 +18,7 @@ def run(recording: bytes) -> int:
     """Answers the lines of standard input as they come."""
     try:
         replayed = replay(recording, Observer(), keeps_answers=False)
-    except Fault as fault:
+    except FaultError as fault:
         print(fault)
         return 1
     session = Session(recording_of(replayed.text.steps, replayed.worlds), Observer())

@@ -7,7 +7,7 @@ from netrev.machine.in_place import Machine
 from netrev.machine.machine import World
 from netrev.machine.observer import Observer
 from netrev.machine.replay import answers
-from netrev.text.reading import Fault, read_text
+from netrev.text.reading import FaultError, read_text
 
 from .changed import changed_cells
 
@@ -23,14 +23,14 @@ def _shown(machine: Machine, cell: str) -> object:
 
 
 def changes(recording: bytes, observer: Observer) -> tuple[list[str], bool]:
-    """The lines of all steps and the final line, and whether the recording is free of faults. Raises Doubtful if the model can't decide."""
+    """The lines of all steps and the final line, and whether the recording is free of faults. Raises DoubtfulNumberError if the model can't decide."""
     lines: list[str] = []
     try:
         text = read_text(recording)
         machine = Machine(text.limits)
         for number, _ in enumerate(answers(text, observer, machine.step), 1):
             lines += lines_of(machine, number)
-    except Fault as fault:
+    except FaultError as fault:
         observer.printed(str(fault))
         return [*lines, str(fault)], False
     return [*lines, f"ok {len(text.steps)} steps"], True

@@ -2,13 +2,14 @@
 
 from typing import Callable, Iterable, NamedTuple, Optional
 
+from netrev.errors import NetrevError
 from netrev.machine.invariants import breaches
 from netrev.machine.machine import World
 from netrev.machine.observer import Observer
 from netrev.machine.replay import positions
 from netrev.text.contents import Answer, Recording as Text
-from netrev.text.jsontext import Doubtful
-from netrev.text.reading import Fault, read_text
+from netrev.text.jsontext import DoubtfulNumberError
+from netrev.text.reading import FaultError, read_text
 from netrev.text.writing import write_plain
 
 from .changes import changes
@@ -31,7 +32,7 @@ class Printed(NamedTuple):
     wrong: str = ""
 
 
-class Broken(Exception):
+class BrokenInvariantError(NetrevError):
     """Raised if the model reached a state that isn't well formed."""
 
 
@@ -44,7 +45,7 @@ class Replayed(NamedTuple):
 
 
 def replay(recording: bytes, observer: Observer, keeps_worlds: bool = True, keeps_answers: bool = True) -> Replayed:
-    """Replays the recording. Raises Fault if the recording has a fault, and Doubtful if the model can't decide. The
+    """Replays the recording. Raises FaultError if the recording has a fault, and DoubtfulNumberError if the model can't decide. The
     result has the states and the answers only if the caller asks for them."""
     text = read_text(recording)
     worlds, answers = held_together(positions(text, observer), keeps_worlds, keeps_answers)
@@ -58,7 +59,7 @@ def held_together(
     worlds, answers = [], []
     for position, (world, answer) in enumerate(replayed):
         if position < HELD and (broken := breaches(world)):
-            raise Broken(f"the model's state at position {position} isn't well-formed: {broken}")
+            raise BrokenInvariantError(f"the model's state at position {position} isn't well-formed: {broken}")
         if keeps_worlds:
             worlds.append(world)
         if keeps_answers and answer is not None:
@@ -73,12 +74,12 @@ def printed(program: str, recording: bytes, script: bytes, observer: Observer) -
             lines, is_good = LISTS[program](recording, observer)
             return Printed(0 if is_good else 1, "".join(f"{line}\n" for line in lines).encode())
         replayed = replay(recording, observer, program == "run", program == "upgrade")
-    except Fault as fault:
+    except FaultError as fault:
         observer.printed(str(fault))
         return Printed(1, f"{fault}\n".encode())
-    except Doubtful:
+    except DoubtfulNumberError:
         return None
-    except Broken as broken:
+    except BrokenInvariantError as broken:
         return Printed(0, b"", str(broken))
     text = replayed.text
     if program == "check":

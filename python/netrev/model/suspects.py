@@ -18,7 +18,7 @@ from netrev.machine.machine import GONE, SIDES, World, at
 from netrev.machine.observer import Observer
 from netrev.machine.replay import positions
 from netrev.text.contents import Answer, Step
-from netrev.text.reading import Fault, read_text
+from netrev.text.reading import FaultError, read_text
 
 PASSED_DEADLINE, TIMEOUT, TAKEN_BACK = "passed-deadline", "timeout", "taken-back"
 LOST_WAKE_UP, ASLEEP, HELD_REFERENCE = "lost-wakeup", "asleep", "held-reference"
@@ -55,12 +55,12 @@ class Replayed(NamedTuple):
 
 
 def suspects(recording: bytes, observer: Observer, hunts: Sequence[str] = HUNTS) -> tuple[list[str], bool]:
-    """The lines, and whether the recording is free of faults; raises Doubtful if the model can't decide. If there is a fault, it is the
+    """The lines, and whether the recording is free of faults; raises DoubtfulNumberError if the model can't decide. If there is a fault, it is the
     only line."""
     try:
         text = read_text(recording)
         reached = list(positions(text, observer))
-    except Fault as fault:
+    except FaultError as fault:
         observer.printed(str(fault))
         return [str(fault)], False
     worlds, answers = zip(*reached)

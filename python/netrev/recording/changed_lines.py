@@ -5,6 +5,7 @@ from array import array
 from bisect import bisect_left, bisect_right
 from typing import Iterator, Optional
 
+from netrev.errors import NetrevError
 from netrev.messages import session as messages
 
 LINE = re.compile(rb"\d+ [a-z]+(?: \d+)? = [ -~]+")
@@ -21,7 +22,7 @@ def next_step(text: str, place: int) -> int:
     return line if line + 1 < len(text) else -1
 
 
-class NoChanges(ValueError):
+class IncompleteChangesError(NetrevError, ValueError):
     """Raised for a text that isn't the whole output of `netrev changes`."""
 
 
@@ -33,10 +34,10 @@ class ChangedLines:
         self._lasts = array("I")  # the last step of each piece
 
     def take(self, lines: bytes) -> None:
-        """Adds whole lines, each with its line feed; raises NoChanges if a line isn't a change."""
+        """Adds whole lines, each with its line feed; raises IncompleteChangesError if a line isn't a change."""
         first, last = lines[: lines.index(b"\n")], lines[lines.rfind(b"\n", 0, -1) + 1 : -1]
         if lines.count(b"\n") != lines.count(b" = ") or not (LINE.fullmatch(first) and LINE.fullmatch(last)):
-            raise NoChanges(messages.CHANGES_MALFORMED)
+            raise IncompleteChangesError(messages.CHANGES_MALFORMED)
         self.pieces.append(lines)
         self._lasts.append(int(last[: last.index(b" ")]))
 
@@ -46,12 +47,12 @@ class ChangedLines:
         return self._lasts[-1] if self._lasts else 0
 
     def texts(self, first: int, end: int) -> Iterator[tuple[str, str, str]]:
-        """The step, the cell and the value of each line of these pieces, as texts; raises NoChanges if a line lacks one
+        """The step, the cell and the value of each line of these pieces, as texts; raises IncompleteChangesError if a line lacks one
         of them."""
         for piece in self.pieces[first:end]:
             found = LINES.findall(piece.decode("latin-1"))
             if len(found) != piece.count(b"\n"):
-                raise NoChanges(messages.CHANGES_MALFORMED)
+                raise IncompleteChangesError(messages.CHANGES_MALFORMED)
             yield from found
 
     def between(self, first: int, last: int) -> Iterator[tuple[str, str, str]]:

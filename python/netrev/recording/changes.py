@@ -10,7 +10,7 @@ from typing import Callable, Iterable, Iterator, NamedTuple, Optional, Sequence
 
 from netrev.messages import session as messages
 
-from .changed_lines import ChangedLines, NoChanges
+from .changed_lines import ChangedLines, IncompleteChangesError
 
 FEW = 300  # this many queries are answered by a search of the lines; the next one builds the arrays
 AT_START = {"clock": "0", "waiters": "0", "timers": "0", "firings": "0", "gor 0": "idle"}
@@ -78,12 +78,12 @@ class RecordedChanges:
 
     @classmethod
     def read(cls, pieces: Iterable[bytes]) -> "RecordedChanges":
-        """The changes of a whole output, given in pieces; raises NoChanges if the output is malformed or incomplete."""
+        """The changes of a whole output, given in pieces; raises IncompleteChangesError if the output is malformed or incomplete."""
         changes = cls()
         for piece in pieces:
             changes.take(piece)
         if not changes.is_whole:
-            raise NoChanges(messages.CHANGES_END_EARLY)
+            raise IncompleteChangesError(messages.CHANGES_END_EARLY)
         return changes
 
     # ---- queries
@@ -228,7 +228,7 @@ class RecordedChanges:
         if not end:
             return
         if self._is_whole:
-            raise NoChanges(messages.CHANGES_GO_ON)
+            raise IncompleteChangesError(messages.CHANGES_GO_ON)
         last = text.rfind(b"\n", 0, end - 1) + 1
         is_end = text.find(b" = ", last, end) < 0
         if told := text[: last if is_end else end]:
@@ -237,7 +237,7 @@ class RecordedChanges:
             try:
                 self._take_end(text[last : end - 1].decode("ascii"))
             except (ValueError, IndexError):
-                raise NoChanges(messages.CHANGES_MALFORMED) from None
+                raise IncompleteChangesError(messages.CHANGES_MALFORMED) from None
 
     def _take_end(self, line: str) -> None:
         """Reads the last line: the number of steps, or the fault."""
@@ -248,5 +248,5 @@ class RecordedChanges:
             self._fault = line
             self._length = int(words[0].rstrip(":")) - 1 if first == "step" else 0
         else:
-            raise NoChanges(line)
+            raise IncompleteChangesError(line)
         self._is_whole = True

@@ -11,6 +11,7 @@ from itertools import chain
 from os.path import commonprefix
 from typing import Any, Callable, Iterable, Iterator, NamedTuple, Optional, Sequence, TypeVar
 
+from netrev.errors import NetrevError
 from netrev.messages import session as messages
 from netrev.text.files import check_name
 from netrev.text.line_starts import LineStarts
@@ -51,22 +52,22 @@ class Step(NamedTuple):
         return " ".join((self.kind, *(shortened(str(argument)) for argument in self.arguments)))
 
 
-class NoRecording(Exception):
+class NotARecordingError(NetrevError):
     """Raised for a text that isn't a recording: netrev didn't accept it, or read a different text."""
 
 
 def parsed(text: bytes) -> Any:
-    """The JSON value of a text; raises NoRecording if it isn't JSON."""
+    """The JSON value of a text; raises NotARecordingError if it isn't JSON."""
     try:
         return json.loads(text)
     except (ValueError, RecursionError):
-        raise NoRecording(messages.NO_HEADER) from None
+        raise NotARecordingError(messages.NO_HEADER) from None
 
 
 def check_size(path: str, size: int) -> None:
-    """Raises NoRecording if a file has more bytes than this machine has memory."""
+    """Raises NotARecordingError if a file has more bytes than this machine has memory."""
     if size > os.sysconf("SC_PHYS_PAGES") * os.sysconf("SC_PAGE_SIZE"):
-        raise NoRecording(too_large(path))
+        raise NotARecordingError(too_large(path))
 
 
 def too_large(path: str) -> str:
@@ -104,18 +105,18 @@ class Recording:
 
     @classmethod
     def read(cls, path: str) -> "Recording":
-        """Reads the file that netrev reads. Raises an OSError if that fails, and NoRecording if the file can't be read
+        """Reads the file that netrev reads. Raises an OSError if that fails, and NotARecordingError if the file can't be read
         twice."""
         check_name(path)
         if not stat.S_ISREG(os.stat(path).st_mode) and not os.path.isdir(path):
-            raise NoRecording(messages.NOT_A_FILE.format(path=path))
+            raise NotARecordingError(messages.NOT_A_FILE.format(path=path))
         try:
             with open(path, "rb") as file:
                 check_size(path, os.fstat(file.fileno()).st_size)
                 recording = cls(file.read())
             recording.lines = Lines.beside(path, recording.length)
         except MemoryError:
-            raise NoRecording(too_large(path)) from None
+            raise NotARecordingError(too_large(path)) from None
         return recording
 
     @property
@@ -168,7 +169,7 @@ class Recording:
     def _made(self, number: int, values: Any) -> Step:
         """The step with this number, from the array in its line."""
         if not (isinstance(values, list) and values and isinstance(values[0], str)):
-            raise NoRecording(messages.NOT_A_STEP.format(line=self._numbers[number]))
+            raise NotARecordingError(messages.NOT_A_STEP.format(line=self._numbers[number]))
         kind, *arguments = values
         answer = arguments.pop() if self.has_answers and arguments else None
         return Step(number, self._numbers[number], kind, tuple(arguments), answer)

@@ -9,6 +9,7 @@ from itertools import accumulate
 from pathlib import Path
 from typing import Any, Iterable, NamedTuple, Optional
 
+from netrev.errors import NetrevError
 from netrev.messages import session as messages
 
 from .goroutines import OF_GOROUTINES, AllGoroutines, typed
@@ -76,7 +77,7 @@ class Wait(NamedTuple):
     by: int
 
 
-class Unusable(Exception):
+class UnusableFileError(NetrevError):
     """Raised, with the reason, for a NAME.where that can't be used."""
 
 
@@ -154,7 +155,7 @@ class Lines(AllGoroutines):
                     of_steps(value, steps)
                 else:
                     self._add(value)
-        except Unusable as why:
+        except UnusableFileError as why:
             self.fault = str(why)
         except UnicodeDecodeError:
             self.fault = messages.LINES_NOT_TEXT
@@ -240,11 +241,11 @@ class Lines(AllGoroutines):
 
 
 def of_steps(first: Any, steps: int) -> None:
-    """Raises Unusable if the file's first line belongs to another recording."""
+    """Raises UnusableFileError if the file's first line belongs to another recording."""
     if first["where"] not in FORMS:
-        raise Unusable(messages.LINES_OF_OTHER_VERSION)
+        raise UnusableFileError(messages.LINES_OF_OTHER_VERSION)
     if first["steps"] != steps:
-        raise Unusable(messages.LINES_OF_OTHER.format(theirs=typed(first["steps"], int), steps=steps))
+        raise UnusableFileError(messages.LINES_OF_OTHER.format(theirs=typed(first["steps"], int), steps=steps))
 
 
 def _later(values: Any) -> Any:

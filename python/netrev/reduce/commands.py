@@ -6,7 +6,7 @@ from netrev.findings.suspects.ranking import suspects_of
 from netrev.messages import searches as messages
 from netrev.recording.recording import Recording
 from netrev.session.files import written
-from netrev.session.session import Misused, Session
+from netrev.session.session import UsageError, Session
 
 from .hang_report import Story, hang_report, story_of
 from .reduced import reduced, wanted_by
@@ -18,7 +18,7 @@ USAGE = "reduce OUT.jsonl [N | CELL VALUE]"
 def reduced_file(session: Session, words: list[str]) -> str:
     """Writes the reduced recording to the file that the first word names, and returns the lines about the file."""
     if not words or not words[0].endswith(".jsonl"):
-        raise Misused(messages.REDUCE.format(usage=USAGE))
+        raise UsageError(messages.REDUCE.format(usage=USAGE))
     made = reduced(session, words[0], wanted_by(session, words[1:]))
     said = made.words(session.text().length)
     found = [suspect for suspect in suspects_of(Recording.read(made.path)).suspects if suspect.is_shown]
@@ -31,7 +31,7 @@ def answer_reduce(session: Session, words: list[str]) -> None:
 
 def answer_report(session: Session, words: list[str]) -> None:
     if not words or not words[0].endswith(".md"):
-        raise Misused(messages.REPORT)
+        raise UsageError(messages.REPORT)
     story = None if words[1:] or has_suspects(session) else story_of(session)
     if story:
         return report_hang(session, words[0], story)

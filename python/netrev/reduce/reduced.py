@@ -8,13 +8,13 @@ from netrev.findings.suspects.ranking import suspects_of
 from netrev.messages import searches as messages
 from netrev.recording.recording import Recording
 from netrev.session.files import spare
-from netrev.session.session import Misused, Session
+from netrev.session.session import UsageError, Session
 from netrev.text.contents import Limits
 from netrev.text.vocabulary import cell_of, number_of
 
 from .events import Events
 from .replay import Player
-from .shrinking import NotReproduced, Shrinking
+from .shrinking import NotReproducedError, Shrinking
 from .targets import CellTarget, HangTarget, StepsTarget, SuspectTarget, Target
 from .units import Sort, units_of
 from .writing import answered_by, taken, write_recording
@@ -59,7 +59,7 @@ class Reducing(NamedTuple):
 
 
 def reduced(session: Session, path: str, wanted: Wanted) -> Reduced:
-    """Writes the reduced recording to the path, with its NAME.where; raises Misused if a replay of the recording
+    """Writes the reduced recording to the path, with its NAME.where; raises UsageError if a replay of the recording
     doesn't show the target."""
     spare(path, session.path)
     return reduced_of(Reducing(session.text(), session.path, session.program, session.interrupts.check), path, wanted)
@@ -76,8 +76,8 @@ def reduced_of(reducing: Reducing, path: str, wanted: Wanted) -> Reduced:
     shrinking = Shrinking(player, events, units, _target(events, answered, wanted))
     try:
         kept = shrinking.run()
-    except NotReproduced:
-        raise Misused(messages.NOT_SHOWN) from None
+    except NotReproducedError:
+        raise UsageError(messages.NOT_SHOWN) from None
     data = taken(program, player, recording.has_answers)
     numbers = [events.all[place].number for place in player.chosen]
     write_recording(path, of, data, recording.lines, numbers)
@@ -89,7 +89,7 @@ def answered_recording(program: str, recording: Recording, until: int) -> Record
     """The recording's steps up to `until`, with netrev's answers."""
     status, text = answered_by(program, "upgrade", recording.data)
     if status:
-        raise Misused(messages.REFUSED.format(fault=text.decode("utf-8", "replace").strip()))
+        raise UsageError(messages.REFUSED.format(fault=text.decode("utf-8", "replace").strip()))
     return Recording(b"".join(text.splitlines(keepends=True)[: until + 1]))
 
 
@@ -102,9 +102,9 @@ def _target(events: Events, recording: Recording, wanted: Wanted) -> Target:
         return CellTarget(events, wanted.cell, wanted.value, wanted.until)
     found = [suspect for suspect in suspects_of(recording).suspects if suspect.is_shown]
     if not found:
-        raise Misused(messages.NO_SUSPECTS)
+        raise UsageError(messages.NO_SUSPECTS)
     if not 0 < wanted.suspect <= len(found):
-        raise Misused(messages.SUSPECT_NUMBERS.format(count=len(found)))
+        raise UsageError(messages.SUSPECT_NUMBERS.format(count=len(found)))
     return SuspectTarget(events, found[wanted.suspect - 1], wanted.suspect)
 
 
@@ -118,7 +118,7 @@ def wanted_by(session: Session, words: list[str]) -> Wanted:
     cell = cell_of(words[:2]) or cell_of(words[:1])
     value = " ".join(words[2 if cell_of(words[:2]) else 1 :])
     if cell is None or not value:
-        raise Misused(messages.AFTER_FILE)
+        raise UsageError(messages.AFTER_FILE)
     return Wanted(0, cell, value, _last_with(session, cell, value))
 
 
@@ -135,5 +135,5 @@ def _last_with(session: Session, cell: str, value: str) -> int:
             return position
     found: Optional[int] = changes.nearest([cell], lambda values: is_wanted(values[0]), length, True)
     if found is None:
-        raise Misused(messages.NO_STEP_GIVES.format(cell=cell, value=value))
+        raise UsageError(messages.NO_STEP_GIVES.format(cell=cell, value=value))
     return found

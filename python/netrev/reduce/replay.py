@@ -4,7 +4,7 @@ If a step of a unit doesn't apply or has a different answer, the unit is removed
 from bisect import bisect_left
 from typing import Any, Callable, Iterable, Optional
 
-from netrev.machine.machine import Refused, World
+from netrev.machine.machine import StepRefusedError, World
 from netrev.machine.steps import apply
 from netrev.text.contents import Answer, Limits
 from netrev.text.vocabulary import KINDS
@@ -104,7 +104,7 @@ class Player:
             return False
         try:
             world, answer = apply(self.world, step)
-        except Refused:
+        except StepRefusedError:
             return False
         if event.kind not in NUMBERED and answer != event.answer:
             return False

@@ -4,6 +4,8 @@ time, then fewer."""
 
 from typing import Iterable, Iterator, Optional
 
+from netrev.errors import NetrevError
+
 from .events import Events
 from .replay import Player
 from .targets import Target
@@ -13,7 +15,7 @@ WINDOWS = (64, 512, 4_096)  # how many steps around the target are kept at first
 MOST_PLAYED = 600_000  # after this number of replayed steps, the best result so far is used
 
 
-class NotReproduced(Exception):
+class NotReproducedError(NetrevError):
     """Raised if even a replay of the whole recording doesn't show the target."""
 
 
@@ -37,7 +39,7 @@ class Shrinking:
                 self.kept = settled
                 break
         else:
-            raise NotReproduced
+            raise NotReproducedError
         self._budget += self.player.played
         self._thin(self._idle_ticks())
         for sort in (Sort.GOROUTINE, Sort.SOCKET):

@@ -11,7 +11,7 @@ from netrev.machine.machine import World
 from netrev.messages import searches as messages
 from netrev.recording.where import Call, Lines, Stack
 from netrev.session.files import spare, written
-from netrev.session.session import Misused
+from netrev.session.session import UsageError
 from netrev.text.contents import Answer, Limits, Step
 from netrev.text.files import forget_where
 from netrev.text.writing import line_of
@@ -38,7 +38,7 @@ def taken(program: str, player: Player, has_answers: bool) -> bytes:
     status, said = answered_by(program, "upgrade" if has_answers else "check", text)
     if status:
         fault = said.decode("utf-8", "replace").strip()
-        raise Misused(messages.REDUCED_REFUSED.format(fault=fault))
+        raise UsageError(messages.REDUCED_REFUSED.format(fault=fault))
     return said if has_answers else text
 
 

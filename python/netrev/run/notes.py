@@ -96,7 +96,7 @@ class Notes:
                     self._note_steps(range(told.first, told.end))
             self._turn.last = self.step
         except (KeyError, IndexError, ValueError):
-            deque(self.changes.texts(), maxlen=0)  # (raises NoChanges if a line is malformed)
+            deque(self.changes.texts(), maxlen=0)  # (raises IncompleteChangesError if a line is malformed)
             raise
         self.told.clear()
         self._lines = ""

@@ -4,7 +4,7 @@ machine would take many times as long."""
 import subprocess
 from typing import Optional
 
-from netrev.recording.changed_lines import NoChanges
+from netrev.recording.changed_lines import IncompleteChangesError
 from netrev.recording.changes import RecordedChanges
 from netrev.recording.recording import Recording
 from netrev.system.command_lines import file_word
@@ -20,6 +20,6 @@ def printed_changes(netrev: str, path: str, recording: Recording) -> Optional[Re
     try:
         run = subprocess.run(words, stdin=subprocess.DEVNULL, capture_output=True, timeout=seconds, check=False)
         changes = RecordedChanges.read([run.stdout])
-    except (OSError, subprocess.TimeoutExpired, NoChanges):
+    except (OSError, subprocess.TimeoutExpired, IncompleteChangesError):
         return None
     return None if run.returncode or changes.fault or changes.length != recording.length else changes

@@ -7,6 +7,7 @@ from enum import Enum
 from functools import lru_cache
 from typing import Collection, Mapping
 
+from netrev.errors import NetrevError
 from netrev.messages import session as messages
 from netrev.text.commands import OF_NETREV, SHORT, command
 from netrev.text.vocabulary import DUMPS
@@ -195,7 +196,7 @@ PAGINATION = "pagination"  # a setting of nrdb that GDB has too
 SETTINGS = ("exec-direction", PAGINATION)
 
 
-class Ambiguous(Exception):
+class AmbiguousWordError(NetrevError):
     """A word that is a prefix of several words."""
 
     def __init__(self, word: str, could_be: list[str]):
@@ -211,7 +212,7 @@ def whole(word: str, known: Collection[str], spellings: Mapping[str, str] = {}) 
         return spellings[word]
     near = sorted(name for name in known if name.startswith(word))
     if len(near) > 1:
-        raise Ambiguous(word, near)
+        raise AmbiguousWordError(word, near)
     foreign = {spellings[name] for name in spellings if name.startswith(word)}
     return near[0] if near else foreign.pop() if len(foreign) == 1 else word
 
@@ -268,7 +269,7 @@ def takes_a_file(part: str) -> bool:
     words = part.split(None, 1)
     try:
         return bool(words) and whole_command(words[0]) in OF_FILES
-    except Ambiguous:
+    except AmbiguousWordError:
         return False
 
 

@@ -9,7 +9,7 @@ from netrev.connection.netrev import AT_ONCE, Netrev
 from netrev.connection.output import Printer
 
 from .attached_commands import Attached
-from .commands import Ambiguous, parts_of, whole_words
+from .commands import AmbiguousWordError, parts_of, whole_words
 
 MOST = 1_024  # the maximum number of lines sent together
 
@@ -31,7 +31,7 @@ def query_of(line: str) -> str:
     try:
         parts = parts_of(line)
         words = whole_words(parts[0].split()) if len(parts) == 1 else [""]
-    except Ambiguous:
+    except AmbiguousWordError:
         return ""
     return " ".join(words) if words[0] == "print" else ""
 

@@ -4,10 +4,10 @@ from dataclasses import dataclass, field
 from typing import Callable, Mapping, Optional, Sequence
 
 from netrev.connection.beginnings import tell_begin
-from netrev.connection.errors import Mismatched, Misused, needed, unexpected
-from netrev.connection.netrev import Ended, Joined, Netrev, Reply
+from netrev.connection.errors import MismatchedRecordingError, UsageError, needed, unexpected
+from netrev.connection.netrev import NetrevEndedError, Joined, Netrev, Reply
 from netrev.connection.output import Place, Printer, displays_table
-from netrev.connection.scout import Lost, Scout
+from netrev.connection.scout import ScoutUnavailableError, Scout
 from netrev.connection.shapes import (
     MARK,
     MOVED,
@@ -15,8 +15,8 @@ from netrev.connection.shapes import (
     VALUE,
     Listed,
     Position,
-    Refused,
-    Strange,
+    LineRefusedError,
+    StrangeReplyError,
     go_to,
     is_shaped,
     move_of,
@@ -25,16 +25,16 @@ from netrev.connection.shapes import (
 from netrev.connection.world import World
 from netrev.messages import session as messages
 from netrev.recording.changes import RecordedChanges
-from netrev.recording.recording import NoRecording, Recording
+from netrev.recording.recording import NotARecordingError, Recording
 from netrev.recording.waits import Name
 from netrev.recording.words import absent_words, dump_words, in_words
-from netrev.system.interrupts import GivenUp, Interrupted, Interrupts
+from netrev.system.interrupts import SessionAbandonedError, SearchInterruptedError, Interrupts
 from netrev.text.text_files import lines_of_script
 from netrev.text.vocabulary import cell_of
 from netrev.views.changed import tables_beside
 
 from .attached_commands import Attached
-from .commands import COMMANDS, Ambiguous, is_answered_here, parts_of, whole_words
+from .commands import COMMANDS, AmbiguousWordError, is_answered_here, parts_of, whole_words
 from .conditions import Condition
 from .line_breaks import Breaks, names_a_place
 from .line_hints import hint
@@ -75,11 +75,13 @@ class Session:
         self.breaks.is_met = lambda number, at: number not in self.conditions or self.holds(self.conditions[number], at)
 
     def begin(self, reply: str) -> None:
-        """Prints the position that netrev's first reply gives; raises Mismatched if the session has a different
+        """Prints the position that netrev's first reply gives; raises MismatchedRecordingError if the session has a different
         recording."""
         self.stood, self.length, _ = position_of(reply)
         if self.recording and self.recording.length != self.length:
-            raise Mismatched(messages.OTHER_RECORDING.format(steps=self.recording.length, length=self.length))
+            raise MismatchedRecordingError(
+                messages.OTHER_RECORDING.format(steps=self.recording.length, length=self.length)
+            )
         tell_begin(self, reply)
 
     def ask(self, line: str) -> str:
@@ -102,15 +104,15 @@ class Session:
         return World(self.netrev, self.text(), self.stands().position)
 
     def text(self) -> Recording:
-        """The recording; raises Misused if a session was joined without a recording."""
+        """The recording; raises UsageError if a session was joined without a recording."""
         return needed(self.recording)
 
     def looks(self) -> Scout:
-        """The second netrev; raises Misused if a session was joined without a recording."""
+        """The second netrev; raises UsageError if a session was joined without a recording."""
         return needed(self.scout)
 
     def changes(self) -> RecordedChanges:
-        """The changes made by each step; raises Misused if a session was joined without a recording."""
+        """The changes made by each step; raises UsageError if a session was joined without a recording."""
         return needed(self.recorded)
 
     def run(self, line: str) -> bool:
@@ -127,7 +129,7 @@ class Session:
         try:
             with self.interrupts.held():
                 return answer(what)
-        except Interrupted:
+        except SearchInterruptedError:
             self.attached.pending.clear()
             self.printer.note(messages.SESSION_GOES_ON.format(error=messages.INTERRUPTED))
             return True
@@ -154,11 +156,18 @@ class Session:
         try:
             self.tell_of_others()
             return self.answer(line)
-        except (Ambiguous, Lost, Misused) as wrong:
+        except (AmbiguousWordError, ScoutUnavailableError, UsageError) as wrong:
             self.printer.note(str(wrong))
-        except Refused as refused:
+        except LineRefusedError as refused:
             self.printer.note(f"netrev answered: {refused}")
-        except (Ended, GivenUp, Interrupted, NoRecording, OSError, Strange):
+        except (
+            NetrevEndedError,
+            SessionAbandonedError,
+            SearchInterruptedError,
+            NotARecordingError,
+            OSError,
+            StrangeReplyError,
+        ):
             raise
         except Exception as error:
             self.errors += 1
@@ -290,7 +299,7 @@ class Session:
         """Prints and answers each line of a file; raises an OSError if the file can't be read. Returns False if the
         session has ended."""
         if self.depth == NESTED:
-            raise Misused(messages.NESTED.format(most=NESTED))
+            raise UsageError(messages.NESTED.format(most=NESTED))
         lines = lines_of_script(path)
         self.depth += 1
         try:

@@ -5,12 +5,14 @@ import signal
 from contextlib import contextmanager
 from typing import Callable, Iterator
 
+from netrev.errors import NetrevError
 
-class Interrupted(Exception):
+
+class SearchInterruptedError(NetrevError):
     """Raised if Ctrl-C was pressed during a long search; the search then stops."""
 
 
-class GivenUp(Exception):
+class SessionAbandonedError(NetrevError):
     """Raised if Ctrl-C was pressed again while netrev didn't answer. The session can't continue, because a reply has
     been read only in part."""
 
@@ -27,7 +29,7 @@ class Interrupts:
 
     @contextmanager
     def held(self, first: Callable[[], None] = lambda: None) -> Iterator[None]:
-        """Context in which Ctrl-C is remembered and reported by `check`; a second Ctrl-C raises GivenUp. `first` is
+        """Context in which Ctrl-C is remembered and reported by `check`; a second Ctrl-C raises SessionAbandonedError. `first` is
         called at the first Ctrl-C."""
         self._came, self._first = False, first
         before = signal.signal(signal.SIGINT, self._handle)
@@ -38,7 +40,7 @@ class Interrupts:
 
     @contextmanager
     def at_once(self) -> Iterator[None]:
-        """Context for work without queries, in which Ctrl-C raises Interrupted at once, except inside `shielded`."""
+        """Context for work without queries, in which Ctrl-C raises SearchInterruptedError at once, except inside `shielded`."""
         self.check()
         before, self._stops_at_once = self._stops_at_once, True
         try:
@@ -62,7 +64,7 @@ class Interrupts:
         self._came = False
 
     def give_up(self) -> None:
-        """Raises GivenUp, as does each later request."""
+        """Raises SessionAbandonedError, as does each later request."""
         self._is_given_up = True
         self.check_given_up()
 
@@ -81,13 +83,13 @@ class Interrupts:
         self.came()
 
     def check(self) -> None:
-        """Raises Interrupted if Ctrl-C was pressed, and GivenUp if it was pressed twice."""
+        """Raises SearchInterruptedError if Ctrl-C was pressed, and SessionAbandonedError if it was pressed twice."""
         self.check_given_up()
         if self._came:
             self._came = False
-            raise Interrupted
+            raise SearchInterruptedError
 
     def check_given_up(self) -> None:
-        """Raises GivenUp if the session was given up, even if an earlier GivenUp was caught."""
+        """Raises SessionAbandonedError if the session was given up, even if an earlier SessionAbandonedError was caught."""
         if self._is_given_up:
-            raise GivenUp
+            raise SessionAbandonedError

@@ -6,7 +6,7 @@
 It doesn't accept, as a whole number, `-0`, a number with a point or an exponent, or a number that doesn't fit into 64
 bits.
 
-JSON parsers differ about numbers close to the largest floating-point number. `Doubtful` is raised for such a number,
+JSON parsers differ about numbers close to the largest floating-point number. `DoubtfulNumberError` is raised for such a number,
 and the case isn't judged.
 """
 
@@ -15,15 +15,17 @@ import re
 from decimal import Decimal, InvalidOperation
 from typing import Any, NoReturn
 
+from netrev.errors import NetrevError
+
 DEEPEST = 127
 DOUBTED = (Decimal("1.7976e308"), Decimal("1.7978e308"))
 
 
-class NoJson(ValueError):
+class NotJsonError(NetrevError, ValueError):
     """Raised if the text isn't JSON."""
 
 
-class Doubtful(Exception):
+class DoubtfulNumberError(NetrevError):
     """A number that JSON parsers may read differently."""
 
 
@@ -42,16 +44,16 @@ def whole(text: str) -> object:
 def fraction(text: str) -> Fraction:
     try:
         if DOUBTED[0] <= Decimal(text).copy_abs() <= DOUBTED[1]:
-            raise Doubtful(text)
+            raise DoubtfulNumberError(text)
     except InvalidOperation:  # the exponent is too large for Decimal
         pass
     if float(text) in (float("inf"), float("-inf")):
-        raise NoJson(text)
+        raise NotJsonError(text)
     return Fraction()
 
 
 def no_constant(text: str) -> NoReturn:
-    raise NoJson(text)
+    raise NotJsonError(text)
 
 
 def pairs(items: list[tuple[str, object]]) -> dict[str, object]:
@@ -65,7 +67,7 @@ def pairs(items: list[tuple[str, object]]) -> dict[str, object]:
 def whole_text(value: object) -> None:
     """Rejects half of a surrogate pair anywhere in the value. (Objects were checked when they were read.)"""
     if isinstance(value, str) and any("\ud800" <= letter <= "\udfff" for letter in value):
-        raise NoJson("half of a surrogate pair")
+        raise NotJsonError("half of a surrogate pair")
     if isinstance(value, list):
         for item in value:
             whole_text(item)
@@ -85,11 +87,11 @@ def read_json(line: bytes) -> Any:
     try:
         text = line.decode("utf-8")
         if depth(text) > DEEPEST:
-            raise NoJson("too deep")
+            raise NotJsonError("too deep")
         value = json.loads(
             text, parse_int=whole, parse_float=fraction, parse_constant=no_constant, object_pairs_hook=pairs
         )
     except (ValueError, RecursionError) as error:
-        raise NoJson(str(error)) from error
+        raise NotJsonError(str(error)) from error
     whole_text(value)
     return value

@@ -4,8 +4,10 @@ import re
 from functools import lru_cache
 from typing import Any, Optional
 
+from netrev.errors import NetrevError
+
 from .contents import GREATEST_TIME, Answer, Limits, Recording, Step
-from .jsontext import NoJson, read_json
+from .jsontext import NotJsonError, read_json
 from .vocabulary import HEADERS, KINDS as OF_NRDB, VERSIONS, Kind, is_answer
 
 LONGEST_LINE = 200_000
@@ -30,11 +32,11 @@ ARGUMENTS = {kind.name: forms_of(kind) for kind in OF_NRDB.values()}
 KINDS = {version: tuple(kind.name for kind in OF_NRDB.values() if kind.since <= version) for version in VERSIONS}
 
 
-class Fault(Exception):
+class FaultError(NetrevError):
     """The first fault of a recording, as it is printed."""
 
 
-class LineFault(Exception):
+class LineFaultError(NetrevError):
     """A fault of one line, without its number."""
 
 
@@ -68,34 +70,34 @@ def value_of(line: bytes) -> Any:
     """The JSON value of a line, whose length the caller has checked. Callers must not change it, because equal lines share it."""
     try:
         return read_json(line)
-    except NoJson as error:
-        raise LineFault("102 not JSON") from error
+    except NotJsonError as error:
+        raise LineFaultError("102 not JSON") from error
 
 
 def read_header(line: bytes) -> tuple[int, Limits]:
     """The version and the limits."""
     value = value_of(line)
     if not isinstance(value, dict) or set(value) != {"netrev", *Limits._fields}:
-        raise LineFault("101 header")
+        raise LineFaultError("101 header")
     if not all(is_whole(number, 0, 2**64 - 1) for number in value.values()) or value["netrev"] not in VERSIONS:
-        raise LineFault("101 header")
+        raise LineFaultError("101 header")
     version, limits = value["netrev"], Limits(*(value[key] for key in Limits._fields))
     if not all(1 <= getattr(limits, key) <= most for key, most in RANGES[version].items()):
-        raise LineFault("105 limit")
+        raise LineFaultError("105 limit")
     return version, limits
 
 
 def step_of(version: int, value: Any) -> tuple[Step, Optional[Answer]]:
     """The step in a line, and its recorded answer, which is None in version 1."""
     if not isinstance(value, list) or not value or not isinstance(value[0], str) or value[0] not in KINDS[version]:
-        raise LineFault("103 unknown step")
+        raise LineFaultError("103 unknown step")
     kind, *arguments = value
     answer = arguments.pop() if version == 2 and arguments else None
     if version == 2 and not is_answer(answer):
-        raise LineFault("104 arguments")
+        raise LineFaultError("104 arguments")
     forms = ARGUMENTS[kind]
     if len(forms) != len(arguments) or not all(map(is_argument, forms, arguments)):
-        raise LineFault("104 arguments")
+        raise LineFaultError("104 arguments")
     step = (kind, *(bytes.fromhex(value) if form == "bytes" else value for form, value in zip(forms, arguments)))
     return step, None if answer is None else answer_of(answer)
 
@@ -113,7 +115,7 @@ def read_text(text: bytes) -> Recording:
     for number, line in enumerate(text.split(b"\n"), 1):
         try:
             if len(line) > LONGEST_LINE:
-                raise LineFault("105 limit")
+                raise LineFaultError("105 limit")
             if not line.strip(b" \t\r"):
                 continue
             if limits is None:
@@ -121,12 +123,12 @@ def read_text(text: bytes) -> Recording:
                 continue
             value = value_of(line)
             if len(steps) == MOST_STEPS:
-                raise LineFault("106 too many steps")
+                raise LineFaultError("106 too many steps")
             step, answer = step_of(version, value)
             steps.append(step)
             answers.append(answer)
-        except LineFault as fault:
-            raise Fault(f"line {number}: fault {fault}") from fault
+        except LineFaultError as fault:
+            raise FaultError(f"line {number}: fault {fault}") from fault
     if limits is None:
-        raise Fault(f"line {text.count(10) + 1}: fault 101 header")
+        raise FaultError(f"line {text.count(10) + 1}: fault 101 header")
     return Recording(version, limits, steps, answers)

@@ -11,7 +11,7 @@ from netrev.connection.world import COUNTED_BY, made_at, room_for
 from netrev.messages import searches as messages
 from netrev.recording.changes import RecordedChanges
 from netrev.recording.recording import Recording
-from netrev.session.session import Misused
+from netrev.session.session import UsageError
 from netrev.text.vocabulary import CELLS, Of
 
 Runs = dict[str, list[tuple[int, str]]]  # for each cell, the positions at which its value changes, with the new value
@@ -110,11 +110,11 @@ def _queue(status: str) -> str:
 
 
 def _compare(scout: Scout, runs: Runs, position: int) -> None:
-    """Compares all cells and queues with netrev's values at a position; raises Misused if any value differs."""
+    """Compares all cells and queues with netrev's values at a position; raises UsageError if any value differs."""
     for (cell, run), shown in zip(runs.items(), shown_of(scout, runs, position)):
         if shown != (told := value_at(run, position)):
             words = {"cell": cell, "answer": shown, "position": position, "value": told}
-            raise Misused(messages.VALUE_DIFFERS.format(**words))
+            raise UsageError(messages.VALUE_DIFFERS.format(**words))
 
 
 def value_at(run: list[tuple[int, str]], position: int) -> str:

@@ -7,7 +7,7 @@ from typing import Any, Optional
 
 from netrev.messages import searches as messages
 from netrev.session.files import writing
-from netrev.session.session import Misused, Session
+from netrev.session.session import UsageError, Session
 from netrev.system.long_passes import take_all_as_kept, without_collections
 from netrev.text.plain import plain
 
@@ -44,9 +44,9 @@ def write_timeline(session: Session, path: str, first: Optional[int] = None, las
     if first is not None and last is not None:
         window = Window(first, last)
         if not 0 <= first <= last <= recording.length:
-            raise Misused(messages.POSITIONS.format(last=recording.length))
+            raise UsageError(messages.POSITIONS.format(last=recording.length))
         if last - first > MOST:
-            raise Misused(messages.PAGE_IS_FULL.format(most=MOST, path=path))
+            raise UsageError(messages.PAGE_IS_FULL.format(most=MOST, path=path))
     with without_collections():
         data = collected(Shown.by(session, told_at_the_terminal), window)
         told_at_the_terminal("")

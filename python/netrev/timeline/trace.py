@@ -21,7 +21,7 @@ from netrev.recording.changes import RecordedChanges, value_at_start
 from netrev.recording.recording import SHOWN, Recording, shortened
 from netrev.recording.where import Lines
 from netrev.session.files import writing
-from netrev.session.session import Misused, Session
+from netrev.session.session import UsageError, Session
 from netrev.text.plain import plain
 from netrev.text.vocabulary import OF_A_GOROUTINE
 
@@ -83,7 +83,7 @@ def write_events(file: IO[str], events: Iterator[list[str]]) -> None:
 
 
 def _compared(scout: Scout, recording: Recording, changes: RecordedChanges) -> int:
-    """The number of positions at which netrev shows the same statuses as its changes; raises Misused if any status
+    """The number of positions at which netrev shows the same statuses as its changes; raises UsageError if any status
     differs."""
     every = max(changes.length // COMPARED, 1)
     compared = sorted({*range(every, changes.length + 1, every), changes.length} - {0})
@@ -99,7 +99,7 @@ def _compared(scout: Scout, recording: Recording, changes: RecordedChanges) -> i
         for cell_there, shown in zip(goroutines, scout.values(position, goroutines)):
             if shown != (said := statuses[cell_there]):
                 words = {"cell": cell_there, "answer": shown, "position": position, "value": said}
-                raise Misused(messages.STATUS_DIFFERS.format(**words))
+                raise UsageError(messages.STATUS_DIFFERS.format(**words))
     return len(compared)
 
 

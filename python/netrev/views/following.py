@@ -5,6 +5,7 @@ from itertools import chain
 from typing import Callable, Iterator, NamedTuple, Optional
 
 from netrev.connection.output import Row, Table
+from netrev.errors import NetrevError
 from netrev.messages import session as messages
 from netrev.recording.answers import answer_text
 from netrev.recording.call import Call
@@ -119,7 +120,7 @@ def call_row(recording: Recording, call: Call, position: int) -> Row:
     return Row(values | ({"at": at} if recording.lines else {}), f"{told:<72} {at}".rstrip())
 
 
-class Stay(Exception):
+class NoDestinationError(NetrevError):
     """Raised, with the reason, if no destination exists."""
 
 
@@ -137,7 +138,7 @@ def goroutine_at(recording: Recording, position: int) -> int:
     for at in chain(range(position - 1, -1, -1), range(position, len(whose))):
         if whose[at] >= 0:
             return whose[at]
-    raise Stay(messages.NO_GOROUTINE_MOVES)
+    raise NoDestinationError(messages.NO_GOROUTINE_MOVES)
 
 
 def next_goal(recording: Recording, goroutine: int, position: int) -> Goal:
@@ -164,7 +165,7 @@ def finish_goal(recording: Recording, goroutine: int, position: int) -> Goal:
         return return_goal(recording, goroutine, position)
     call = inside[-1]
     if not call.last:
-        raise Stay(messages.CALL_HANGS.format(goroutine=goroutine, call=call.words()))
+        raise NoDestinationError(messages.CALL_HANGS.format(goroutine=goroutine, call=call.words()))
     return Goal(call.last, call)
 
 
@@ -175,8 +176,8 @@ def return_goal(recording: Recording, goroutine: int, position: int) -> Goal:
     if found is not None:
         return Goal(found)
     if function := function_at(recording, goroutine, position):
-        raise Stay(messages.NO_RETURN.format(goroutine=goroutine, function=function))
-    raise Stay(messages.IN_NO_CALL.format(goroutine=goroutine))
+        raise NoDestinationError(messages.NO_RETURN.format(goroutine=goroutine, function=function))
+    raise NoDestinationError(messages.IN_NO_CALL.format(goroutine=goroutine))
 
 
 def start_goal(recording: Recording, goroutine: int, position: int) -> Goal:
@@ -190,15 +191,15 @@ def _own_step(book: Book, goroutine: int, numbers: range) -> int:
     found = next((number for number in numbers if book.whose.goroutines[number - 1] == goroutine), None)
     if found is None:
         way = "later" if numbers.step > 0 else "earlier"
-        raise Stay(messages.NO_OTHER_STEP.format(goroutine=goroutine, way=way))
+        raise NoDestinationError(messages.NO_OTHER_STEP.format(goroutine=goroutine, way=way))
     return found
 
 
 def _call_at(book: Book, goroutine: int, position: int) -> Call:
-    """The innermost call that the goroutine is in; raises Stay if it is in no call."""
+    """The innermost call that the goroutine is in; raises NoDestinationError if it is in no call."""
     inside = calls_at(book, goroutine, position)
     if not inside:
-        raise Stay(messages.IN_NO_CALL.format(goroutine=goroutine))
+        raise NoDestinationError(messages.IN_NO_CALL.format(goroutine=goroutine))
     return inside[-1]
 
 

@@ -14,7 +14,7 @@ from typing import NamedTuple
 
 from netrev.messages import recorder as messages
 
-from .toolchain import Go, Trouble, find_go, points_program
+from .toolchain import Go, RecorderError, find_go, points_program
 
 
 class Row(NamedTuple):
@@ -82,7 +82,7 @@ def calls_of(go: Go) -> list[str]:
         program = points_program(go, pathlib.Path(folder))
         run = subprocess.run([program, "calls", go.sources()], capture_output=True, text=True, check=False)
     if run.returncode != 0:
-        raise Trouble(messages.CALLS_UNREADABLE.format(version=go.version, why=run.stderr.strip()))
+        raise RecorderError(messages.CALLS_UNREADABLE.format(version=go.version, why=run.stderr.strip()))
     return run.stdout.split()
 
 
@@ -108,7 +108,7 @@ def main(arguments: list[str]) -> int:
     try:
         go = find_go()
         unknown = unknown_calls(go)
-    except Trouble as trouble:
+    except RecorderError as trouble:
         print(trouble, file=sys.stderr)
         return 3
     for call in unknown:

@@ -11,7 +11,7 @@ import re
 
 from netrev.messages import recorder as messages
 
-from .toolchain import Go, Trouble, cache, quiet_go
+from .toolchain import Go, RecorderError, cache, quiet_go
 
 NAME = "addr2line"
 PACKAGE = "cmd/addr2line"
@@ -37,7 +37,7 @@ def line_reader(go: Go) -> list[str]:
 
 
 def build_line_reader(go: Go) -> pathlib.Path:
-    """The program, built if it is missing; raises Trouble if Go can't build it."""
+    """The program, built if it is missing; raises RecorderError if Go can't build it."""
     if shipped(go).exists():
         return shipped(go)
     made = kept(go)
@@ -49,14 +49,16 @@ def build_line_reader(go: Go) -> pathlib.Path:
                 part = made.with_name("part")
                 run = quiet_go(go, made.parent, "build", "-o", str(part), PACKAGE)
                 if run.returncode != 0:
-                    raise Trouble(messages.READER_NOT_BUILT.format(package=PACKAGE, why=run.stderr.strip()[-600:]))
+                    raise RecorderError(
+                        messages.READER_NOT_BUILT.format(package=PACKAGE, why=run.stderr.strip()[-600:])
+                    )
                 part.rename(made)
     except OSError as fault:
-        raise Trouble(messages.READER_UNWRITABLE.format(folder=made.parent, why=fault.strerror)) from None
+        raise RecorderError(messages.READER_UNWRITABLE.format(folder=made.parent, why=fault.strerror)) from None
     return made
 
 
 def prepare_line_reader(go: Go) -> None:
     """Builds the program if it is missing. Otherwise Go builds the program each time that lines are read."""
-    with contextlib.suppress(Trouble):
+    with contextlib.suppress(RecorderError):
         build_line_reader(go)

@@ -9,7 +9,7 @@ import pathlib
 from netrev.messages import recorder as messages
 from netrev.text.files import beside, check_links
 
-from .toolchain import Trouble
+from .toolchain import RecorderError
 
 RECORDING, LINES, WORDS = ".jsonl", ".where", ".words"
 LONGEST_ENDING = "-so-far-999.jsonl"
@@ -17,12 +17,12 @@ TRIED = 65_536  # bytes written to test whether the disk has room
 
 
 def base_name(given: str | None, otherwise: str = "recording") -> pathlib.Path:
-    """The base name of a recording; raises Trouble if the given name can't be one."""
+    """The base name of a recording; raises RecorderError if the given name can't be one."""
     said = otherwise if given is None else given
     base = pathlib.Path(said.removesuffix(RECORDING))
     is_other = os.path.exists(base) and not (os.path.isfile(base) or os.path.isdir(base))  # a device, a pipe
     if base.name in ("", "..") or said.endswith("/") or is_other:
-        raise Trouble(messages.NOT_A_NAME.format(name=said, ending=RECORDING))
+        raise RecorderError(messages.NOT_A_NAME.format(name=said, ending=RECORDING))
     return base
 
 
@@ -32,7 +32,7 @@ def numbered(base: pathlib.Path, made: int) -> pathlib.Path:
 
 
 def look(base: pathlib.Path) -> None:
-    """Raises Trouble if a recording can't be written there now."""
+    """Raises RecorderError if a recording can't be written there now."""
     try:
         try_folder(base)
         with contextlib.suppress(FileNotFoundError):
@@ -40,11 +40,11 @@ def look(base: pathlib.Path) -> None:
         for ending in (RECORDING, LINES):
             check_links(base.with_name(base.name + ending))
     except OSError as fault:
-        raise Trouble(messages.UNWRITABLE.format(path=f"{base}{RECORDING}", why=fault.strerror)) from None
+        raise RecorderError(messages.UNWRITABLE.format(path=f"{base}{RECORDING}", why=fault.strerror)) from None
     for ending in (RECORDING, LINES):
         name = base.with_name(base.name + ending)
         if name.exists() and not (name.is_file() and os.access(name, os.W_OK)):
-            raise Trouble(messages.EXISTS.format(path=name))
+            raise RecorderError(messages.EXISTS.format(path=name))
 
 
 def try_folder(base: pathlib.Path) -> None:
@@ -59,11 +59,11 @@ def try_folder(base: pathlib.Path) -> None:
 
 
 def look_folder(base: pathlib.Path) -> None:
-    """Raises Trouble if recordings can't be written into that folder, which may not exist yet."""
+    """Raises RecorderError if recordings can't be written into that folder, which may not exist yet."""
     try:
         if base.exists() and not base.is_dir():
-            raise Trouble(messages.NOT_A_FOLDER.format(path=base))
+            raise RecorderError(messages.NOT_A_FOLDER.format(path=base))
         there = next(folder for folder in (base, *base.absolute().parents) if folder.is_dir())
         try_folder(there / base.name)
     except OSError as fault:
-        raise Trouble(messages.UNWRITABLE.format(path=base, why=fault.strerror)) from None
+        raise RecorderError(messages.UNWRITABLE.format(path=base, why=fault.strerror)) from None

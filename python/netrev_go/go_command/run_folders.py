@@ -23,7 +23,7 @@ from typing import TextIO
 from netrev.messages import recorder as messages
 
 from .running import PREFIX, logs_in, places, still_written
-from .toolchain import Trouble
+from .toolchain import RecorderError
 
 OWNER = (
     "owner"  # a file that netrev-go keeps locked while it owns the folder; the kernel unlocks it however netrev-go ends
@@ -54,7 +54,7 @@ def claim(folder: pathlib.Path) -> pathlib.Path:
         file.write(f"{shlex.join(['netrev-go', *sys.argv[1:]])[:MOST_OF_COMMAND]}\n")
         file.flush()
     except OSError as fault:
-        raise Trouble(messages.NO_LOGS_IN.format(folder=folder, why=fault.strerror)) from None
+        raise RecorderError(messages.NO_LOGS_IN.format(folder=folder, why=fault.strerror)) from None
     HELD[folder] = file
     return folder
 

@@ -18,7 +18,7 @@ from dataclasses import dataclass
 from netrev.messages import recorder as messages
 from netrev.system.command_lines import command
 
-from .toolchain import Trouble
+from .toolchain import RecorderError
 
 MOST_POINTS = 2**20
 POINT_BYTES, STACK_BYTES, SPARE = 64, 4 * 2**20, 64 * 2**20
@@ -72,7 +72,7 @@ def logs_folder(points: int) -> pathlib.Path:
     for place in places():
         if os.access(place, os.W_OK) and shutil.disk_usage(place).free >= wanted:
             return pathlib.Path(tempfile.mkdtemp(prefix=PREFIX, dir=place))
-    raise Trouble(messages.NO_ROOM.format(places=" and ".join(places()), megabytes=wanted // 2**20))
+    raise RecorderError(messages.NO_ROOM.format(places=" and ".join(places()), megabytes=wanted // 2**20))
 
 
 def logs_in(folder: pathlib.Path) -> list[pathlib.Path]:
@@ -229,7 +229,7 @@ def log_of_process(process: int) -> pathlib.Path:
         if time.monotonic() > until:
             break
         time.sleep(STARTING / 50)
-    raise Trouble(messages.PROCESS_HAS_NO_LOG.format(process=process, netrev_go=command("netrev-go")))
+    raise RecorderError(messages.PROCESS_HAS_NO_LOG.format(process=process, netrev_go=command("netrev-go")))
 
 
 def mapped_log(process: int) -> pathlib.Path | None:
@@ -237,7 +237,7 @@ def mapped_log(process: int) -> pathlib.Path | None:
     try:
         maps = pathlib.Path(f"/proc/{process}/maps").read_text(errors="replace")
     except OSError as fault:
-        raise Trouble(messages.PROCESS_IS_HIDDEN.format(process=process, why=fault.strerror)) from None
+        raise RecorderError(messages.PROCESS_IS_HIDDEN.format(process=process, why=fault.strerror)) from None
     for line in maps.splitlines():
         path = line.split(maxsplit=5)[5:]
         if path and re.search(rf"\.{process}(\.\d+)?\Z", path[0]):

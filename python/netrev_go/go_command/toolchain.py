@@ -14,6 +14,7 @@ import subprocess
 import tempfile
 from dataclasses import dataclass
 
+from netrev.errors import NetrevError
 from netrev.messages import recorder as messages
 from netrev.system.command_lines import command
 
@@ -25,7 +26,7 @@ WITHOUT = "without "  # a line for an optional rule begins like this
 TRIED = {"1.19": 8, "1.21": 13, "1.22": 12, "1.23": 5, "1.24": 4, "1.26": 10, "1.27": 3}
 
 
-class Trouble(Exception):
+class RecorderError(NetrevError):
     """An error for the user that names its remedy."""
 
 
@@ -51,18 +52,18 @@ class Go:
 def find_go() -> Go:
     program = shutil.which("go")
     if not program:
-        raise Trouble(messages.NO_GO.format(how=messages.HOW_TO_INSTALL))
+        raise RecorderError(messages.NO_GO.format(how=messages.HOW_TO_INSTALL))
     run = subprocess.run([program, "env", "-json"], capture_output=True, text=True, check=False)
     if run.returncode != 0:
-        raise Trouble(messages.GO_ENV_FAILED.format(why=run.stderr.strip()))
+        raise RecorderError(messages.GO_ENV_FAILED.format(why=run.stderr.strip()))
     told = json.loads(run.stdout)
     go = Go(
         program, pathlib.Path(told["GOROOT"]), told["GOVERSION"], f"{told['GOOS']}/{told['GOARCH']}", told["GOFLAGS"]
     )
     if go.system != "linux/amd64":
-        raise Trouble(messages.OTHER_SYSTEM.format(system=go.system))
+        raise RecorderError(messages.OTHER_SYSTEM.format(system=go.system))
     if not (go.sources() / "runtime/netpoll.go").exists():
-        raise Trouble(messages.NO_SOURCES.format(folder=go.sources()))
+        raise RecorderError(messages.NO_SOURCES.format(folder=go.sources()))
     return go
 
 
@@ -117,7 +118,7 @@ def points_program(go: Go, folder: pathlib.Path) -> pathlib.Path:
     program = folder / "points"
     run = quiet_go(go, SOURCES / "points", "build", "-o", str(program), ".")
     if run.returncode != 0:
-        raise Trouble(messages.TOOL_NOT_BUILT.format(why=run.stderr.strip()))
+        raise RecorderError(messages.TOOL_NOT_BUILT.format(why=run.stderr.strip()))
     return program
 
 
@@ -140,7 +141,7 @@ def overlay(go: Go) -> pathlib.Path:
                 if not (made / OVERLAY).exists():  # no other process has made it meanwhile
                     make_overlay(go, made)
         except OSError as fault:
-            raise Trouble(messages.CACHE_UNWRITABLE.format(folder=made, why=fault.strerror)) from None
+            raise RecorderError(messages.CACHE_UNWRITABLE.format(folder=made, why=fault.strerror)) from None
     return made / OVERLAY
 
 
@@ -160,9 +161,9 @@ def make_overlay(go: Go, made: pathlib.Path) -> None:
     if run.returncode != 0:
         unfit = [line for line in lines if line.startswith("unfit ")]
         head = messages.RULES_DONT_FIT.format(**words, netrev_go=command("netrev-go"))
-        raise Trouble(head + "\n".join([*unfit, run.stderr]).strip())
+        raise RecorderError(head + "\n".join([*unfit, run.stderr]).strip())
     compiled = quiet_go(go, made, "build", "-overlay", str(made / NEW), *CHANGED)
     if compiled.returncode != 0:
-        raise Trouble(messages.DOES_NOT_COMPILE.format(**words, why=compiled.stderr.strip()))
+        raise RecorderError(messages.DOES_NOT_COMPILE.format(**words, why=compiled.stderr.strip()))
     (made / LEFT_OUT).write_text("".join(f"{line}\n" for line in lines if line.startswith(WITHOUT)))
     (made / NEW).rename(made / OVERLAY)

@@ -2,6 +2,7 @@
 
 from __future__ import annotations
 
+from netrev.errors import NetrevError
 from netrev.messages import recorder as messages
 
 from .points import Kind, Point
@@ -12,7 +13,7 @@ MODES = {ord("r"): "r", ord("w"): "w", ord("r") + ord("w"): "rw"}
 UNLOCKING = {int(Kind.DECREF), int(Kind.RW_UNLOCK)}
 
 
-class Unconvertible(Exception):
+class UnconvertibleError(NetrevError):
     """The log contains something that a recording can't express."""
 
 
@@ -27,14 +28,14 @@ def mode_of(point: Point) -> str:
     """Which side of its descriptor a point concerns, or both sides."""
     mode = MODES.get(point.a)
     if mode is None:
-        raise Unconvertible(messages.BAD_MODE.format(point=point.number, mode=point.a))
+        raise UnconvertibleError(messages.BAD_MODE.format(point=point.number, mode=point.a))
     return mode
 
 
 def side_of(point: Point) -> str:
     mode = mode_of(point)
     if len(mode) > 1:
-        raise Unconvertible(messages.TWO_SIDES.format(point=point.number))
+        raise UnconvertibleError(messages.TWO_SIDES.format(point=point.number))
     return mode
 
 

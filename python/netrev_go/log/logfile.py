@@ -17,6 +17,7 @@ from itertools import accumulate, compress, takewhile
 from typing import BinaryIO, cast
 from operator import xor
 
+from netrev.errors import NetrevError
 from netrev.messages import recorder as messages
 
 from .points import KINDS, Holder, Log, Point, Stack
@@ -45,7 +46,7 @@ NEVER, UNKNOWN = -1, 0  # instead of a time
 OF_KINDS = bytes(KINDS)
 
 
-class NoLog(Exception):
+class NotALogError(NetrevError):
     """The file isn't a log, or contains nothing."""
 
 
@@ -54,10 +55,10 @@ class Header:
 
     def __init__(self, text: bytes) -> None:
         if len(text) < HEADER_WORDS * WORD:
-            raise NoLog(messages.TOO_SHORT)
+            raise NotALogError(messages.TOO_SHORT)
         words = struct.unpack_from(f"<{HEADER_WORDS}Q", text)
         if words[0] != MAGIC:
-            raise NoLog(messages.NOT_A_LOG)
+            raise NotALogError(messages.NOT_A_LOG)
         self.passed, self.points, self.stacks = words[1:4]
         self.begin, self.process, self.text = words[4:7]
         self.program = f"{words[7]}.{words[8]}"
@@ -71,7 +72,7 @@ class Header:
         are_possible = 0 < self.points <= MOST_POINTS and self.stacks <= MOST_STACKS and self.holders <= MOST_HOLDERS
         are_possible = are_possible and self.rows <= MOST_POINTS and self.queue <= MOST_POINTS
         if not are_possible or self.begin >= 2**63:
-            raise NoLog(messages.BAD_HEADER)
+            raise NotALogError(messages.BAD_HEADER)
         self.rows_begin = HEADER_BYTES + self.stacks * STACK_BYTES + self.holders * HOLDER_BYTES
         self.ring = self.rows_begin + self.rows * ROW_BYTES + self.queue * WAITER_BYTES
         if self.ended:
@@ -232,11 +233,11 @@ def read_log(path: pathlib.Path, is_written: bool = False) -> Log:
     """A log's points and stacks, with notes on what is missing. A log that a program is still writing is copied first."""
     try:
         if not stat.S_ISREG(path.stat().st_mode):
-            raise NoLog(messages.NOT_A_FILE)
+            raise NotALogError(messages.NOT_A_FILE)
         with path.open("rb") as file:
             return log_of(copy_of(file), is_written) if is_written else log_of(file)
     except OSError as fault:
-        raise NoLog(uncopied(path) or messages.UNREADABLE.format(why=fault.strerror)) from None
+        raise NotALogError(uncopied(path) or messages.UNREADABLE.format(why=fault.strerror)) from None
 
 
 def uncopied(path: pathlib.Path) -> str:

@@ -27,9 +27,10 @@ from __future__ import annotations
 from collections.abc import Iterator
 from typing import Any, NamedTuple
 
+from netrev.errors import NetrevError
 from netrev.machine.in_place import Machine
 from netrev.machine.lockword import FULL
-from netrev.machine.machine import SIDES, Refused
+from netrev.machine.machine import SIDES, StepRefusedError
 from netrev.text.contents import GREATEST_TIME, Limits
 from netrev.text.vocabulary import KINDS
 
@@ -48,7 +49,7 @@ PLACES = {
 }
 
 
-class Unreachable(Exception):
+class UnreachableStateError(NetrevError):
     """The steps can't lead there; the message is the reason."""
 
 
@@ -81,15 +82,15 @@ class Leading:
         self.leads.append(Lead(kind, goroutine, arguments, answer, stack))
 
     def all(self) -> list[Lead]:
-        """The steps; raises Unreachable if none lead to the note."""
+        """The steps; raises UnreachableStateError if none lead to the note."""
         note = self.note
         flags = note.flags
         if flags is None or any(one.place not in PLACES for one in note.inside.values()):
-            raise Unreachable("its note is cut short or damaged")
+            raise UnreachableStateError("its note is cut short or damaged")
         if note.is_in_motion or flags & UNQUEUED and any(note.field(waiting) for waiting in WAITING):
-            raise Unreachable("a goroutine passed its lock on to another")
+            raise UnreachableStateError("a goroutine passed its lock on to another")
         if note.word & 1 and not note.field(REFERENCES):
-            raise Unreachable("it was being closed")
+            raise UnreachableStateError("it was being closed")
         self.add("sockopen", NOBODY, *self.capacities, answer=("number", 0))
         self.add("pollopen", NOBODY, answer=("number", 0))
         closer = self.locks()
@@ -119,7 +120,7 @@ class Leading:
         references = note.references.copy()
         own = note.field(REFERENCES) - sum(note.is_taken(side) for side in BOTH)
         if own != references.total():
-            raise Unreachable("a goroutine has a reference to it that it doesn't give up in the log")
+            raise UnreachableStateError("a goroutine has a reference to it that it doesn't give up in the log")
         closer = NOBODY
         if note.word & 1 and references[note.evicter]:
             closer = note.evicter
@@ -138,7 +139,7 @@ class Leading:
         inside = note.inside.get(side)
         holder = note.holders.get(side) or (inside.goroutine if inside else NOBODY)
         if holder == NOBODY or inside and inside.goroutine != holder:
-            raise Unreachable("a goroutine has a lock of it that it doesn't give up in the log")
+            raise UnreachableStateError("a goroutine has a lock of it that it doesn't give up in the log")
         stack = inside.stack if inside else 0
         self.add("rwlock", holder, mode, answer=YES, stack=stack)
         if inside:
@@ -212,7 +213,7 @@ class Leading:
             self.add("pollevent", NOBODY, sides, int(is_error))
         elif is_error:
             if WRITING in self.note.inside:
-                raise Unreachable("a goroutine waits to write there after an error")
+                raise UnreachableStateError("a goroutine waits to write there after an error")
             self.add("pollevent", NOBODY, SIDES[WRITING], 1)
             self.add("pollreset", NOBODY, SIDES[WRITING], answer=NOTHING_FOUND)
 
@@ -230,7 +231,7 @@ def passing(leads: list[Lead]) -> int:
 
 
 def by_the_model(note: Note, leads: list[Lead], begin: int, buffer: int) -> None:
-    """Runs the steps, and compares the resulting state with the note; raises Unreachable if they differ."""
+    """Runs the steps, and compares the resulting state with the note; raises UnreachableStateError if they differ."""
     numbers = {NOBODY: 0}
     machine = Machine(Limits(FULL, 1, 1, buffer))
     try:
@@ -238,11 +239,11 @@ def by_the_model(note: Note, leads: list[Lead], begin: int, buffer: int) -> None
             while step[0] != "spawn" and len(machine.goroutines) < len(numbers):
                 machine.step(("spawn",))
             if machine.step(step) != answer:
-                raise Unreachable(f"the model answers a {step[0]} otherwise")
-    except Refused as refused:
-        raise Unreachable(f"the model refuses a step for reason {refused.reason}") from None
+                raise UnreachableStateError(f"the model answers a {step[0]} otherwise")
+    except StepRefusedError as refused:
+        raise UnreachableStateError(f"the model refuses a step for reason {refused.reason}") from None
     if (difference := _difference(note, machine, numbers, begin)) is not None:
-        raise Unreachable(f"the model comes to another {difference}")
+        raise UnreachableStateError(f"the model comes to another {difference}")
 
 
 def _steps(leads: list[Lead], numbers: dict[int, int], begin: int) -> Iterator[tuple[tuple[Any, ...], tuple[Any, ...]]]:
@@ -267,12 +268,12 @@ def _steps(leads: list[Lead], numbers: dict[int, int], begin: int) -> Iterator[t
 
 
 def relative(deadline: int, begin: int, clock: int) -> int:
-    """The argument of a step for a deadline in Go's time. Raises Unreachable if the deadline is no longer in the future."""
+    """The argument of a step for a deadline in Go's time. Raises UnreachableStateError if the deadline is no longer in the future."""
     if deadline <= 0 or deadline == GREATEST_TIME:
         return deadline
     time = deadline - begin - clock
     if time <= 0:
-        raise Unreachable("its timer was due")
+        raise UnreachableStateError("its timer was due")
     return time
 
 
@@ -304,7 +305,7 @@ def _difference(note: Note, machine: Machine, numbers: dict[int, int], begin: in
 
 
 def led(note: Note, capacities: tuple[int, int], is_full: bool, begin: int) -> list[Lead]:
-    """The steps that lead to a note, run by the model; raises Unreachable if none do."""
+    """The steps that lead to a note, run by the model; raises UnreachableStateError if none do."""
     leads = Leading(note, capacities, is_full).all()
     by_the_model(note, leads, begin, max(capacities))
     return leads

@@ -14,7 +14,7 @@ from operator import itemgetter
 
 from .notes import NAMED as NOTED_NAMED, NOTED, Debts, Note
 from .points import AT_A_SOCKET, AT_A_WORD, GOROUTINE, LOCKING, NOTING, NUMBER, Kind, Point
-from .prelude import Lead, Unreachable, led
+from .prelude import Lead, UnreachableStateError, led
 
 BUFFER = 65_536
 OUTPUT = 4_096
@@ -320,7 +320,7 @@ def lead_to(sockets: list[Socket], begin: int) -> dict[str, int]:
         try:
             socket.leads = led(socket.note, (BUFFER, socket.capacity()), is_full, begin)
             socket.held = socket.capacity() if is_full else 0
-        except Unreachable as why:
+        except UnreachableStateError as why:
             left_out[str(why)] += 1
             sockets.remove(socket)
     return left_out

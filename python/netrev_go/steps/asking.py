@@ -11,6 +11,7 @@ import subprocess
 import sys
 from typing import TypeVar
 
+from netrev.errors import NetrevError
 from netrev.messages import recorder as messages
 from netrev.system.command_lines import file_word
 
@@ -28,7 +29,7 @@ PRINTED = re.compile(r"(gor|lock) (\d+) = (.*)")
 T = TypeVar("T", bound="Asked")
 
 
-class Late(Exception):
+class LateError(NetrevError):
     """nrdb takes too long to answer."""
 
 
@@ -52,14 +53,14 @@ def at_the_end(netrev: str, recording: pathlib.Path, steps: int, cells: list[str
 
 
 def suspects(netrev: str, recording: pathlib.Path) -> list[str]:
-    """nrdb's suspects at the end, line by line; empty if nrdb can't be started. Raises Late if it takes too long."""
+    """nrdb's suspects at the end, line by line; empty if nrdb can't be started. Raises LateError if it takes too long."""
     words = [sys.executable, str(PACKAGES), "nrdb", "--batch", "-ex", "continue", "-ex", ASKED, file_word(recording)]
     try:
         run = subprocess.run(
             words, env=os.environ | {"NETREV": netrev}, capture_output=True, text=True, timeout=PATIENCE, check=False
         )
     except subprocess.TimeoutExpired:
-        raise Late(messages.LATE_SUSPECTS.format(seconds=PATIENCE)) from None
+        raise LateError(messages.LATE_SUSPECTS.format(seconds=PATIENCE)) from None
     except OSError:
         return []
     told = run.stdout.partition(f"(netrev) {ASKED}\n")[2].splitlines()
@@ -120,11 +121,11 @@ class Causes(Asked):
         super().__init__([sys.executable, str(PACKAGES), "netrev.findings.causes", file_word(recording)], NETREV=netrev)
 
     def lines(self) -> list[str]:
-        """nrdb's output; empty if nothing is known. Raises Late if it takes too long."""
+        """nrdb's output; empty if nothing is known. Raises LateError if it takes too long."""
         try:
             status, printed, _ = self.answer(OF_CAUSES)
         except subprocess.TimeoutExpired:
-            raise Late(messages.LATE_CAUSES.format(seconds=OF_CAUSES)) from None
+            raise LateError(messages.LATE_CAUSES.format(seconds=OF_CAUSES)) from None
         except OSError:
             return []
         return printed.splitlines() if status == 0 else []

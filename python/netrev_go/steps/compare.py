@@ -9,8 +9,8 @@ from collections import defaultdict
 
 from netrev.machine.observer import Observer
 from netrev.machine.replay import positions
-from netrev.text.jsontext import Doubtful
-from netrev.text.reading import Fault, read_text
+from netrev.text.jsontext import DoubtfulNumberError
+from netrev.text.reading import FaultError, read_text
 
 # A session has room for 65,536 commands that move, so longer recordings need several sessions.
 AT_ONCE = 30_000
@@ -71,8 +71,8 @@ def by_the_model(recording: pathlib.Path) -> tuple[bool, str]:
                 said = world.sockets[int(cell.split()[1])].lock.number
                 if str(said) != value:
                     return False, f"{DIFFERS}: {sentence(step, cell, value, f'{cell} = {said}')}"
-    except Fault as fault:
+    except FaultError as fault:
         return False, f"{REFUSES}: {fault}"
-    except Doubtful as doubt:
+    except DoubtfulNumberError as doubt:
         return False, f"{REFUSES}: it can't decide about {doubt}"
     return True, f"ok {position} steps"

@@ -13,7 +13,7 @@ from netrev.machine.deadlines import READING, WRITING, Deadlines
 from netrev.machine.machine import SIDES
 from netrev.machine.polling import deadline_of
 from netrev.messages import recorder as messages
-from netrev_go.log.answering import BROKEN_PIPE, Unconvertible, can_answer, mode_of, parts
+from netrev_go.log.answering import BROKEN_PIPE, UnconvertibleError, can_answer, mode_of, parts
 from netrev_go.log.beside import OF_UNIX, Beside
 from netrev_go.log.orders import Made
 from netrev_go.log.points import LOCKING, Kind, Point
@@ -334,7 +334,7 @@ class Converter:
         while place is None:
             least = self.deadlines.least()
             if not least or least.due > max(now, self.clock):
-                raise Unconvertible(messages.NO_TIMER.format(point=point.number))
+                raise UnconvertibleError(messages.NO_TIMER.format(point=point.number))
             self.go_on_to(least.due)
             self.pop()
             place = self.deadlines.place(socket.descriptor, side, sequence)

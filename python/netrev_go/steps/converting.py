@@ -16,14 +16,14 @@ from netrev_go.go_command.outputs import LINES, WORDS
 from netrev_go.go_command.toolchain import Go
 from netrev_go.log.goroutines import Goroutines
 from netrev_go.log.lines import Calls, Roots, lines_of
-from netrev_go.log.logfile import NoLog, read_log
+from netrev_go.log.logfile import NotALogError, read_log
 from netrev_go.log.points import Log
 from netrev_go.log.ran import Ran, Tests, of_log
 from netrev_go.log.sockets import MOST_MEGABYTES, MOST_SOCKETS
 
 from .cutting import goroutines_of, sockets_of
 from .goroutine_lines import Everybody, kept
-from .making import NoSocket, Nothing, Part, Recording, Unconvertible, make, write, write_words
+from .making import NoSocketError, NothingRecordedError, Part, Recording, UnconvertibleError, make, write, write_words
 from .report import Hear, report, unheard
 from .where import STEPS_A_LINE, write_where
 
@@ -80,7 +80,7 @@ def convert(
     first."""
     try:
         return converted(ReadLog(log, read_log(log, is_written), of_log(log)), name, go, wish, known=known, hear=hear)
-    except NoLog as fault:
+    except NotALogError as fault:
         return Outcome(False, [f"{plain(str(log))}: {fault}"])
 
 
@@ -100,8 +100,8 @@ def converted(
         part = partial(sockets_of, test, tests=read.tests.ran)
     try:
         recording = make(log, wish.sockets, wish.megabytes, wish.all_bytes, part, wish.first)
-    except (Nothing, Unconvertible) as fault:
-        return Outcome(False, [f"{plain(str(read.path))}: {fault}"], isinstance(fault, NoSocket))
+    except (NothingRecordedError, UnconvertibleError) as fault:
+        return Outcome(False, [f"{plain(str(read.path))}: {fault}"], isinstance(fault, NoSocketError))
     if known is not None:
         known += (read, recording)
     lines = name.with_suffix(LINES)

@@ -5,9 +5,10 @@ from __future__ import annotations
 import json
 from typing import TYPE_CHECKING
 
+from netrev.errors import NetrevError
 from netrev.machine.deadlines import READING, WRITING
 from netrev.machine.polling import deadline_of
-from netrev_go.log.prelude import Lead, Unreachable, relative, spelled
+from netrev_go.log.prelude import Lead, UnreachableStateError, relative, spelled
 from netrev_go.log.sockets import BUFFER, Socket
 
 from .zeros import Line, written
@@ -18,7 +19,7 @@ if TYPE_CHECKING:
 of_json = json.JSONEncoder(separators=(",", ":")).encode
 
 
-class NotLed(Exception):
+class LatePreludeError(NetrevError):
     """The clock is too late for a socket: its deadline has passed, and its timer hasn't run."""
 
     def __init__(self, socket: Socket, why: str) -> None:
@@ -95,8 +96,8 @@ def set_deadline(converter: Converter, socket: Socket, step: Lead, g: int) -> in
     else:
         try:
             time = relative(deadline, converter.begin, converter.clock)
-        except Unreachable as why:
-            raise NotLed(socket, str(why)) from None
+        except UnreachableStateError as why:
+            raise LatePreludeError(socket, str(why)) from None
     ends = deadline_of(converter.clock, time)
     converter.deadlines.set(socket.descriptor, mode, ends)
     put(converter, socket, step, g, f'["setdeadline",{g},{socket.descriptor},"{mode}",{time},"done"]')

@@ -8,10 +8,11 @@ from collections.abc import Callable, Iterator
 from dataclasses import dataclass, field
 from functools import cached_property
 
+from netrev.errors import NetrevError
 from netrev.messages import recorder as messages
 from netrev.text.files import whole
 from netrev.text.plurals import counted
-from netrev_go.log.answering import Unconvertible
+from netrev_go.log.answering import UnconvertibleError
 from netrev_go.log.beside import Beside
 from netrev_go.log.goroutines import CONCERNED, Goroutines, goroutines_of
 from netrev_go.log.lifetimes import ENDS, Lifetimes, lifetimes_of
@@ -25,18 +26,18 @@ from netrev_go.log.times import times_of
 from netrev_go.log.waits import waits_of
 
 from .converter import Converter
-from .leading import NotLed
+from .leading import LatePreludeError
 from .zeros import Line
 
 
 LockWord = tuple[int, int, int]  # the step before, the socket, and the word
 
 
-class Nothing(Exception):
+class NothingRecordedError(NetrevError):
     """The log contains nothing from which a recording could be made."""
 
 
-class NoSocket(Nothing):
+class NoSocketError(NothingRecordedError):
     """The program opened no socket."""
 
 
@@ -101,11 +102,11 @@ def make(
     notes = [*log.notes, *window.notes]
     if not found.sockets:
         if log.from_the_start:
-            raise NoSocket(messages.NO_SOCKET)
-        raise Nothing(messages.OPENED_EARLIER)
+            raise NoSocketError(messages.NO_SOCKET)
+        raise NothingRecordedError(messages.OPENED_EARLIER)
     wanted = found.sockets if part is None else part(log, found)
     if not wanted:
-        raise NoSocket(messages.NO_SOCKET_OF_TEST)
+        raise NoSocketError(messages.NO_SOCKET_OF_TEST)
     fitted = Fitted(found, wanted, list(log.of_kinds(ENDING)), first)
     converter = fitted.converted(log.begin, most, megabytes)
     notes += fitted.notes
@@ -192,14 +193,14 @@ class Fitted:
         return self.lifetimes.most(goroutines)
 
     def converted(self, begin: int, most: int, megabytes: int) -> Converter:
-        """The converter of the sockets that fit; raises Nothing if not even one fits."""
+        """The converter of the sockets that fit; raises NothingRecordedError if not even one fits."""
         room, counted = MOST_STEPS, False
         while True:
             points = self.chosen(most, megabytes, room)
             converter = Converter(points, begin, self.lifetimes.in_order() if self.is_crowded else None)
             try:
                 converter.convert()
-            except NotLed as why:
+            except LatePreludeError as why:
                 self.wanted.remove(why.opening)
                 self.notes.append(lacks(str(why), 1))
                 self.restore()
@@ -225,7 +226,7 @@ class Fitted:
         kept = chosen(wanted, most, megabytes, room, self.at_once, self.first)
         self.is_crowded = len(set().union(*(socket.goroutines for socket in kept))) > MOST_GOROUTINES
         if not kept:
-            raise Nothing(messages.ONE_IS_TOO_LARGE.format(megabytes=megabytes))
+            raise NothingRecordedError(messages.ONE_IS_TOO_LARGE.format(megabytes=megabytes))
         self.kept = len(kept)
         return [pair for pair in self.found.points if pair[1] in kept]
 
@@ -245,4 +246,4 @@ def write_words(recording: Recording, name: pathlib.Path) -> None:
             file.write(json.dumps([step, f"lock {socket}", str(word % 2**64)]) + "\n")
 
 
-__all__ = ["NoSocket", "Nothing", "Recording", "Unconvertible", "make", "write", "write_words"]
+__all__ = ["NoSocketError", "NothingRecordedError", "Recording", "UnconvertibleError", "make", "write", "write_words"]

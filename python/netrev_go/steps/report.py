@@ -14,7 +14,7 @@ from netrev.text.plain import plain
 from netrev.text.plurals import counted
 from netrev_go.log.lines import OF_GO, Call, Calls
 
-from .asking import Causes, Check, Late, at_the_end, hanging, never_closed, suspects
+from .asking import Causes, Check, LateError, at_the_end, hanging, never_closed, suspects
 from .making import Recording
 from .where import own_line
 
@@ -107,7 +107,7 @@ def why_lines(name: pathlib.Path, causes: Causes) -> list[str]:
     """The failed calls and hanging goroutines of a program that failed, each with its cause."""
     try:
         return [plain(line) for line in causes.lines()]
-    except Late as late:
+    except LateError as late:
         line = command_line("nrdb", "-ex", "info errors", file_word(name))
         return [plain(messages.PRINTS_THEM.format(late=late, line=line))]
 
@@ -117,7 +117,7 @@ def suspect_lines(netrev: str, name: pathlib.Path) -> tuple[list[str], list[str]
     line = command_line("nrdb", "--suspects", file_word(name))
     try:
         found = suspects(netrev, name)
-    except Late as late:
+    except LateError as late:
         return [], [plain(messages.PRINTS_THEM.format(late=late, line=line))]
     except KeyboardInterrupt:
         return [], [plain(messages.PRINTS_THEM.format(late=messages.SUSPECTS_INTERRUPTED, line=line))]

@@ -5,14 +5,14 @@ from typing import Callable, NamedTuple, Optional, Sequence
 
 from netrev.connection.beginnings import begin_words, begins_at
 from netrev.connection.errors import unexpected
-from netrev.connection.netrev import Ended
-from netrev.connection.scout import Lost
-from netrev.connection.shapes import Refused, Strange
+from netrev.connection.netrev import NetrevEndedError
+from netrev.connection.scout import ScoutUnavailableError
+from netrev.connection.shapes import LineRefusedError, StrangeReplyError
 from netrev.messages import editors as texts
-from netrev.recording.recording import NoRecording
+from netrev.recording.recording import NotARecordingError
 from netrev.session.line_hints import hint
-from netrev.session.session import Misused
-from netrev.system.interrupts import GivenUp, Interrupted, Interrupts
+from netrev.session.session import UsageError
+from netrev.system.interrupts import SessionAbandonedError, SearchInterruptedError, Interrupts
 from netrev.text.plain import plain
 
 from . import breakpoints, looks
@@ -22,7 +22,7 @@ from .target import Launch, Target
 from .view.capabilities import CAPABILITIES
 from .view.debuggee import debuggee
 from .view.looking import maker_of, thread_of
-from .view.messages import Body, EditorGone, Request, Unanswerable, Wire
+from .view.messages import Body, EditorGoneError, Request, UnanswerableError, Wire
 from .view.numbering import Numbering
 from .working import Work
 
@@ -86,7 +86,7 @@ class Adapter:
         """Answers a request. An unexpected error is printed on the editor's console, and the session goes on."""
         try:
             self._answer(request)
-        except EditorGone:
+        except EditorGoneError:
             raise
         except Exception as error:
             self._console(f"| {plain(unexpected(error))}\n")
@@ -96,18 +96,20 @@ class Adapter:
         work = Work(self._wire, request, self._shows_progress)
         try:
             outcome = self._worked(request, work)
-        except Unanswerable as why:
+        except UnanswerableError as why:
             self._refused(work, shown(str(why)))
-        except Interrupted:
+        except SearchInterruptedError:
             self._refused(work, CANCELLED)
-        except GivenUp:  # (the request that ends the session comes next, and is answered before the session closes)
+        except (
+            SessionAbandonedError
+        ):  # (the request that ends the session comes next, and is answered before the session closes)
             work.refuses(ENDS)
             self._target_or_none = None
-        except (Ended, Strange, Lost) as why:
-            said = str(why) if isinstance(why, (Strange, Lost)) else "netrev has ended"
+        except (NetrevEndedError, StrangeReplyError, ScoutUnavailableError) as why:
+            said = str(why) if isinstance(why, (StrangeReplyError, ScoutUnavailableError)) else "netrev has ended"
             work.refuses(plain(said))
             self._end(said)
-        except EditorGone:
+        except EditorGoneError:
             raise
         except Exception as error:
             self._refused(work, plain(unexpected(error)))
@@ -123,7 +125,7 @@ class Adapter:
     def _worked(self, request: Request, work: Work) -> Outcome:
         """The result of a request. While nrdb works on the request, a thread reads the editor's messages."""
         if self._source.ends(request):
-            raise Interrupted
+            raise SearchInterruptedError
         if request.command in ("launch", "attach"):
             self._interrupts = Interrupts()
         if self._target_or_none:
@@ -145,22 +147,22 @@ class Adapter:
             self._stopped(Stop("pause", why))
 
     def _outcome(self, request: Request) -> Outcome:
-        """The outcome of a request; raises Unanswerable if the request fails."""
+        """The outcome of a request; raises UnanswerableError if the request fails."""
         answer = self._answers.get(request.command)
         if answer is None:
-            raise Unanswerable(texts.UNKNOWN_REQUEST.format(command=request.command))
+            raise UnanswerableError(texts.UNKNOWN_REQUEST.format(command=request.command))
         try:
             return answer(request)
-        except Refused as refused:
+        except LineRefusedError as refused:
             said = hint([request.command], str(refused))
-            raise Unanswerable(texts.NETREV_ANSWERED.format(fault=refused, hint=said)) from None
-        except (Misused, NoRecording) as wrong:
-            raise Unanswerable(str(wrong)) from None
+            raise UnanswerableError(texts.NETREV_ANSWERED.format(fault=refused, hint=said)) from None
+        except (UsageError, NotARecordingError) as wrong:
+            raise UnanswerableError(str(wrong)) from None
 
     @property
     def _target(self) -> Target:
         if self._target_or_none is None:
-            raise Unanswerable(texts.LAUNCH_FIRST)
+            raise UnanswerableError(texts.LAUNCH_FIRST)
         return self._target_or_none
 
     def _of_target(self, answer: Callable[[Target, Numbering, Request], Body]) -> Callable[[Request], Outcome]:
@@ -256,7 +258,7 @@ class Adapter:
     def _step_out(self, request: Request) -> Outcome:
         goroutine = maker_of(request.whole_number("threadId"))
         if goroutine is None:
-            raise Unanswerable(texts.NO_CALLS)
+            raise UnanswerableError(texts.NO_CALLS)
         return Outcome(stop=self._target.moves.out_of(goroutine))
 
     def _pause(self, request: Request) -> Outcome:
@@ -268,7 +270,7 @@ class Adapter:
             return Outcome({"targets": breakpoints.targets(self._target, self._numbering, request)})
         step = self._target.debuggee.step_at(line)
         if step is None:
-            raise Unanswerable(texts.NO_STEP)
+            raise UnanswerableError(texts.NO_STEP)
         position = step.number - 1
         named = {
             "id": position,
@@ -280,7 +282,7 @@ class Adapter:
     def _goto(self, request: Request) -> Outcome:
         position = request.whole_number("targetId")
         if not 0 <= position <= self._target.debuggee.length:
-            raise Unanswerable(texts.HAS_STEPS.format(steps=self._target.debuggee.length))
+            raise UnanswerableError(texts.HAS_STEPS.format(steps=self._target.debuggee.length))
         return Outcome(stop=self._target.moves.goto(position))
 
     def _evaluate(self, request: Request) -> Outcome:

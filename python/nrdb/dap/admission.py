@@ -5,9 +5,10 @@ token that nrdb printed."""
 import hmac
 import os
 import secrets
+from netrev.errors import NetrevError
 from netrev.messages import editors as texts
 
-from .view.messages import Request, Unanswerable
+from .view.messages import Request, UnanswerableError
 
 TOKEN = "token"  # the argument of a launch that carries the token
 NAMED_BY = "NRDB_TOKEN"  # the environment variable for a token that the user chooses
@@ -16,11 +17,11 @@ BEFORE = ("initialize", "disconnect")  # requests that are answered without the 
 OPENING = ("launch", "attach")  # requests that carry the token
 
 
-class Stranger(Unanswerable):
+class StrangerError(UnanswerableError):
     """Raised for a launch without the token; nothing more is read from that connection."""
 
 
-class NoToken(Exception):
+class InvalidTokenError(NetrevError):
     """Raised, with the reason, if the token that the user chose isn't valid."""
 
 
@@ -30,20 +31,20 @@ def token_for_a_port() -> str:
     if own is None:
         return secrets.token_urlsafe(32)
     if len(own) < LEAST or not own.isascii() or not own.isprintable():
-        raise NoToken(texts.SHORT_TOKEN.format(variable=NAMED_BY, least=LEAST))
+        raise InvalidTokenError(texts.SHORT_TOKEN.format(variable=NAMED_BY, least=LEAST))
     return own
 
 
 def is_let_in(request: Request, token: str) -> bool:
-    """Whether a request is a launch with the token; False for a request that needs no token. Raises Unanswerable for
-    any other request, and Stranger for a launch with another token."""
+    """Whether a request is a launch with the token; False for a request that needs no token. Raises UnanswerableError for
+    any other request, and StrangerError for a launch with another token."""
     if request.command in BEFORE:
         return False
     if request.command not in OPENING:
-        raise Unanswerable(texts.TOKEN_FIRST)
+        raise UnanswerableError(texts.TOKEN_FIRST)
     given = request.arguments.get(TOKEN)
     if not isinstance(given, str) or not hmac.compare_digest(_bytes(given), _bytes(token)):
-        raise Stranger(texts.TOKEN_IS_WRONG)
+        raise StrangerError(texts.TOKEN_IS_WRONG)
     return True
 
 

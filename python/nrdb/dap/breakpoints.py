@@ -7,9 +7,9 @@ from netrev.text.vocabulary import KINDS
 from .go_lines import FUNCTIONS
 from .marks import Sort
 from .target import Target
-from .view.messages import Body, Request, Unanswerable
+from .view.messages import Body, Request, UnanswerableError
 from .view.numbering import Numbering
-from .wishes import Unset, Wish, cell_wish, kind_wish, positions_of, wish_of
+from .wishes import BreakpointError, Wish, cell_wish, kind_wish, positions_of, wish_of
 
 MOST_TARGETS = 1_000  # the maximum number of lines searched for steps
 
@@ -26,7 +26,7 @@ def set_lines(target: Target, numbering: Numbering, request: Request) -> Body:
     return {"breakpoints": [one | line for one, line in zip(made, lines)]}
 
 
-def of_steps(target: Target, path: str, wishes: list[Wish | Unset]) -> list[Body]:
+def of_steps(target: Target, path: str, wishes: list[Wish | BreakpointError]) -> list[Body]:
     """Replaces the breakpoints before steps, and returns the protocol's answer for each. Log messages use no marks of
     netrev."""
     session = target.debuggee.session
@@ -110,7 +110,7 @@ def set_filters(target: Target, _: Numbering, request: Request) -> Body:
     """Sets the exception filters, which stop a move before the steps that they select."""
     names = request.arguments.get("filters") or []
     if not isinstance(names, list) or not all(isinstance(name, str) for name in names):
-        raise Unanswerable(texts.FILTERS)
+        raise UnanswerableError(texts.FILTERS)
     return {"breakpoints": target.filters.replace(names)}
 
 
@@ -118,7 +118,7 @@ def exception_info(target: Target, _: Numbering, __: Request) -> Body:
     """The description of what went wrong at the position."""
     wrong = target.filters.at(target.debuggee.position)
     if not wrong:
-        raise Unanswerable(texts.NO_EXCEPTION)
+        raise UnanswerableError(texts.NO_EXCEPTION)
     says = "; ".join(plain(one.says) for one in wrong)
     return {"exceptionId": wrong[0].sort, "description": says, "breakMode": "always"}
 

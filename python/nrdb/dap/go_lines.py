@@ -13,9 +13,9 @@ from netrev.text.plain import plain
 
 from .logpoints import LogPoints
 from .view.debuggee import Debuggee
-from .view.messages import Body, Unanswerable
+from .view.messages import Body, UnanswerableError
 from .view.roots import Roots
-from .wishes import Unset, Wish, is_in, refused
+from .wishes import BreakpointError, Wish, is_in, refused
 
 FIRST = 1_000_000  # the number of the first of these breakpoints; marks have smaller numbers
 FUNCTIONS = "functions"  # used in place of a file name for breakpoints on functions
@@ -57,28 +57,28 @@ class GoLines:
         self._logpoints.clear(path)
 
     def positions(self, path: str, line: int) -> list[int]:
-        """The positions at which a goroutine reaches a line of a file; raises Unanswerable, with the prompt's message,
+        """The positions at which a goroutine reaches a line of a file; raises UnanswerableError, with the prompt's message,
         if no step comes from the line."""
         lines = self.lines(path)
         if line not in lines:
             name = plain(Path(path).name) or "that file"
-            raise Unanswerable(no_step_from(f"{name}:{line}", near_lines(name, line, lines)))
+            raise UnanswerableError(no_step_from(f"{name}:{line}", near_lines(name, line, lines)))
         return lines[line]
 
-    def set_line(self, path: str, line: int, wish: "Wish | Unset") -> Body:
+    def set_line(self, path: str, line: int, wish: "Wish | BreakpointError") -> Body:
         """Sets a breakpoint at a line from which steps come, and returns the protocol's object for the breakpoint."""
         try:
             return self._set(path, self.positions(path, line), wish)
-        except Unanswerable as why:
+        except UnanswerableError as why:
             return refused(str(why))
 
-    def set_function(self, name: str, wish: "Wish | Unset") -> Optional[Body]:
+    def set_function(self, name: str, wish: "Wish | BreakpointError") -> Optional[Body]:
         """Sets a breakpoint at a function; returns None if no step comes from a function of that name."""
         place = places_of(self._debuggee.recording).place(name)
         return self._set(FUNCTIONS, place.positions, wish) if place else None
 
-    def _set(self, path: str, positions: list[int], wish: "Wish | Unset") -> Body:
-        if isinstance(wish, Unset):
+    def _set(self, path: str, positions: list[int], wish: "Wish | BreakpointError") -> Body:
+        if isinstance(wish, BreakpointError):
             return refused(str(wish))
         if wish.message:
             return self._logpoints.set(path, positions, wish)

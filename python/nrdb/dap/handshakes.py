@@ -7,9 +7,9 @@ from queue import SimpleQueue
 from threading import Lock, Thread, Timer
 from typing import Optional
 
-from .admission import Stranger, is_let_in
+from .admission import StrangerError, is_let_in
 from .view.capabilities import CAPABILITIES
-from .view.messages import Malformed, Request, Unanswerable, Wire
+from .view.messages import MalformedMessageError, Request, UnanswerableError, Wire
 
 IN_TIME = 10.0  # seconds that an editor at the port has to send a launch
 MOST = 64  # the maximum number of connections that haven't sent the token; a further one closes the oldest
@@ -38,9 +38,9 @@ class Connection:
                 if is_let_in(request, self._token):
                     self.launch, self.wire.most = request, None
                     return True
-            except Unanswerable as why:
+            except UnanswerableError as why:
                 self.wire.refuse(request, str(why))
-                if isinstance(why, Stranger):
+                if isinstance(why, StrangerError):
                     return False
                 continue
             is_beginning = request.command == "initialize"
@@ -101,7 +101,7 @@ class Handshakes:
         """Begins a connection, in a thread of its own."""
         is_admitted = False
         # (an error means that the other end has gone, or has sent something that isn't a message)
-        with suppress(Malformed, OSError, ValueError):
+        with suppress(MalformedMessageError, OSError, ValueError):
             is_admitted = connection.admitted()
         is_admitted = self._ended(connection) and is_admitted
         if is_admitted:

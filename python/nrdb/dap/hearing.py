@@ -10,7 +10,7 @@ from typing import Iterator, Optional, Protocol
 
 from netrev.system.interrupts import Interrupts
 
-from .view.messages import Malformed, Request, Wire
+from .view.messages import MalformedMessageError, Request, Wire
 
 ENDING = ("disconnect", "terminate")
 CANCEL, PAUSE = "cancel", "pause"
@@ -124,7 +124,7 @@ class Hearing:
             before = self._wire.received
             try:
                 came = self._wire.request()
-            except (Malformed, OSError) as wrong:
+            except (MalformedMessageError, OSError) as wrong:
                 came = wrong
             except ValueError:  # the stream was closed
                 came = None

@@ -5,7 +5,7 @@ from nrdb.prompt.completion import candidates
 
 from .target import Target
 from .view import memory
-from .view.messages import Body, Request, Unanswerable
+from .view.messages import Body, Request, UnanswerableError
 from .view.numbering import Numbering
 
 
@@ -37,7 +37,7 @@ def page(request: Request, rows: list[Body], first: str, count: str) -> list[Bod
     """The requested rows; all rows if the request gives no number."""
     begin, most = (request.arguments.get(name) or 0 for name in (first, count))
     if not isinstance(begin, int) or not isinstance(most, int) or begin < 0 or most < 0:
-        raise Unanswerable(texts.RANGE.format(first=first, count=count))
+        raise UnanswerableError(texts.RANGE.format(first=first, count=count))
     return rows[begin : begin + most if most else None]
 
 
@@ -46,7 +46,7 @@ def value(target: Target, text: str, context: object) -> Body:
     the kind's meaning."""
     shown = (target.looks.meaning if context == "hover" else target.looks.value)(text)
     if shown is None:
-        raise Unanswerable(texts.NOT_A_VALUE.format(text=text))
+        raise UnanswerableError(texts.NOT_A_VALUE.format(text=text))
     named = memory.reference_of(text) if text.split() else None
     return {"result": shown, "variablesReference": 0} | ({"memoryReference": named} if named else {})
 
@@ -69,4 +69,4 @@ def completions(target: Target, numbering: Numbering, request: Request) -> Body:
 
 def refuse_change(_: Target, __: Numbering, ___: Request) -> Body:
     """Refuses a request to set a value."""
-    raise Unanswerable(texts.READ_ONLY)
+    raise UnanswerableError(texts.READ_ONLY)

@@ -8,7 +8,7 @@ from netrev.session.line_hints import hint
 from netrev.session.session import Session
 
 from .view.messages import Body
-from .wishes import Unset, Wish, is_in, positions_of, refused
+from .wishes import BreakpointError, Wish, is_in, positions_of, refused
 
 
 class Sort(Enum):
@@ -28,7 +28,7 @@ class Marks:
         self._wishes: dict[tuple[Sort, str], list[Wish]] = {}
         self._counted: dict[Wish, list[int]] = {}  # the positions at which breakpoints with a hit count stop
 
-    def replace(self, sort: Sort, wishes: Sequence["Wish | Unset"]) -> list[Body]:
+    def replace(self, sort: Sort, wishes: Sequence["Wish | BreakpointError"]) -> list[Body]:
         """Replaces the breakpoints of a kind. Returns the protocol's answer for each breakpoint, in order."""
         # some marks may have been deleted in the console
         standing = {mark.number for mark in self._session.netrev.marks()}
@@ -40,13 +40,13 @@ class Marks:
             del self._wishes[mark]
         return [self._set(sort, wish) for wish in wishes]
 
-    def _set(self, sort: Sort, wish: "Wish | Unset") -> Body:
+    def _set(self, sort: Sort, wish: "Wish | BreakpointError") -> Body:
         """Sets a breakpoint, and returns the protocol's object for it."""
         try:
-            if isinstance(wish, Unset):
+            if isinstance(wish, BreakpointError):
                 raise wish
             number = self._number(sort, wish)
-        except Unset as why:
+        except BreakpointError as why:
             return refused(str(why))
         self._wishes.setdefault((sort, wish.what), []).append(wish)
         return {"id": int(number), "verified": True}
@@ -57,7 +57,7 @@ class Marks:
             line = f"{'watch' if sort is Sort.DATA else 'break'} {wish.what}"
             reply = self._session.ask(line)
             if (made := MARK.fullmatch(reply)) is None:
-                raise Unset(f"{reply}: {hint(line.split(), reply)}")
+                raise BreakpointError(f"{reply}: {hint(line.split(), reply)}")
             self._numbers[sort, wish.what] = made[1]
         return self._numbers[sort, wish.what]
 

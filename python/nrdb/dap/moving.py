@@ -7,15 +7,15 @@ from netrev.connection.netrev import Reply
 from netrev.connection.shapes import MARK, Listed, Move, move_of
 from netrev.findings.causes import root_sentence
 from netrev.recording.recording import Recording
-from netrev.system.interrupts import Interrupted, Interrupts
-from netrev.views.following import Stay, finish_goal
+from netrev.system.interrupts import SearchInterruptedError, Interrupts
+from netrev.views.following import NoDestinationError, finish_goal
 
 from .go_lines import GoLines
 from .logpoints import LogPoints
 from .marks import Marks
 from .view.debuggee import Debuggee, Maker
 from .view.filters import Failure, Filters
-from .view.messages import Unanswerable
+from .view.messages import UnanswerableError
 
 PIECE = 100_000  # the maximum number of steps in one netrev command; a move checks for a pause after each command
 AT_THE_END = "the recording's end"
@@ -69,7 +69,7 @@ class Moves:
             return why
         try:
             reply = self._go(position)
-        except Interrupted:
+        except SearchInterruptedError:
             return self._paused([])
         return self._arrived(f"goto {position}", reply, move_of("goto", reply), [], why)
 
@@ -80,19 +80,19 @@ class Moves:
         try:
             with self._interrupts.at_once():
                 found = next((number for number in numbers if self._debuggee.maker(number) == maker), None)
-        except Interrupted:
+        except SearchInterruptedError:
             return self._paused([])
         return self.run(True, self._debuggee.length if found is None else found - 1)
 
     def out_of(self, goroutine: int) -> Stop:
         """Runs until a goroutine's call has ended or, between calls, until the goroutine has left the program's function.
-        Raises Unanswerable if that doesn't happen."""
+        Raises UnanswerableError if that doesn't happen."""
         try:
             with self._interrupts.at_once():
                 goal = finish_goal(self._debuggee.recording, goroutine, self._debuggee.position)
-        except Stay as why:
-            raise Unanswerable(str(why)) from None
-        except Interrupted:
+        except NoDestinationError as why:
+            raise UnanswerableError(str(why)) from None
+        except SearchInterruptedError:
             return self._paused([])
         return self.run(True, goal.position)
 
@@ -103,7 +103,7 @@ class Moves:
         stood = self._session.netrev.marks()
         try:
             stop = self._run(forwards, target, stood)
-        except Interrupted:
+        except SearchInterruptedError:
             stop = self._paused(stood)
         for told in self._logpoints.told(begun, self._debuggee.position):
             self._session.printer.note(told)
@@ -125,7 +125,7 @@ class Moves:
 
     def _searched(self, line: str, forwards: bool, bound: Optional[int]) -> tuple[str, Move]:
         """netrev's reply to a search, and the move. The search is made in pieces, each up to a temporary mark that
-        isn't reported. Raises Interrupted if a pause comes between two pieces."""
+        isn't reported. Raises SearchInterruptedError if a pause comes between two pieces."""
         here = self._session.stands().position
         while True:
             self._interrupts.check()

@@ -11,10 +11,10 @@ from typing import Sequence
 from netrev.text.plain import plain
 
 from .adapter import Adapter
-from .admission import NAMED_BY, NoToken, token_for_a_port
+from .admission import NAMED_BY, InvalidTokenError, token_for_a_port
 from .handshakes import Connection, Handshakes
 from .hearing import Hearing, Reading, Source
-from .view.messages import Malformed, Request, Wire
+from .view.messages import MalformedMessageError, Request, Wire
 
 LOOPBACK = "127.0.0.1"
 DONE, USAGE, FAILED = 0, 2, 3
@@ -24,7 +24,7 @@ def serve(wire: Wire, program: str, begun: Sequence[Request] = ()) -> int:
     """Serves one editor, whose first requests have been read, and returns the exit status."""
     try:
         Adapter(wire, source_of(wire), program).serve(begun)
-    except Malformed as wrong:
+    except MalformedMessageError as wrong:
         print(f"nrdb --dap: {plain(str(wrong))}", file=sys.stderr)
         return FAILED
     except OSError:  # the editor has gone
@@ -53,7 +53,7 @@ def serve_port(program: str, port: int) -> int:
     means any free port. The port is printed, with the token that an editor must send."""
     try:
         token = token_for_a_port()
-    except NoToken as why:
+    except InvalidTokenError as why:
         print(f"nrdb --dap-port: {why}", file=sys.stderr)
         return USAGE
     with socket.socket() as listening:

@@ -16,7 +16,7 @@ from .moving import Moves, Stop
 from .view.debuggee import Debuggee
 from .view.filters import Filters
 from .view.looking import Looks
-from .view.messages import Request, Unanswerable
+from .view.messages import Request, UnanswerableError
 from .view.roots import Roots
 
 SOURCES = ("recording", "go")
@@ -40,19 +40,19 @@ class Launch:
 
     @classmethod
     def of(cls, request: Request) -> "Launch":
-        """The arguments of a launch; raises Unanswerable if any argument is invalid."""
+        """The arguments of a launch; raises UnanswerableError if any argument is invalid."""
         given = request.arguments
         stop_at = given.get("stopAt", AT_END)
         if stop_at not in (AT_END, AT_START) and not (isinstance(stop_at, int) and stop_at >= 0):
-            raise Unanswerable(texts.STOP_AT)
+            raise UnanswerableError(texts.STOP_AT)
         return cls(request.text("program"), stop_at, *cls._shown(given))
 
     @classmethod
     def of_attach(cls, request: Request) -> "Launch":
-        """The arguments of an attach; raises Unanswerable if any argument is invalid."""
+        """The arguments of an attach; raises UnanswerableError if any argument is invalid."""
         host, _, port = request.text("address").rpartition(":")
         if not (port.isascii() and port.isdigit() and len(port) < 6 and int(port) < 2**16):
-            raise Unanswerable(texts.ADDRESS)
+            raise UnanswerableError(texts.ADDRESS)
         address = host.strip("[]") or "127.0.0.1", int(port)
         return cls(request.text("program"), None, *cls._shown(request.arguments), address)
 
@@ -62,9 +62,9 @@ class Launch:
         folders."""
         source = given.get("source", SOURCES[0])
         if source not in SOURCES:
-            raise Unanswerable(texts.SOURCE)
+            raise UnanswerableError(texts.SOURCE)
         if "netrev" in given:
-            raise Unanswerable(texts.OWN_PROGRAM)
+            raise UnanswerableError(texts.OWN_PROGRAM)
         return source == "go", _text(given, "sourceRoot"), _text(given, "goRoot")
 
     def position(self, debuggee: Debuggee) -> int:
@@ -79,7 +79,7 @@ class Launch:
 def _text(given: dict[str, Any], name: str) -> Optional[str]:
     value = given.get(name)
     if value is not None and not isinstance(value, str):
-        raise Unanswerable(texts.OPTION_STRING.format(name=name))
+        raise UnanswerableError(texts.OPTION_STRING.format(name=name))
     return value
 
 

@@ -6,6 +6,7 @@ from bisect import bisect_left
 from dataclasses import dataclass
 from typing import NamedTuple, Optional, Sequence
 
+from netrev.errors import NetrevError
 from netrev.messages import editors as texts
 from netrev.session.conditions import Condition
 from netrev.session.session import Session
@@ -18,15 +19,15 @@ IN_BRACES = re.compile(r"\{([^{}]*)\}")
 HERE = "position"  # a name in braces that isn't a cell
 
 
-class Unset(Exception):
+class BreakpointError(NetrevError):
     """Raised, with the reason, for a breakpoint that can't be set."""
 
 
 def condition_of(text: str) -> Condition:
-    """The condition that a text states; raises Unset if it isn't a condition."""
+    """The condition that a text states; raises BreakpointError if it isn't a condition."""
     condition = Condition.of(text.split())
     if condition is None:
-        raise Unset(texts.NOT_A_CONDITION.format(text=text))
+        raise BreakpointError(texts.NOT_A_CONDITION.format(text=text))
     return condition
 
 
@@ -42,7 +43,7 @@ class HitCount(NamedTuple):
         found = HIT_COUNT.fullmatch(text.strip())
         number = number_of(found[2]) if found else None
         if found is None or number is None or (found[1] == "%" and not number):
-            raise Unset(texts.NOT_A_COUNT.format(text=text))
+            raise BreakpointError(texts.NOT_A_COUNT.format(text=text))
         return cls((found[1] or "=").replace("==", "="), number)
 
     def holds(self, count: int) -> bool:
@@ -87,17 +88,17 @@ def is_in(rising: Sequence[int], position: int) -> bool:
     return at < len(rising) and rising[at] == position
 
 
-def wish_of(what: str, asked: Body) -> "Wish | Unset":
+def wish_of(what: str, asked: Body) -> "Wish | BreakpointError":
     """The request for a mark, with the editor's condition, hit count and message, if given."""
     condition, times, message = (_text_of(asked, name) for name in ("condition", "hitCondition", "logMessage"))
     try:
         for named in IN_BRACES.findall(message):
             if named.strip() != HERE and cell_of(named.split()) is None:
-                raise Unset(texts.NOT_IN_BRACES.format(name=named, here=HERE))
+                raise BreakpointError(texts.NOT_IN_BRACES.format(name=named, here=HERE))
         return Wish(
             what, condition_of(condition) if condition else None, HitCount.of(times) if times else None, message
         )
-    except Unset as why:
+    except BreakpointError as why:
         return why
 
 
@@ -107,19 +108,19 @@ def _text_of(asked: Body, name: str) -> str:
     return value if isinstance(value, str) and value.strip() else ""
 
 
-def kind_wish(asked: Body) -> "Wish | Unset":
+def kind_wish(asked: Body) -> "Wish | BreakpointError":
     """The request for a breakpoint at each step of a kind."""
     name = asked.get("name")
     if isinstance(name, str) and name in KINDS:
         return wish_of(name, asked)
-    return Unset(texts.NOT_A_KIND.format(name=name, kinds=" ".join(KINDS)))
+    return BreakpointError(texts.NOT_A_KIND.format(name=name, kinds=" ".join(KINDS)))
 
 
-def cell_wish(asked: Body) -> "Wish | Unset":
+def cell_wish(asked: Body) -> "Wish | BreakpointError":
     """The request for a breakpoint at each change of a cell."""
     identity = asked.get("dataId")
     cell = cell_of(str(identity).split())
-    return wish_of(cell, asked) if cell else Unset(texts.NOT_A_CELL.format(name=identity))
+    return wish_of(cell, asked) if cell else BreakpointError(texts.NOT_A_CELL.format(name=identity))
 
 
 def refused(why: str) -> Body:

@@ -1,5 +1,5 @@
 """nrdb's own commands, one function each. Each function gets the session and the words after the command, and raises
-Misused if the words are wrong. Modules that few sessions need are imported on first use, so that the prompt appears
+UsageError if the words are wrong. Modules that few sessions need are imported on first use, so that the prompt appears
 sooner."""
 
 import re
@@ -11,7 +11,7 @@ from netrev.messages import session as messages
 from netrev.recording.answers import spelled
 from netrev.run.timers import timer_words
 from netrev.session.commands import ALL_TOPICS, COMMANDS, FORMS, OF_NETREV, OF_NRDB, TOPICS, Origin, whole_command
-from netrev.session.session import Answering, Misused, Session
+from netrev.session.session import Answering, UsageError, Session
 from netrev.text.vocabulary import CELLS, KINDS, REASONS, Of, cell_of, number_of
 from netrev.views.history import history_table
 from netrev.views.holders import holders_table
@@ -33,7 +33,7 @@ def taken_number(name: str, words: list[str]) -> int:
     """The number that is a command's only argument."""
     number = number_of(words[0]) if len(words) == 1 else None
     if number is None:
-        raise Misused(messages.NUMBER.format(usage=usage(name)))
+        raise UsageError(messages.NUMBER.format(usage=usage(name)))
     return number
 
 
@@ -43,10 +43,10 @@ def taken_cell(name: str, words: list[str]) -> tuple[str, list[str]]:
         if len(words) >= length and (cell := cell_of(words[:length])):
             return cell, words[length:]
     if not words:
-        raise Misused(messages.USAGE_AND_CELLS.format(usage=usage(name), cells=" ".join(CELLS)))
+        raise UsageError(messages.USAGE_AND_CELLS.format(usage=usage(name), cells=" ".join(CELLS)))
     if words[0] in CELLS:
-        raise Misused(messages.NUMBER_OF.format(cell=words[0], of=CELLS[words[0]].of.value, name=name))
-    raise Misused(messages.NOT_A_CELL.format(word=words[0], cells=" ".join(CELLS)))
+        raise UsageError(messages.NUMBER_OF.format(cell=words[0], of=CELLS[words[0]].of.value, name=name))
+    raise UsageError(messages.NOT_A_CELL.format(word=words[0], cells=" ".join(CELLS)))
 
 
 def answer_help(session: Session, words: list[str]) -> None:
@@ -54,7 +54,7 @@ def answer_help(session: Session, words: list[str]) -> None:
         return session.printer.note("\n".join(all_help()))
     told = list(help_of(words))
     if not told:
-        raise Misused(messages.NO_HELP.format(words=" ".join(words)))
+        raise UsageError(messages.NO_HELP.format(words=" ".join(words)))
     session.printer.note("\n".join(told))
 
 
@@ -98,7 +98,7 @@ def all_help() -> list[str]:
 
 def answer_apropos(session: Session, words: list[str]) -> None:
     if not words:
-        raise Misused(usage("apropos"))
+        raise UsageError(usage("apropos"))
     wanted = " ".join(words).lower()
     lines = [line for line in described() if wanted in line.lower()]
     session.printer.note("\n".join(lines) or messages.NOT_DESCRIBED.format(words=wanted))
@@ -138,7 +138,7 @@ def answer_list(session: Session, words: list[str]) -> None:
 def answer_goto(session: Session, words: list[str]) -> None:
     number = taken_position(session, words)
     if number > session.length:
-        raise Misused(messages.HAS_STEPS.format(steps=session.length))
+        raise UsageError(messages.HAS_STEPS.format(steps=session.length))
     arrive(session, f"goto {number}", session.go(number))
 
 
@@ -165,13 +165,13 @@ def taken_conditions(name: str, words: list[str]) -> dict[str, str]:
     end = next(ends, len(rest))
     value = " ".join(word for word in rest[:end] if word not in ("=", "=="))
     if not value:
-        raise Misused(messages.WHICH_VALUE.format(usage=usage(name), cell=cell))
+        raise UsageError(messages.WHICH_VALUE.format(usage=usage(name), cell=cell))
     return {cell: value} | (taken_conditions(name, rest[end + 1 :]) if end < len(rest) else {})
 
 
 def answer_until(session: Session, words: list[str], name: str = "until") -> None:
     if len(words) == 1 and number_of(words[0]) is not None:
-        raise Misused(messages.GOTO_INSTEAD.format(usage=usage(name), number=words[0]))
+        raise UsageError(messages.GOTO_INSTEAD.format(usage=usage(name), number=words[0]))
     wanted = taken_conditions(name, words)
     is_back = name == "reverse-until"
 
@@ -200,7 +200,7 @@ def answer_display(session: Session, words: list[str]) -> None:
     if words:
         cell, rest = taken_cell("display", words)
         if rest:
-            raise Misused(messages.ONLY_A_CELL.format(cell=cell))
+            raise UsageError(messages.ONLY_A_CELL.format(cell=cell))
         if cell not in session.displays:
             session.displays.append(cell)
     session.show_displays()
@@ -212,7 +212,7 @@ def answer_undisplay(session: Session, words: list[str]) -> None:
         return
     cell, _ = taken_cell("undisplay", words)
     if cell not in session.displays:
-        raise Misused(messages.NOT_DISPLAYED.format(cell=cell))
+        raise UsageError(messages.NOT_DISPLAYED.format(cell=cell))
     session.displays.remove(cell)
 
 
@@ -225,22 +225,22 @@ def answer_history(session: Session, words: list[str]) -> None:
 
 def answer_source(session: Session, words: list[str]) -> bool:
     if len(words) != 1:
-        raise Misused(usage("source"))
+        raise UsageError(usage("source"))
     try:
         return session.source(words[0])
     except OSError as error:
-        raise Misused(f"{words[0]}: {error.strerror}") from None
+        raise UsageError(f"{words[0]}: {error.strerror}") from None
 
 
 def answer_pagination(session: Session, words: list[str]) -> None:
     if words not in (["on"], ["off"]):
-        raise Misused(usage("pagination"))
+        raise UsageError(usage("pagination"))
     session.printer.is_paged = words == ["on"]
 
 
 def answer_info(session: Session, words: list[str]) -> None:
     if not words:
-        raise Misused(messages.WHICH_TOPIC.format(topics=ALL_TOPICS))
+        raise UsageError(messages.WHICH_TOPIC.format(topics=ALL_TOPICS))
     topic, rest = words[0], words[1:]
     if topic == "timers" and not rest:
         return session.printer.table(timers_table(session.world()))
@@ -263,7 +263,7 @@ def answer_info(session: Session, words: list[str]) -> None:
         return session.printer.table(holders_table(session.world(), session.changes(), number))
     is_all = rest == ["all"]
     if topic not in TABLES or (rest and not is_all and number is None):
-        raise Misused(messages.TOPIC.format(usage=TOPICS[topic].usage, says=TOPICS[topic].says))
+        raise UsageError(messages.TOPIC.format(usage=TOPICS[topic].usage, says=TOPICS[topic].says))
     session.printer.table(TABLES[topic](session.world(), None if number is None else [number], is_all))
 
 

@@ -8,9 +8,18 @@ from netrev.connection.shapes import MOVED, move_of
 from netrev.messages import session as messages
 from netrev.session.commands import COMMANDS, TOPICS
 from netrev.session.conditions import Condition
-from netrev.session.session import Answering, Misused, Session
+from netrev.session.session import Answering, UsageError, Session
 from netrev.text.vocabulary import number_of
-from netrev.views.following import GOALS, MOST, Stay, Subject, call_row, calls_table, goroutine_at, steps_table
+from netrev.views.following import (
+    GOALS,
+    MOST,
+    NoDestinationError,
+    Subject,
+    call_row,
+    calls_table,
+    goroutine_at,
+    steps_table,
+)
 
 
 def usage(name: str) -> str:
@@ -24,7 +33,7 @@ def taken_most(name: str, words: list[str]) -> Optional[int]:
     if len(words) > 1 or most == 0 or (most is None and words != ["all"]):
         is_topic = name not in COMMANDS
         told = messages.TOPIC.format(usage=TOPICS[name].usage, says=TOPICS[name].says) if is_topic else usage(name)
-        raise Misused(messages.NUMBER_FROM_ONE.format(usage=told))
+        raise UsageError(messages.NUMBER_FROM_ONE.format(usage=told))
     return most
 
 
@@ -38,7 +47,7 @@ def arrive(session: Session, line: str, reply: str) -> None:
 def answer_steps(session: Session, words: list[str]) -> None:
     found = Subject.of(words)
     if found is None:
-        raise Misused(usage("steps"))
+        raise UsageError(usage("steps"))
     subject, rest = found
     most = taken_most("steps", rest)
     session.printer.table(steps_table(session.text(), subject, session.stands().position, most))
@@ -64,13 +73,13 @@ def moved_by_call(name: str) -> Answering:
     def answer(session: Session, words: list[str]) -> None:
         number = number_of(words[0]) if len(words) == 1 else None
         if words and number is None:
-            raise Misused(messages.GOROUTINE_NUMBER.format(usage=usage(name)))
+            raise UsageError(messages.GOROUTINE_NUMBER.format(usage=usage(name)))
         text, position = session.text(), session.stands().position
         try:
             goroutine = goroutine_at(text, position) if number is None else number
             goal = GOALS[name](text, goroutine, position)
-        except Stay as stay:
-            raise Misused(str(stay)) from None
+        except NoDestinationError as stay:
+            raise UsageError(str(stay)) from None
         arrive(session, f"{name} {goroutine}", session.go(goal.position))
         if goal.call:
             session.printer.table(Table("calls", [call_row(text, goal.call, max(goal.position, position))]))
@@ -82,7 +91,7 @@ def answer_commands(session: Session, words: list[str]) -> None:
     marks = [mark.number for mark in session.netrev.marks()]
     number = words[0] if words else marks[-1] if marks else ""
     if len(words) > 1 or number not in marks:
-        raise Misused(messages.MARKS.format(usage=usage("commands"), marks=", ".join(marks) or "none"))
+        raise UsageError(messages.MARKS.format(usage=usage("commands"), marks=", ".join(marks) or "none"))
     session.attached.begin(number)
     session.printer.note(messages.LINES_OF_MARK.format(number=number))
 
@@ -95,15 +104,15 @@ def answer_condition(session: Session, words: list[str]) -> None:
     is_named = bool(words) and words[0] in standing
     number, rest = (words[0], words[1:]) if is_named else (session.latest, words)
     if number not in standing or not words or (not is_named and Condition.of(words) is None):
-        raise Misused(messages.MARKS.format(usage=usage("condition"), marks=", ".join(standing) or "none"))
+        raise UsageError(messages.MARKS.format(usage=usage("condition"), marks=", ".join(standing) or "none"))
     if marks.get(number) == "tbreak":
-        raise Misused(messages.TBREAK_IS_DELETED.format(number=number))
+        raise UsageError(messages.TBREAK_IS_DELETED.format(number=number))
     if not rest:
         session.conditions.pop(number, None)
         return session.printer.note(messages.STOPS_ALWAYS.format(number=number))
     condition = Condition.of(rest)
     if condition is None:
-        raise Misused(messages.CONDITION.format(usage=usage("condition"), number=number))
+        raise UsageError(messages.CONDITION.format(usage=usage("condition"), number=number))
     session.conditions[number] = condition
     session.printer.note(condition.says(number))
 

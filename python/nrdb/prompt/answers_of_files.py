@@ -1,7 +1,7 @@
 """Commands of nrdb that write files or explore other schedules. Few sessions need these commands, so their modules are
 imported on first use."""
 
-from netrev.session.session import Misused, Session
+from netrev.session.session import UsageError, Session
 from netrev.text.vocabulary import number_of
 
 from .answers_of_calls import usage
@@ -10,7 +10,7 @@ from .answers_of_calls import usage
 def answer_timeline(session: Session, words: list[str]) -> None:
     numbers = [number_of(word) for word in words[1:]]
     if len(words) not in (1, 3) or None in numbers:
-        raise Misused(usage("timeline"))
+        raise UsageError(usage("timeline"))
     from netrev.timeline import write_timeline
 
     session.printer.note(write_timeline(session, words[0], *numbers))
@@ -18,7 +18,7 @@ def answer_timeline(session: Session, words: list[str]) -> None:
 
 def answer_trace(session: Session, words: list[str]) -> None:
     if len(words) != 1:
-        raise Misused(usage("trace"))
+        raise UsageError(usage("trace"))
     from netrev.timeline import write_trace
 
     session.printer.note(write_trace(session, words[0]))

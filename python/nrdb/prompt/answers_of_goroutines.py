@@ -6,7 +6,7 @@ from typing import Optional
 from netrev.messages import session as messages
 from netrev.recording.waits import Name
 from netrev.recording.where import stack_lines
-from netrev.session.session import Answering, Misused, Session
+from netrev.session.session import Answering, UsageError, Session
 from netrev.text.vocabulary import number_of
 from netrev.views.goroutine_stacks import GoroutineStack, stack_of
 
@@ -31,10 +31,10 @@ def answer_goroutine(session: Session, words: list[str]) -> None:
     recording, position = session.text(), session.stands().position
     name = named(words) if words else session.goroutine or of_step(session, position)
     if name is None:
-        raise Misused(messages.NUMBER.format(usage=usage("goroutine")))
+        raise UsageError(messages.NUMBER.format(usage=usage("goroutine")))
     found = stack_of(recording, name, position)
     if found is None:
-        raise Misused(messages.NO_STEP_OR_WAIT.format(goroutine=name, position=position))
+        raise UsageError(messages.NO_STEP_OR_WAIT.format(goroutine=name, position=position))
     session.goroutine, session.frame, session.is_before = name, None, False
     show(session, found)
     if found.stack.calls:

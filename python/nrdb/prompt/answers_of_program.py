@@ -7,7 +7,7 @@ from netrev.messages import session as messages
 from netrev.recording.recording import Recording
 from netrev.recording.where import OF_THE_PROGRAM, Call, Stack
 from netrev.session.line_index import OF_A_LINE, Place, is_file, is_function, is_place, no_step_from, places_of
-from netrev.session.session import Answering, Misused, Session
+from netrev.session.session import Answering, UsageError, Session
 from netrev.session.source import source_of, text_round
 from netrev.views.goroutine_stacks import stack_of
 
@@ -17,14 +17,14 @@ MOST = 40
 
 
 def place_of(session: Session, spelled: str) -> Place:
-    """The place that a word names; raises Misused if no step comes from that place."""
+    """The place that a word names; raises UsageError if no step comes from that place."""
     recording = session.text()
     if not recording.lines:
-        raise Misused(messages.NO_LINES)
+        raise UsageError(messages.NO_LINES)
     places = places_of(recording)
     if place := places.place(spelled):
         return place
-    raise Misused(no_step_from(spelled, places.near(spelled)))
+    raise UsageError(no_step_from(spelled, places.near(spelled)))
 
 
 def of_place(name: str, otherwise: Answering) -> Answering:
@@ -51,7 +51,7 @@ def answer_delete(session: Session, words: list[str]) -> None:
     if not words:
         return delete_all(session)
     if session.breaks.standing.pop(words[0], None) is None:
-        raise Misused(messages.NO_BREAK.format(number=words[0]))
+        raise UsageError(messages.NO_BREAK.format(number=words[0]))
 
 
 def delete_all(session: Session) -> None:
@@ -74,7 +74,7 @@ def go_to_place(name: str, forwards: bool) -> Answering:
         place, position = place_of(session, words[0]), session.stands().position
         ahead = [one for one in place.positions if (one > position if forwards else one < position)]
         if not ahead:
-            raise Misused(messages.NOT_REACHED.format(place=words[0], way="later" if forwards else "earlier"))
+            raise UsageError(messages.NOT_REACHED.format(place=words[0], way="later" if forwards else "earlier"))
         arrive(session, f"{name} {words[0]}", session.go(ahead[0] if forwards else ahead[-1]))
         session.is_before = True
 
@@ -110,7 +110,7 @@ def show_source(session: Session, file: str, line: int) -> None:
     recording = session.text()
     known = next((call.file for call in calls_of(recording) if is_file(call.file, file)), None)
     if known is None:
-        raise Misused(messages.NO_CALL_IN.format(file=file))
+        raise UsageError(messages.NO_CALL_IN.format(file=file))
     path = source_of(known, session.path)
     lines = text_round(recording, path, line)
     session.printer.note("\n".join(lines) if lines else messages.NO_SOURCE.format(place=f"{known}:{line}"))
@@ -135,14 +135,14 @@ def frame_by(move: int) -> Answering:
     def answer(session: Session, words: list[str]) -> None:
         stack = stack_at(session)
         if not stack.calls:
-            raise Misused(messages.NO_STACK)
+            raise UsageError(messages.NO_STACK)
         wanted: Optional[int] = own_frame(stack) if session.frame is None else session.frame
         if not move and words:
             wanted = int(words[0]) if words[0].isdecimal() and len(words[0]) < 6 else None
         elif wanted is not None:
             wanted += move
         if wanted is None or not 0 <= wanted < len(stack.calls):
-            raise Misused(messages.FRAMES.format(last=len(stack.calls) - 1))
+            raise UsageError(messages.FRAMES.format(last=len(stack.calls) - 1))
         show_frame(session, stack, wanted)
 
     return answer

@@ -5,7 +5,7 @@ from typing import Callable, Optional
 from netrev.connection.world import made_at
 from netrev.recording.recording import Recording
 from netrev.recording.where import OF_THE_PROGRAM
-from netrev.session.commands import COMMANDS, DIRECTIONS, PAGINATION, TOPICS, Ambiguous, whole_words
+from netrev.session.commands import COMMANDS, DIRECTIONS, PAGINATION, TOPICS, AmbiguousWordError, whole_words
 from netrev.session.session import Session
 from netrev.text.vocabulary import CELLS, DUMPS, KINDS, Of
 
@@ -55,7 +55,7 @@ def candidates(
         return list(COMMANDS)
     try:
         first, *rest = whole_words(list(before))
-    except Ambiguous:
+    except AmbiguousWordError:
         return []
     if first in OF_A_PLACE and not rest:
         return [*places(), *(of_cell(rest, numbers) if first in OF_CELL else KINDS if first in OF_A_KIND else ())]

@@ -4,7 +4,7 @@ from typing import Iterator
 
 from netrev.session.attached_commands import END
 from netrev.session.files import writing
-from netrev.session.session import Misused, Session
+from netrev.session.session import UsageError, Session
 from netrev.text.plurals import counted
 
 from .answers_of_calls import usage
@@ -13,7 +13,7 @@ from .answers_of_calls import usage
 def answer_save(session: Session, words: list[str]) -> None:
     """Writes netrev's marks, the breaks at lines and functions, and the lines that run when a mark is hit."""
     if len(words) != 2 or words[0] != "breakpoints":
-        raise Misused(usage("save"))
+        raise UsageError(usage("save"))
     lines = list(lines_of_marks(session))
     with writing(words[1], session.path) as file:
         file.writelines(f"{line}\n" for line in lines)

@@ -5,15 +5,15 @@ import sys
 from pathlib import Path
 from typing import Optional, TextIO, cast
 
-from netrev.connection.errors import Mismatched
-from netrev.connection.netrev import Ended
+from netrev.connection.errors import MismatchedRecordingError
+from netrev.connection.netrev import NetrevEndedError
 from netrev.connection.output import TextPrinter
-from netrev.connection.scout import Lost
-from netrev.connection.shapes import Strange
-from netrev.recording.recording import NoRecording
-from netrev.session.commands import COMMANDS, Ambiguous, whole_words
+from netrev.connection.scout import ScoutUnavailableError
+from netrev.connection.shapes import StrangeReplyError
+from netrev.recording.recording import NotARecordingError
+from netrev.session.commands import COMMANDS, AmbiguousWordError, whole_words
 from netrev.session.session import Session
-from netrev.system.interrupts import Interrupted
+from netrev.system.interrupts import SearchInterruptedError
 from netrev.text.vocabulary import Of
 
 from .completion import candidates, numbers_in, places_in
@@ -66,7 +66,13 @@ class Terminal:
         try:
             with self.session.interrupts.held():
                 lines = opening_words(recording)
-        except (Interrupted, Lost, Mismatched, NoRecording, Strange):
+        except (
+            SearchInterruptedError,
+            ScoutUnavailableError,
+            MismatchedRecordingError,
+            NotARecordingError,
+            StrangeReplyError,
+        ):
             return  # (a command that needs the causes reports the reason)
         if lines:
             self.session.printer.note("\n".join(lines))
@@ -130,7 +136,7 @@ class Terminal:
         """The numbers in use at the position."""
         try:
             return numbers_in(self.session, of)
-        except (Ended, Interrupted):  # (readline would discard the exception)
+        except (NetrevEndedError, SearchInterruptedError):  # (readline would discard the exception)
             return []
 
 
@@ -138,6 +144,6 @@ def repeats(line: str) -> bool:
     """Whether an empty line after this line repeats it. Only commands that make steps are repeated."""
     try:
         first = whole_words(line.split())[0]
-    except Ambiguous:
+    except AmbiguousWordError:
         return False
     return first in COMMANDS and COMMANDS[first].steps

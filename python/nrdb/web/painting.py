@@ -13,18 +13,18 @@ from typing import Callable, Optional
 
 from netrev.connection.arriving_changes import ArrivingChanges
 from netrev.connection.netrev import Own
-from netrev.connection.scout import Lost, Scout
-from netrev.connection.shapes import Refused
+from netrev.connection.scout import ScoutUnavailableError, Scout
+from netrev.connection.shapes import LineRefusedError
 from netrev.messages import browsers as texts
-from netrev.recording.recording import NoRecording, Recording
+from netrev.recording.recording import NotARecordingError, Recording
 from netrev.recording.suspect_list import SuspectList
-from netrev.session.session import Misused
+from netrev.session.session import UsageError
 from netrev.system.interrupts import Interrupts
 from netrev.timeline.cell_runs import Window
 from netrev.timeline.page import plain_json
 from netrev.timeline.picture import Shown, collected, part_of
 
-from .serving import Unavailable
+from .serving import UnavailableError
 
 CODE = f"import sys; sys.path[:0] = {sys.path!r}; from nrdb.web.painting import paint; paint(*sys.argv[1:])"
 MOST_WAITING = 16
@@ -46,12 +46,12 @@ class Painter:
         self._thread: Optional[Thread] = None
 
     def ask(self, window: Wanted) -> "Future[bytes]":
-        """The picture as JSON. The Future raises Unavailable if the picture can't be made."""
+        """The picture as JSON. The Future raises UnavailableError if the picture can't be made."""
         wanted: "Future[bytes]" = Future()
         try:
             self._wanted.put_nowait((window, wanted))
         except Full:
-            raise Unavailable(texts.TOO_MANY_PICTURES.format(most=MOST_WAITING)) from None
+            raise UnavailableError(texts.TOO_MANY_PICTURES.format(most=MOST_WAITING)) from None
         if self._thread is None:
             self._thread = Thread(target=self._run, daemon=True)
             self._thread.start()
@@ -70,7 +70,7 @@ class Painter:
                 continue
             try:
                 wanted.set_result(self._picture(window))
-            except Unavailable as why:
+            except UnavailableError as why:
                 wanted.set_exception(why)
 
     def _picture(self, window: Wanted) -> bytes:
@@ -98,9 +98,9 @@ class Painter:
         while (line := process.stdout.readline()).startswith(TELLS):
             self._tell(json.loads(line[1:]))
         if not line:
-            raise Unavailable(texts.TIMELINE_ENDED)
+            raise UnavailableError(texts.TIMELINE_ENDED)
         if line.startswith(FAILS):
-            raise Unavailable(json.loads(line[1:]))
+            raise UnavailableError(json.loads(line[1:]))
         return line
 
 
@@ -123,7 +123,7 @@ def paint(program: str, path: str) -> None:
             answer(shown, line)
     except (BrokenPipeError, KeyboardInterrupt):
         pass
-    except (Lost, NoRecording, OSError) as why:
+    except (ScoutUnavailableError, NotARecordingError, OSError) as why:
         say(FAILS, str(why))
     finally:
         scout.drop()
@@ -136,7 +136,7 @@ def answer(shown: Shown, line: str) -> None:
     wanted = json.loads(line)
     try:
         data = collected(shown) if wanted is None else part_of(shown, Window(*wanted))
-    except (Lost, Misused, Refused) as why:
+    except (ScoutUnavailableError, UsageError, LineRefusedError) as why:
         return say(FAILS, str(why))
     sys.stdout.write(plain_json(data) + "\n")
     sys.stdout.flush()

@@ -7,6 +7,7 @@ from dataclasses import dataclass
 from http import HTTPStatus
 from typing import Mapping
 
+from netrev.errors import NetrevError
 from netrev.messages import browsers as texts
 
 LONGEST_LINE = 256  # the maximum number of bytes in a line that netrev accepts
@@ -22,7 +23,7 @@ LENGTH = re.compile(r"\d{1,18}")
 FROM_TO = re.compile(r"(\d{1,18})-(\d{1,18})")
 
 
-class Rejected(Exception):
+class RejectedRequestError(NetrevError):
     """Raised for a rejected request, with the status and the reason."""
 
     def __init__(self, status: HTTPStatus, why: str):
@@ -41,26 +42,26 @@ class Request:
 
     @classmethod
     def of(cls, head: bytes) -> "Request":
-        """The request in the bytes up to the empty line; raises Rejected if the request is malformed. No header may
+        """The request in the bytes up to the empty line; raises RejectedRequestError if the request is malformed. No header may
         occur twice, because two parsers could choose different values."""
         first, *lines = head.decode("latin-1").removesuffix("\r\n\r\n").split("\r\n")
         asked = FIRST_LINE.fullmatch(first)
         found = [HEADER.fullmatch(line) for line in lines]
         headers = {one[1].lower(): one[2].rstrip(" \t") for one in found if one}
         if asked is None or len(headers) < len(lines):
-            raise Rejected(HTTPStatus.BAD_REQUEST, texts.NOT_A_REQUEST)
+            raise RejectedRequestError(HTTPStatus.BAD_REQUEST, texts.NOT_A_REQUEST)
         path, _, query = asked[2].partition("?")
         return cls(asked[1], path, query, headers)
 
     def length(self) -> int:
-        """The length of the request's body; raises Rejected if the length is missing or too large."""
+        """The length of the request's body; raises RejectedRequestError if the length is missing or too large."""
         said = self.headers.get("content-length", "" if self.method == "POST" else "0")
         if "transfer-encoding" in self.headers or not said:
-            raise Rejected(HTTPStatus.LENGTH_REQUIRED, texts.NO_LENGTH)
+            raise RejectedRequestError(HTTPStatus.LENGTH_REQUIRED, texts.NO_LENGTH)
         if not LENGTH.fullmatch(said):
-            raise Rejected(HTTPStatus.BAD_REQUEST, texts.BAD_LENGTH)
+            raise RejectedRequestError(HTTPStatus.BAD_REQUEST, texts.BAD_LENGTH)
         if int(said) > (LONGEST_LINE if self.method == "POST" else 0):
-            raise Rejected(HTTPStatus.REQUEST_ENTITY_TOO_LARGE, texts.LONG_LINE.format(most=LONGEST_LINE))
+            raise RejectedRequestError(HTTPStatus.REQUEST_ENTITY_TOO_LARGE, texts.LONG_LINE.format(most=LONGEST_LINE))
         return int(said)
 
 
@@ -72,18 +73,18 @@ class Gate:
         self._token = token.encode("ascii")
 
     def check(self, request: Request) -> None:
-        """Raises Rejected unless the request is admitted."""
+        """Raises RejectedRequestError unless the request is admitted."""
         if request.headers.get("host") not in self._hosts:
-            raise Rejected(HTTPStatus.FORBIDDEN, texts.OTHER_HOST)
+            raise RejectedRequestError(HTTPStatus.FORBIDDEN, texts.OTHER_HOST)
         if request.headers.get("origin", f"http://{self._hosts[0]}") not in [f"http://{host}" for host in self._hosts]:
-            raise Rejected(HTTPStatus.FORBIDDEN, texts.OTHER_ORIGIN)
+            raise RejectedRequestError(HTTPStatus.FORBIDDEN, texts.OTHER_ORIGIN)
         if request.path not in METHODS:
-            raise Rejected(HTTPStatus.NOT_FOUND, texts.NOT_FOUND)
+            raise RejectedRequestError(HTTPStatus.NOT_FOUND, texts.NOT_FOUND)
         if request.method != METHODS[request.path]:
             says = texts.OTHER_METHOD.format(path=request.path, method=METHODS[request.path])
-            raise Rejected(HTTPStatus.METHOD_NOT_ALLOWED, says)
+            raise RejectedRequestError(HTTPStatus.METHOD_NOT_ALLOWED, says)
         if not self._has_token(request):
-            raise Rejected(HTTPStatus.FORBIDDEN, texts.NO_TOKEN)
+            raise RejectedRequestError(HTTPStatus.FORBIDDEN, texts.NO_TOKEN)
 
     def _has_token(self, request: Request) -> bool:
         """Whether the token is where this request must have it."""
@@ -98,19 +99,19 @@ class Gate:
 
 
 def line_of(body: bytes) -> str:
-    """The line in a body; raises Rejected if the body isn't exactly one line."""
+    """The line in a body; raises RejectedRequestError if the body isn't exactly one line."""
     try:
         line = body.decode("utf-8")
     except UnicodeDecodeError:
         line = "\0"
     if not line.isprintable():
-        raise Rejected(HTTPStatus.BAD_REQUEST, texts.BAD_LINE)
+        raise RejectedRequestError(HTTPStatus.BAD_REQUEST, texts.BAD_LINE)
     return line
 
 
 def positions_of(request: Request) -> tuple[int, int]:
-    """The first and the last position of the requested part; raises Rejected if either is missing."""
+    """The first and the last position of the requested part; raises RejectedRequestError if either is missing."""
     named = FROM_TO.fullmatch(request.headers.get(POSITIONS, ""))
     if named is None:
-        raise Rejected(HTTPStatus.BAD_REQUEST, texts.BAD_PART)
+        raise RejectedRequestError(HTTPStatus.BAD_REQUEST, texts.BAD_PART)
     return int(named[1]), int(named[2])

@@ -9,14 +9,14 @@ from concurrent.futures import Future
 from pathlib import Path
 from typing import Callable, Optional
 
-from netrev.connection.errors import Mismatched, unexpected
-from netrev.connection.netrev import Ended, Netrev
+from netrev.connection.errors import MismatchedRecordingError, unexpected
+from netrev.connection.netrev import NetrevEndedError, Netrev
 from netrev.connection.output import Printer
-from netrev.connection.shapes import Refused, Strange
+from netrev.connection.shapes import LineRefusedError, StrangeReplyError
 from netrev.messages import browsers as texts
-from netrev.recording.recording import NoRecording
+from netrev.recording.recording import NotARecordingError
 from netrev.session.session import Session
-from netrev.system.interrupts import GivenUp, Interrupted
+from netrev.system.interrupts import SessionAbandonedError, SearchInterruptedError
 from netrev.timeline.cell_runs import Window
 from netrev.timeline.picture import MOST
 from nrdb.prompt.completion import completions
@@ -24,7 +24,7 @@ from nrdb.prompt.completion import completions
 from .document import document
 from .painting import Painter, Wanted
 from .requests import Gate
-from .serving import LOOPBACK, Server, Unavailable, listening
+from .serving import LOOPBACK, Server, UnavailableError, listening
 from .shared import Shared
 from .streams import Streams
 
@@ -81,14 +81,14 @@ class Running:
     # --- for the server's thread
 
     def post(self, who: str, line: str) -> None:
-        """Queues a line. The answer follows in events. Raises Unavailable if netrev is gone or too many lines are
+        """Queues a line. The answer follows in events. Raises UnavailableError if netrev is gone or too many lines are
         waiting."""
         if self._gone:
-            raise Unavailable(self._gone)
+            raise UnavailableError(self._gone)
         self._take(lambda: self._answer(who, line))
 
     def complete(self, line: str) -> "Future[bytes]":
-        """The completions of the last word of a line, as JSON; raises Unavailable if too many lines are waiting."""
+        """The completions of the last word of a line, as JSON; raises UnavailableError if too many lines are waiting."""
         wanted: "Future[bytes]" = Future()
 
         def answer() -> None:
@@ -102,25 +102,25 @@ class Running:
         return wanted
 
     def timeline(self) -> "Future[bytes]":
-        """The timeline's data, as JSON; raises Unavailable if it can't be made."""
+        """The timeline's data, as JSON; raises UnavailableError if it can't be made."""
         return self._picture(None)
 
     def part(self, first: int, last: int) -> "Future[bytes]":
-        """The timeline's data of these positions, as JSON; raises Unavailable if they can't be made."""
+        """The timeline's data of these positions, as JSON; raises UnavailableError if they can't be made."""
         if not 0 <= first <= last <= min(self.session.length, first + MOST):
-            raise Unavailable(texts.PART_IS_LARGE.format(most=MOST, length=self.session.length))
+            raise UnavailableError(texts.PART_IS_LARGE.format(most=MOST, length=self.session.length))
         return self._picture(Window(first, last))
 
     def _picture(self, window: Wanted) -> "Future[bytes]":
         if self._painter is None:
-            raise Unavailable(texts.TIMELINE_NEEDS_RECORDING)
+            raise UnavailableError(texts.TIMELINE_NEEDS_RECORDING)
         return self._painter.ask(window)
 
     def _take(self, work: Callable[[], None]) -> None:
         try:
             self._work.put_nowait(work)
         except queue.Full:
-            raise Unavailable(texts.TOO_MANY_LINES.format(most=MOST_WAITING)) from None
+            raise UnavailableError(texts.TOO_MANY_LINES.format(most=MOST_WAITING)) from None
 
     # --- for the session's thread
 
@@ -161,11 +161,11 @@ class Running:
         """Runs a function that uses netrev; netrev may end in the meantime."""
         try:
             does()
-        except NoRecording as wrong:
+        except NotARecordingError as wrong:
             self.session.printer.note(str(wrong))
-        except (Ended, Strange) as why:
-            self._lose(str(why) if isinstance(why, Strange) else GONE)
-        except (GivenUp, Interrupted, OSError):
+        except (NetrevEndedError, StrangeReplyError) as why:
+            self._lose(str(why) if isinstance(why, StrangeReplyError) else GONE)
+        except (SessionAbandonedError, SearchInterruptedError, OSError):
             raise
         except Exception as error:
             self.session.printer.note(unexpected(error))
@@ -185,8 +185,8 @@ class Running:
             self.session.begin_anew(self._opened(self.session.printer))
         except OSError:
             return
-        except (Ended, Mismatched, Refused, Strange) as why:
-            self._lose(GONE if isinstance(why, Ended) else str(why))
+        except (NetrevEndedError, MismatchedRecordingError, LineRefusedError, StrangeReplyError) as why:
+            self._lose(GONE if isinstance(why, NetrevEndedError) else str(why))
             return
         self._gone, self._pause = "", EVERY
         self._streams.tell("netrev", there=True, says=texts.NETREV_IS_BACK)

@@ -9,10 +9,23 @@ from contextlib import suppress
 from http import HTTPStatus
 from typing import Protocol
 
+from netrev.errors import NetrevError
 from netrev.messages import browsers as texts
 
 from .document import Document
-from .requests import BROWSER, COMPLETE, EVENTS, LINE, PAGE, PART, Gate, Rejected, Request, line_of, positions_of
+from .requests import (
+    BROWSER,
+    COMPLETE,
+    EVENTS,
+    LINE,
+    PAGE,
+    PART,
+    Gate,
+    RejectedRequestError,
+    Request,
+    line_of,
+    positions_of,
+)
 from .streams import Stream, Streams
 from .wire import EVENT_STREAM, JSON, LONGEST_HEAD, Wire
 
@@ -25,7 +38,7 @@ BEGINNING = b"retry: 1000\n\n"
 UNAVAILABLE = HTTPStatus.SERVICE_UNAVAILABLE
 
 
-class Unavailable(Exception):
+class UnavailableError(NetrevError):
     """Raised, with the reason, if the requested data aren't available now."""
 
 
@@ -33,16 +46,16 @@ class Runner(Protocol):
     """The part of a session's runner that the server calls. Each call returns at once."""
 
     def post(self, who: str, line: str) -> None:
-        """Queues a line. The answer follows in events. Raises Unavailable if the line can't be queued."""
+        """Queues a line. The answer follows in events. Raises UnavailableError if the line can't be queued."""
 
     def complete(self, line: str) -> "Future[bytes]":
-        """The completions of the last word of a line, as JSON; raises Unavailable if the session can't find any."""
+        """The completions of the last word of a line, as JSON; raises UnavailableError if the session can't find any."""
 
     def timeline(self) -> "Future[bytes]":
-        """The timeline's data, as JSON; raises Unavailable if it can't be made."""
+        """The timeline's data, as JSON; raises UnavailableError if it can't be made."""
 
     def part(self, first: int, last: int) -> "Future[bytes]":
-        """The timeline's data of these positions, as JSON; raises Unavailable if they can't be made."""
+        """The timeline's data of these positions, as JSON; raises UnavailableError if they can't be made."""
 
 
 def listening(port: int) -> socket.socket:
@@ -127,15 +140,15 @@ class Server:
         with suppress(ConnectionError, EOFError):
             try:
                 if is_full:
-                    raise Rejected(UNAVAILABLE, texts.TOO_MANY_REQUESTS)
+                    raise RejectedRequestError(UNAVAILABLE, texts.TOO_MANY_REQUESTS)
                 request = await wire.head()
                 self._gate.check(request)
                 body = await wire.body(request.length())
                 self._asking.pop(task, None)
                 await self._answer(wire, request, body)
-            except Rejected as why:
+            except RejectedRequestError as why:
                 await wire.answer(why.status, str(why).encode("utf-8"))
-            except Unavailable as why:
+            except UnavailableError as why:
                 await wire.answer(UNAVAILABLE, str(why).encode("utf-8"))
         self._asking.pop(task, None)
         self._closing[task] = None

@@ -7,10 +7,10 @@ from typing import Any, Optional, Protocol, Sequence
 from netrev.connection.collected_output import Collecting
 from netrev.connection.netrev import Netrev, Reply
 from netrev.connection.output import Place, Table
-from netrev.connection.shapes import Listed, Position, Refused
+from netrev.connection.shapes import Listed, Position, LineRefusedError
 from netrev.messages import browsers as texts
 from netrev.session.commands import whole_words
-from netrev.session.session import Answering, Misused, Session
+from netrev.session.session import Answering, UsageError, Session
 from nrdb.prompt.answers import ANSWERS, answer_list
 
 OTHERS = "another front"
@@ -28,7 +28,7 @@ def refusing(why: str) -> Answering:
     """The answer to a command that the page doesn't allow."""
 
     def answer(session: Session, words: list[str]) -> None:
-        raise Misused(why)
+        raise UsageError(why)
 
     return answer
 
@@ -103,7 +103,7 @@ class Shared(Session):
 
     def answer(self, line: str) -> bool:
         if whole_words(line.split())[0] == "quit":
-            raise Misused(texts.NO_QUIT)
+            raise UsageError(texts.NO_QUIT)
         return super().answer(line)
 
     def arrive(self, position: int, numbers: Sequence[str] = (), stood: Sequence[Listed] = ()) -> None:
@@ -119,7 +119,7 @@ class Shared(Session):
         try:
             now = self.stands()
             marks = self.netrev.marks()
-        except Refused:
+        except LineRefusedError:
             return
         self._tell_move(OTHERS, None, now.position)
         self.stood = now.position

@@ -11,7 +11,7 @@ from typing import Any, Callable, Iterator
 from netrev.messages import browsers as texts
 from netrev.timeline.page import plain_json
 
-from .requests import Rejected
+from .requests import RejectedRequestError
 
 MOST_STREAMS = 16
 MOST_KEPT, KEPT_BYTES = 400, 2**20  # the maximum number of events stored for later browsers, and of their bytes
@@ -95,9 +95,11 @@ class Streams:
 
     @contextmanager
     def joined(self) -> Iterator[Stream]:
-        """A context with a browser's event stream; raises Rejected if too many browsers listen."""
+        """A context with a browser's event stream; raises RejectedRequestError if too many browsers listen."""
         if len(self._streams) >= MOST_STREAMS:
-            raise Rejected(HTTPStatus.SERVICE_UNAVAILABLE, texts.TOO_MANY_BROWSERS.format(most=MOST_STREAMS))
+            raise RejectedRequestError(
+                HTTPStatus.SERVICE_UNAVAILABLE, texts.TOO_MANY_BROWSERS.format(most=MOST_STREAMS)
+            )
         stream = Stream(next(self._numbers))
         you = {"event": "you", "who": stream.name, "number": stream.number, "recording": self._recording or None}
         stream.put(b"".join([message(you), *self._kept, *self._states.values()]))

@@ -7,7 +7,7 @@ from http import HTTPStatus
 
 from netrev.messages import browsers as texts
 
-from .requests import Rejected, Request
+from .requests import RejectedRequestError, Request
 
 LONGEST_HEAD = 8_192  # the maximum number of bytes before a body
 IN_TIME = 5.0  # how many seconds a request may take to arrive, and a part of the response to be accepted
@@ -33,26 +33,26 @@ class Wire:
         self._headers = ALWAYS | {"Content-Security-Policy": policy}
 
     async def head(self) -> Request:
-        """The request without its body. Raises Rejected if the request doesn't arrive completely in time, and EOFError
+        """The request without its body. Raises RejectedRequestError if the request doesn't arrive completely in time, and EOFError
         if no byte arrives."""
         try:
             head = await asyncio.wait_for(self._reader.readuntil(b"\r\n\r\n"), IN_TIME)
         except asyncio.LimitOverrunError:
-            raise Rejected(HTTPStatus.REQUEST_HEADER_FIELDS_TOO_LARGE, texts.LONG_HEADERS) from None
+            raise RejectedRequestError(HTTPStatus.REQUEST_HEADER_FIELDS_TOO_LARGE, texts.LONG_HEADERS) from None
         except asyncio.TimeoutError:
-            raise Rejected(HTTPStatus.REQUEST_TIMEOUT, texts.SLOW_REQUEST) from None
+            raise RejectedRequestError(HTTPStatus.REQUEST_TIMEOUT, texts.SLOW_REQUEST) from None
         except asyncio.IncompleteReadError as ended:
             if ended.partial:
-                raise Rejected(HTTPStatus.BAD_REQUEST, texts.NOT_A_REQUEST) from None
+                raise RejectedRequestError(HTTPStatus.BAD_REQUEST, texts.NOT_A_REQUEST) from None
             raise
         return Request.of(head)
 
     async def body(self, length: int) -> bytes:
-        """The next `length` bytes of the body; raises Rejected if they don't arrive in time."""
+        """The next `length` bytes of the body; raises RejectedRequestError if they don't arrive in time."""
         try:
             return await asyncio.wait_for(self._reader.readexactly(length), IN_TIME)
         except (asyncio.TimeoutError, asyncio.IncompleteReadError):
-            raise Rejected(HTTPStatus.REQUEST_TIMEOUT, texts.SLOW_LINE) from None
+            raise RejectedRequestError(HTTPStatus.REQUEST_TIMEOUT, texts.SLOW_LINE) from None
 
     async def answer(self, status: HTTPStatus, body: bytes, sort: str = PLAIN) -> None:
         """Answers the request."""

@@ -13,7 +13,7 @@ from unittest.mock import patch
 import pytest
 
 from netrev.connection.collected_output import Collecting
-from netrev.system.interrupts import GivenUp, Interrupted, Interrupts
+from netrev.system.interrupts import SessionAbandonedError, SearchInterruptedError, Interrupts
 from nrdb.dap import hearing, moving, working
 from nrdb.dap.go_lines import GoLines
 from nrdb.dap.hearing import Hearing
@@ -22,9 +22,9 @@ from nrdb.dap.marks import Marks, Sort
 from nrdb.dap.moving import Moves, Stop
 from nrdb.dap.view.debuggee import Debuggee
 from nrdb.dap.view.filters import Filters
-from nrdb.dap.view.messages import Malformed, Request, Wire
+from nrdb.dap.view.messages import MalformedMessageError, Request, Wire
 from nrdb.dap.view.roots import Roots
-from nrdb.dap.wishes import HitCount, Unset, Wish, wish_of
+from nrdb.dap.wishes import HitCount, BreakpointError, Wish, wish_of
 from nrdb.dap.working import Work
 from tests.prompt.test_program_places import FILE, session_of
 
@@ -108,18 +108,25 @@ class Heard(unittest.TestCase):
         for number, work in enumerate((busy, polled, rules, unanswered)):
             with self.subTest(work=work.__name__):
                 self.interrupts = Interrupts()
-                self.stopped(self.asked(framed(number, "continue")), work, framed(100 + number, "terminate"), GivenUp)
+                self.stopped(
+                    self.asked(framed(number, "continue")),
+                    work,
+                    framed(100 + number, "terminate"),
+                    SessionAbandonedError,
+                )
                 ending = self.hearing.request()
                 assert ending is not None
                 with self.hearing.work(ending, self.interrupts):
                     self.assertEqual(ending.command, "terminate")
         self.interrupts = Interrupts()
-        self.stopped(self.asked(framed(7, "variables")), busy, framed(8, "disconnect"), GivenUp)
+        self.stopped(self.asked(framed(7, "variables")), busy, framed(8, "disconnect"), SessionAbandonedError)
 
     @pytest.mark.alone
     def test_a_pause_and_a_cancel_stop_what_can_be_stopped(self) -> None:
         for number, work in enumerate((polled, rules), 1):
-            self.stopped(self.asked(framed(number, "continue")), work, framed(10 + number, "pause"), Interrupted)
+            self.stopped(
+                self.asked(framed(number, "continue")), work, framed(10 + number, "pause"), SearchInterruptedError
+            )
             paused = self.hearing.request()
             assert paused is not None
             with self.hearing.work(paused, self.interrupts):
@@ -127,7 +134,7 @@ class Heard(unittest.TestCase):
         names: tuple[tuple[int, dict[str, Any]], ...] = ((20, {"requestId": 20}), (21, {"progressId": "netrev-21"}))
         for number, named in names:
             request = self.asked(framed(number, "variables"))
-            self.stopped(request, polled, framed(30 + number, "cancel", **named), Interrupted)
+            self.stopped(request, polled, framed(30 + number, "cancel", **named), SearchInterruptedError)
             cancel = self.hearing.request()
             assert cancel is not None
             with self.hearing.work(cancel, self.interrupts):
@@ -147,7 +154,7 @@ class Heard(unittest.TestCase):
     def test_what_was_heard_before_a_move_begins_stops_it(self) -> None:
         request = self.asked(framed(1, "continue"), framed(2, "pause"))
         time.sleep(0.1)
-        with self.assertRaises(Interrupted), self.hearing.work(request, self.interrupts):
+        with self.assertRaises(SearchInterruptedError), self.hearing.work(request, self.interrupts):
             self.interrupts.check()
 
     def test_behind_an_end_and_a_cancel_nothing_is_begun(self) -> None:
@@ -183,7 +190,7 @@ class Heard(unittest.TestCase):
     def test_what_is_no_message_comes_in_its_turn(self) -> None:
         request = self.asked(framed(1, "threads"), b"Hello\r\n\r\n")
         self.assertEqual(request.command, "threads")
-        self.assertRaises(Malformed, self.hearing.request)
+        self.assertRaises(MalformedMessageError, self.hearing.request)
 
     def test_of_what_waits_so_much_is_held(self) -> None:
         """When there is room again, messages are read even from a sender that never stops."""
@@ -319,11 +326,11 @@ class Wishes(unittest.TestCase):
         ):  # fmt: skip
             self.assertEqual(Wish("", times=HitCount.of(text)).stops(self.session, range(10)), wanted, text)
         for wrong in ("often", "% 0", "-1", "3 times", "1.5"):
-            self.assertRaises(Unset, HitCount.of, wrong)
+            self.assertRaises(BreakpointError, HitCount.of, wrong)
 
     def test_a_wish_that_cannot_be_is_told(self) -> None:
         for asked in ({"hitCondition": "x"}, {"condition": "x"}, {"logMessage": "at {nowhere}"}):
-            self.assertIsInstance(wish_of("rwlock", asked), Unset, asked)
+            self.assertIsInstance(wish_of("rwlock", asked), BreakpointError, asked)
 
     def test_messages_are_told_on_the_way_in_its_order(self) -> None:
         points = LogPoints(self.session)

@@ -13,7 +13,7 @@ from nrdb.dap.marks import Marks, Sort
 from nrdb.dap.moving import AT_THE_END, Moves, Stop, text_of
 from nrdb.dap.view import filters, memory
 from nrdb.dap.view.filters import Failure, Filter, Filters
-from nrdb.dap.view.messages import Request, Unanswerable
+from nrdb.dap.view.messages import Request, UnanswerableError
 from nrdb.dap.view.numbering import Numbering
 from nrdb.dap.wishes import wish_of
 
@@ -58,7 +58,7 @@ def test_bytes_of_a_buffer(
     [("in", 1), ("in 2 3", 1), ("in x", 1), ("lock 2", 1), ("in 3", 1), ("in 2", -1), ("rq 2", 1), ("", 1)],
 )
 def test_memory_that_has_no_bytes(named: str, count: int) -> None:
-    with pytest.raises(Unanswerable):
+    with pytest.raises(UnanswerableError):
         read(named, count)
 
 

@@ -24,7 +24,7 @@ from nrdb.dap.target import AT_END, AT_START, Launch
 from nrdb.dap.view import debuggee
 from nrdb.dap.view.debuggee import Debuggee
 from nrdb.dap.view.looking import GOIDS, NETWORK, maker_of, thread_of
-from nrdb.dap.view.messages import Request, Unanswerable, Wire
+from nrdb.dap.view.messages import Request, UnanswerableError, Wire
 from tests.suspects.test_suspects import COMES, OPEN, READ, recording_of
 
 from .test_dap_heard import framed, messages_in
@@ -93,7 +93,7 @@ class _Unoptioned(socket.socket):
 def test_the_address_of_an_attach(address: str, wanted: Optional[tuple[str, int]]) -> None:
     request = Request(1, "attach", {"program": "x.jsonl", "address": address})
     if wanted is None:
-        with pytest.raises(Unanswerable):
+        with pytest.raises(UnanswerableError):
             Launch.of_attach(request)
     else:
         assert Launch.of_attach(request).address == wanted
@@ -107,7 +107,7 @@ def test_where_a_launch_stops(stop_at: Any, is_taken: bool) -> None:
     if is_taken:
         assert Launch.of(request).stop_at == stop_at
     else:
-        with pytest.raises(Unanswerable):
+        with pytest.raises(UnanswerableError):
             Launch.of(request)
     assert Launch.of(Request(1, "launch", {"program": "x.jsonl"})).stop_at == AT_END
 
@@ -271,7 +271,7 @@ def test_threads_are_numbered_from_1(thread: int, maker: Optional[int]) -> None:
 
 @pytest.mark.parametrize("thread", [0, -1, NETWORK + 1, GOIDS, GOIDS + 1])
 def test_threads_that_no_goroutine_has(thread: int) -> None:
-    with pytest.raises(Unanswerable) as refused:
+    with pytest.raises(UnanswerableError) as refused:
         maker_of(thread)
     assert ("goid 1 " in str(refused.value)) == (thread == GOIDS + 1)
 
@@ -290,5 +290,5 @@ def test_a_part_of_a_list(arguments: dict[str, Any], shown: str) -> None:
 
 @pytest.mark.parametrize("arguments", [{"start": -1}, {"count": -1}, {"start": "1"}, {"count": 1.5}])
 def test_a_part_that_is_none(arguments: dict[str, Any]) -> None:
-    with pytest.raises(Unanswerable):
+    with pytest.raises(UnanswerableError):
         page(Request(1, "variables", arguments), [], "start", "count")

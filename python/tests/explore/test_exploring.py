@@ -15,7 +15,7 @@ from netrev.explore.player import Player
 from netrev.explore.schedules import Schedule, drawn, schedules, single_delays, touched
 from netrev.explore.scripts.arrivals import with_events
 from netrev.explore.scripts.making import script_of
-from netrev.explore.scripts.runs import Delay, Impossible
+from netrev.explore.scripts.runs import Delay, ImpossibleScheduleError
 from netrev.explore.scripts.scripts import Script
 from netrev.explore.sentences import LEFT_UNKNOWN, UNKNOWN, UNLESS, Telling, summary
 from netrev.findings.suspects.ranking import suspects_of
@@ -25,8 +25,8 @@ from netrev.recording.recording import Recording
 from netrev.run.calls import book_of
 from netrev.run.flow import Sort
 from netrev.run.modelled_changes import PlayedSteps
-from netrev.session.session import Misused
-from netrev.system.interrupts import Interrupted
+from netrev.session.session import UsageError
+from netrev.system.interrupts import SearchInterruptedError
 from netrev.text.contents import Limits
 from netrev.text.vocabulary import KINDS
 from netrev.text.writing import line_of
@@ -204,7 +204,7 @@ class Delays(unittest.TestCase):
     def test_a_step_that_cannot_be_is_no_schedule(self) -> None:
         script = script_of(recording_of(GOOD))
         script.limits = script.limits._replace(sock=0)
-        with self.assertRaises(Impossible):
+        with self.assertRaises(ImpossibleScheduleError):
             Player(script).end(100)
 
 
@@ -290,11 +290,11 @@ class Words(unittest.TestCase):
 
     def test_a_recording_that_is_too_long_is_refused(self) -> None:
         session = Mock(text=lambda: Mock(length=100_001))
-        with self.assertRaisesRegex(Misused, "explore takes at most 100000 steps"):
+        with self.assertRaisesRegex(UsageError, "explore takes at most 100000 steps"):
             commands.explored(session)
 
     def test_ctrl_c_keeps_what_was_found(self) -> None:
-        stops: Any = [*(None for _ in range(38)), Interrupted]
+        stops: Any = [*(None for _ in range(38)), SearchInterruptedError]
         session = Mock(text=lambda: self.recording, program="netrev")
         session.interrupts.check.side_effect = islice(stops, None)
         with patch.object(commands, "answered_recording", lambda *_: self.recording):

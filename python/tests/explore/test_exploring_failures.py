@@ -14,7 +14,7 @@ from netrev.explore.sentences import Telling
 from netrev.recording.recording import Recording
 from netrev.recording.where import Lines
 from netrev.run.calls import book_of
-from netrev.session.session import Misused
+from netrev.session.session import UsageError
 from tests.suspects.test_suspects import OPEN, Steps, recording_of
 from tests.trials.go_caused import NAMES, SOURCE
 
@@ -153,5 +153,5 @@ class Words(unittest.TestCase):
                 commands.answer_explore(Mock(), line.split())
         self.assertEqual(taken, [(3_000, False), (5, False), (3_000, True), (5, True)])
         for line in ("failure", "5 failures", "failures 0"):
-            with self.assertRaises(Misused):
+            with self.assertRaises(UsageError):
                 commands.answer_explore(Mock(), line.split())

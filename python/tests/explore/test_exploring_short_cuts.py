@@ -14,7 +14,7 @@ from netrev.explore.schedules import Schedule, schedules
 from netrev.explore.scripts.board import Board
 from netrev.explore.scripts.control import GOROUTINE, Place
 from netrev.explore.scripts.making import script_of
-from netrev.explore.scripts.runs import Delay, Impossible, Made
+from netrev.explore.scripts.runs import Delay, ImpossibleScheduleError, Made
 from netrev.machine.machine import Status
 from netrev.machine.steps import apply
 from netrev.recording.recording import Recording
@@ -69,7 +69,7 @@ def outcome(exploring: Exploring, schedule: Schedule) -> Any:
     keys = exploring.play(schedule)
     try:
         return keys, exploring.ends_of(schedule.delays)
-    except Impossible as impossible:
+    except ImpossibleScheduleError as impossible:
         return keys, str(impossible)
 
 

@@ -13,7 +13,7 @@ from netrev.explore.findings import Exploring
 from netrev.explore.scripts.making import script_of
 from netrev.explore.sentences import summary
 from netrev.explore.workers import Share, play_all
-from netrev.system.interrupts import Interrupted
+from netrev.system.interrupts import SearchInterruptedError
 
 from .test_exploring import EXAMPLES, answered
 
@@ -84,9 +84,9 @@ class Workers(unittest.TestCase):
 
         def tell() -> None:
             if exploring.times:
-                raise Interrupted
+                raise SearchInterruptedError
 
-        with self.assertRaises(Interrupted):
+        with self.assertRaises(SearchInterruptedError):
             play_all(exploring, Share(self.script, self.recording.lines, 100_000, 0, 2), tell)
         self.assertEqual(set(exploring.found), set(exploring.times))
         self.assertLess(0, exploring.played)

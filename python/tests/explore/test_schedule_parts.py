@@ -14,7 +14,7 @@ from netrev.explore.player import Player
 from netrev.explore.schedules import Schedule
 from netrev.explore.scripts.actors import MOST_TRIES, Others
 from netrev.explore.scripts.board import Board
-from netrev.explore.scripts.control import CLOCK, GOROUTINE, NETWORK, NEVER, NotMade, Numbers, Place
+from netrev.explore.scripts.control import CLOCK, GOROUTINE, NETWORK, NEVER, MissingObjectError, Numbers, Place
 from netrev.explore.scripts.making import script_of
 from netrev.explore.scripts.orders import Passing, Waiting, causes_of, orders_of
 from netrev.explore.scripts.runs import Delay, Made
@@ -243,7 +243,7 @@ def test_an_events_tag_is_as_far_from_its_descriptors(tag: int, given: int) -> N
 @pytest.mark.parametrize("action", [item("arrive", 6, b"a"), item("drain", 0, 1), item("pollevent", 2, 1, "r", 0)])
 def test_an_action_waits_for_its_object(action: Item) -> None:
     others, board, numbers = begun([], [0, 0])
-    with pytest.raises(NotMade):
+    with pytest.raises(MissingObjectError):
         others.steps_of(action, board, numbers)
 
 

@@ -5,7 +5,7 @@ import pytest
 from netrev.explore.scripts.board import Board
 from netrev.explore.scripts.control import (
     NEVER,
-    NotMade,
+    MissingObjectError,
     Numbers,
     Place,
     Stream,
@@ -142,7 +142,7 @@ def test_the_next_step_names_the_objects_of_the_schedule(
 
 @pytest.mark.parametrize("operation", [Operation(Sort.LOCK, 6, side="r"), Operation(Sort.RESET, 5, 4, "r")])
 def test_a_step_waits_for_its_object(operation: Operation) -> None:
-    with pytest.raises(NotMade):
+    with pytest.raises(MissingObjectError):
         next_step(board_of(), numbers_of(), 1, Place(), operation, None)
 
 

@@ -14,7 +14,7 @@ from dev.recorder.readiness import Standing
 from netrev.messages import recorder as messages
 from netrev_go import cli, doctor, options, tested, testing
 from netrev_go.go_command import outputs, status
-from netrev_go.go_command.toolchain import Trouble
+from netrev_go.go_command.toolchain import RecorderError
 from netrev_go.log import lines
 from netrev_go.steps import goroutine_lines
 from netrev_go.steps.goroutine_lines import Everybody
@@ -39,7 +39,7 @@ def test_an_overlay_of_the_user_s_own_is_refused(
     monkeypatch.setattr(cli, "ready", lambda go: "/o.json")
     go = cast(Any, Made(flags=own))
     if is_taken:
-        with pytest.raises(Trouble):
+        with pytest.raises(RecorderError):
             cli.flags(go, words)
     else:
         assert cli.flags(go, words) == ["-overlay", "/o.json", "-gcflags=-l"]
@@ -267,7 +267,7 @@ def test_how_far_a_program_s_code_is_moved(tmp_path: Path, size: int, moved: int
 
 
 def test_a_folder_without_room_for_recordings_is_refused() -> None:
-    with pytest.raises(Trouble, match="/proc/nowhere"):
+    with pytest.raises(RecorderError, match="/proc/nowhere"):
         outputs.look_folder(Path("/proc/nowhere"))
 
 
@@ -304,5 +304,5 @@ def test_the_limits_of_an_option(name: str, least: int, most: int) -> None:
     for value in (least, most):
         options.check(cast(Any, Made(**(usual | command | {name: value}))))
     for value in (least - 1, most + 1):
-        with pytest.raises(Trouble, match=f"from {least} to {most}"):
+        with pytest.raises(RecorderError, match=f"from {least} to {most}"):
             options.check(cast(Any, Made(**(usual | command | {name: value}))))

@@ -52,7 +52,7 @@ class FirstPrint(Run):
         return status
 
     def test_the_causes_are_printed_before_netrev_has_checked(self) -> None:
-        self.assertEqual(self.first(report.Late), 3)
+        self.assertEqual(self.first(report.LateError), 3)
         self.assertTrue(self.said[0][0].startswith(CAUSE), self.said[0])
         self.assertTrue(self.said[1][0].startswith("hung.jsonl: ok 9 steps; "), self.said[1])
         self.assertTrue(any("it takes long: `" in line for line in self.said[-1]), self.said[-1])

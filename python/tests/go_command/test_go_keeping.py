@@ -22,7 +22,7 @@ from netrev_go import cli, keeping
 from netrev_go.cli import Status
 from netrev_go.go_command.outputs import base_name, look
 from netrev_go.go_command.running import SIGNALS, logs_in
-from netrev_go.go_command.toolchain import Go, Trouble
+from netrev_go.go_command.toolchain import Go, RecorderError
 from netrev_go.log.points import Kind, Log
 from netrev_go.steps import making, report
 from netrev_go.steps.making import make
@@ -268,7 +268,7 @@ class Statuses(Run):
 
     def test_suspects_that_take_too_long_are_said_to(self) -> None:
         late = subprocess.TimeoutExpired("nrdb", 60)
-        with mock.patch("netrev_go.steps.asking.subprocess.run", side_effect=late), self.assertRaises(report.Late):
+        with mock.patch("netrev_go.steps.asking.subprocess.run", side_effect=late), self.assertRaises(report.LateError):
             report.suspects("netrev", pathlib.Path("a.jsonl"))
 
     def test_numbers_that_no_run_can_have_are_refused(self) -> None:
@@ -353,7 +353,7 @@ class Names(unittest.TestCase):
     def test_a_name_may_end_as_recordings_do(self) -> None:
         self.assertEqual(base_name("a/b.jsonl"), pathlib.Path("a/b"))
         self.assertEqual(base_name(None), pathlib.Path("recording"))
-        with self.assertRaises(Trouble):
+        with self.assertRaises(RecorderError):
             base_name(".jsonl")
 
     def test_looking_leaves_nothing(self) -> None:

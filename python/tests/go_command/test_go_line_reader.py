@@ -9,7 +9,7 @@ from unittest import mock
 from dev.fuzz.generators.logs import from_text
 from netrev_go import doctor, trying
 from netrev_go.go_command.line_reader import build_line_reader, kept, line_reader, shipped
-from netrev_go.go_command.toolchain import Go, Trouble
+from netrev_go.go_command.toolchain import Go, RecorderError
 from netrev_go.steps.converting import Wish, convert
 from tests.logs.test_go_logs import REAL
 from tests.support.folders import folder_of
@@ -74,7 +74,7 @@ class LineReader(unittest.TestCase):
 
     def test_where_go_can_not_build_it_that_is_said_and_go_is_asked_later(self) -> None:
         go = self.go("echo nothing to build with >&2; exit 1\n")
-        with self.assertRaisesRegex(Trouble, "couldn't build cmd/addr2line: nothing to build with"):
+        with self.assertRaisesRegex(RecorderError, "couldn't build cmd/addr2line: nothing to build with"):
             build_line_reader(go)
         self.assertIn("nothing to build with", doctor.reads_lines(go))
         self.assertEqual(line_reader(go)[1:], ["tool", "addr2line"])

@@ -9,7 +9,7 @@ from typing import ContextManager, NamedTuple
 from unittest import mock
 
 from netrev_go.go_command.running import MOST_POINTS, behind_the_folder, logs_folder, logs_in, process_of
-from netrev_go.go_command.toolchain import Trouble
+from netrev_go.go_command.toolchain import RecorderError
 from tests.support.folders import folder_of
 
 
@@ -46,14 +46,14 @@ class Room(unittest.TestCase):
 
     def test_no_room_is_said(self) -> None:
         said = rf"no log can be made in /dev/shm and {self.folder}: it needs 132 MB of free space. NETREV_LOGS names"
-        with self.assertRaisesRegex(Trouble, said):
+        with self.assertRaisesRegex(RecorderError, said):
             self.made_with(shm=2**27, other=2**27)
 
     def test_netrev_logs_names_the_folder(self) -> None:
         with with_room(shm=2**30, other=2**30), mock.patch.dict(os.environ, NETREV_LOGS=str(self.folder)):
             self.assertEqual(logs_folder(MOST_POINTS).parent, self.folder)
         with with_room(shm=2**30, other=2**20), mock.patch.dict(os.environ, NETREV_LOGS=str(self.folder)):
-            with self.assertRaisesRegex(Trouble, f"no log can be made in {self.folder}: it needs"):
+            with self.assertRaisesRegex(RecorderError, f"no log can be made in {self.folder}: it needs"):
                 logs_folder(MOST_POINTS)
 
     def test_gos_folder_comes_before_other_flags(self) -> None:

@@ -14,7 +14,7 @@ from unittest import mock
 
 from dev.fuzz.generators.logs import binary
 from netrev_go.go_command.running import log_of_process
-from netrev_go.go_command.toolchain import Trouble
+from netrev_go.go_command.toolchain import RecorderError
 from netrev_go.log.lines import OF_GO, OF_THE_PROGRAM, Call, Calls
 from netrev_go.log.logfile import HEADER_BYTES, Header, copy_of, log_of, read_log
 from netrev_go.log.notes import ARMED, PARKED
@@ -170,14 +170,14 @@ class Processes(unittest.TestCase):
 
     def test_one_without_a_log_has_to_be_built_for_it(self) -> None:
         with self.assertRaisesRegex(
-            Trouble, "writes no log: build it with `.*netrev-go build` and start it with NETREV_LOG=PATH"
+            RecorderError, "writes no log: build it with `.*netrev-go build` and start it with NETREV_LOG=PATH"
         ):
             log_of_process(self.started("import time; time.sleep(60)"))
 
     def test_one_that_has_ended_cannot_be_looked_at(self) -> None:
         ended = subprocess.Popen(["true"])
         ended.wait()
-        with self.assertRaisesRegex(Trouble, "can't read which files process [0-9]+ has mapped: No such file"):
+        with self.assertRaisesRegex(RecorderError, "can't read which files process [0-9]+ has mapped: No such file"):
             log_of_process(ended.pid)
 
 

@@ -4,9 +4,9 @@ import json
 import unittest
 from typing import Optional
 
-from netrev_go.log.answering import Unconvertible, lock_answer
+from netrev_go.log.answering import UnconvertibleError, lock_answer
 from netrev_go.log.points import Kind, Log, Point
-from netrev_go.steps.making import Nothing, Recording, make
+from netrev_go.steps.making import NothingRecordedError, Recording, make
 
 WORD, DESCRIPTOR = 700, 900
 
@@ -177,7 +177,7 @@ class Ordinary(unittest.TestCase):
             log.opened(1000 + i % 7, 90).add(Kind.OPEN_FAILED, 1, 90, 1)
             log.add(Kind.INCREF_CLOSE, 1, 1000 + i % 7, 0, 9, 2).add(Kind.DECREF, 1, 1000 + i % 7, 9, 1, 2)
         self.assertEqual(log.opened().steps(), Points().opened().steps())
-        with self.assertRaisesRegex(Nothing, "no socket was opened"):
+        with self.assertRaisesRegex(NothingRecordedError, "no socket was opened"):
             Points().opened().add(Kind.OPEN_FAILED, 1, DESCRIPTOR, 1).made()
 
     def test_a_socket_that_is_opened_again_and_is_not_goes_on(self) -> None:
@@ -226,7 +226,7 @@ class Deadlines(unittest.TestCase):
             self.assertEqual(self.fired(bits).steps()[-1], ["fire", 0, answer])
 
     def test_a_firing_that_no_timer_is_of_is_told_with_its_point(self) -> None:
-        with self.assertRaisesRegex(Unconvertible, "point 3: a deadline passed whose timer wasn't due"):
+        with self.assertRaisesRegex(UnconvertibleError, "point 3: a deadline passed whose timer wasn't due"):
             self.fired(1, 104).made()
 
     def test_a_timer_that_fires_later_goes_off_before_it_is_moved(self) -> None:
@@ -285,5 +285,5 @@ class Choosing(unittest.TestCase):
         log = self.sockets(3)
         log.add(Kind.WRITE, 1, 10_000, 2**32, 2**32, 0)
         self.assertEqual(log.made().sockets, 2)
-        with self.assertRaisesRegex(Nothing, "one socket alone"):
+        with self.assertRaisesRegex(NothingRecordedError, "one socket alone"):
             Points().opened().add(Kind.WRITE, 1, WORD, 2**32, 2**32, 0).made()

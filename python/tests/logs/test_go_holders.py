@@ -11,7 +11,7 @@ from netrev.recording import goroutines as where
 from netrev.recording.where import Lines
 from netrev_go.log.goroutines import MUTEX, READ_LOCK, Goroutines, Held, goroutines_of
 from netrev_go.log.lines import Calls
-from netrev_go.log.logfile import HEADER_BYTES, HOLDER_BEGUN, HOLDER_BYTES, MOST_HOLDERS, MOST_STACKS, NoLog
+from netrev_go.log.logfile import HEADER_BYTES, HOLDER_BEGUN, HOLDER_BYTES, MOST_HOLDERS, MOST_STACKS, NotALogError
 from netrev_go.log.points import Holder, Kind, Log, Stack
 from netrev_go.steps.goroutine_lines import HELD
 from netrev_go.steps.making import make
@@ -94,7 +94,7 @@ class Table(unittest.TestCase):
     def test_a_table_that_is_too_large_is_none_of_a_log(self) -> None:
         data = bytearray(binary(opened(1)))
         struct.pack_into("<Q", data, PLACE_OF_ROWS, MOST_HOLDERS + 1)
-        with self.assertRaisesRegex(NoLog, "its header is damaged"):
+        with self.assertRaisesRegex(NotALogError, "its header is damaged"):
             read(bytes(data))
 
 

@@ -18,18 +18,18 @@ from netrev.messages import recorder as messages
 from netrev_go import cli, doctor, keeping, recovery, tested, trying
 from netrev_go.go_command import calls_of_go, run_folders, running, toolchain
 from netrev_go.go_command.status import Status
-from netrev_go.go_command.toolchain import Trouble
+from netrev_go.go_command.toolchain import RecorderError
 from netrev_go.log import goroutines, lines, logfile, sockets
 from netrev_go.log.answering import can_answer
 from netrev_go.log.beside import OF_UNIX, Beside
 from netrev_go.log.goroutines import NEVER, Goroutines, Making, Park, Passing, Span, Used
 from netrev_go.log.lines import Call, Calls
-from netrev_go.log.logfile import HEADER_WORDS, MOST_HOLDERS, MOST_POINTS, MOST_STACKS, UNDER_WAY, Header, NoLog
+from netrev_go.log.logfile import HEADER_WORDS, MOST_HOLDERS, MOST_POINTS, MOST_STACKS, UNDER_WAY, Header, NotALogError
 from netrev_go.log.notes import REFERENCES, WAITING, Note
 from netrev_go.log.points import Kind, Log, Point
 from netrev_go.log.sockets import BUFFER, FEW_BYTES, OUTPUT, Socket
 from netrev_go.steps import asking, compare, converting, forms, making, report
-from netrev_go.steps.asking import Late
+from netrev_go.steps.asking import LateError
 
 from .test_go_logs import opened
 
@@ -47,14 +47,14 @@ def test_the_greatest_number_of_a_header_and_one_more(word: int, most: int) -> N
         return Header(bytes(words[: HEADER_WORDS * 8]))
 
     header(most)
-    with pytest.raises(NoLog, match="header is damaged"):
+    with pytest.raises(NotALogError, match="header is damaged"):
         header(most + 1)
 
 
 def test_a_log_has_room_for_a_point() -> None:
     words = bytearray(binary(opened(1)))
     words[16:24] = bytes(8)
-    with pytest.raises(NoLog, match="header is damaged"):
+    with pytest.raises(NotALogError, match="header is damaged"):
         Header(bytes(words))
 
 
@@ -82,7 +82,7 @@ def test_points_that_a_log_lacks_are_named_unless_newer_ones_replace_them(
 def test_doctor_says_where_logs_have_room(has_room: bool, tmp_path: Path, monkeypatch: Patch, capsys: Output) -> None:
     def folder(points: int) -> Path:
         if not has_room:
-            raise Trouble("full")
+            raise RecorderError("full")
         (tmp_path / "logs").mkdir()
         return tmp_path / "logs"
 
@@ -114,7 +114,7 @@ def test_a_test_has_the_steps_of_points_from_its_begin_to_its_end(
 )  # fmt: skip
 def test_a_trial_writes_one_log(script: str, says: str, tmp_path: Path, monkeypatch: Patch) -> None:
     def read(log: Path) -> None:
-        raise NoLog("empty")
+        raise NotALogError("empty")
 
     monkeypatch.setattr(trying, "read_log", read)
     monkeypatch.setattr(messages, "NO_TRIAL_RECORDING", "no recording: {why}")
@@ -334,7 +334,7 @@ def test_the_statuses_for_unknown_calls_of_go(
 
 def test_the_status_if_no_go_is_installed(monkeypatch: Patch, capsys: Output) -> None:
     def find() -> None:
-        raise Trouble("no Go")
+        raise RecorderError("no Go")
 
     monkeypatch.setattr(calls_of_go, "find_go", find)
     assert calls_of_go.main([]) == 3 and capsys.readouterr().err == "no Go\n"
@@ -445,7 +445,7 @@ def test_rules_that_don_t_fit_are_named(status: int, says: list[str], tmp_path: 
     monkeypatch.setattr(messages, "RULES_DONT_FIT", "")
     go = cast(Any, Made(version="go1.27", sources=lambda: Path("/src")))
     if says:
-        with pytest.raises(Trouble) as trouble:
+        with pytest.raises(RecorderError) as trouble:
             toolchain.make_overlay(go, tmp_path)
         assert str(trouble.value).splitlines() == says
     else:
@@ -498,7 +498,7 @@ def test_the_suspects_of_a_report(found: list[str], lines_of_report: list[str], 
     assert asked == ["/opt/netrev", Path("x.jsonl")]
 
 
-@pytest.mark.parametrize("fault, says", [(Late("late"), "late"), (KeyboardInterrupt(), "was interrupted")])
+@pytest.mark.parametrize("fault, says", [(LateError("late"), "late"), (KeyboardInterrupt(), "was interrupted")])
 def test_a_report_without_its_suspects_says_which_command_prints_them(
     fault: BaseException, says: str, monkeypatch: Patch
 ) -> None:
@@ -528,7 +528,7 @@ def test_a_go_that_can_record(
     monkeypatch.setattr(messages, "NO_SOURCES", "no sources")
     monkeypatch.setattr(messages, "GO_ENV_FAILED", "go env: {why}")
     if says:
-        with pytest.raises(Trouble, match=says):
+        with pytest.raises(RecorderError, match=says):
             toolchain.find_go()
     else:
         assert toolchain.find_go() == toolchain.Go("/bin/go", tmp_path, "go1.27", "linux/amd64", "-v")

@@ -12,11 +12,11 @@ from dev.fuzz.generators.logs import STACKS, binary, from_text, packed
 from netrev.recording.where import Lines
 from netrev_go.log import lines
 from netrev_go.log.lines import Call, Calls, Roots, lines_of, looked_up
-from netrev_go.log.logfile import HEADER_BYTES, NoLog, read_log
+from netrev_go.log.logfile import HEADER_BYTES, NotALogError, read_log
 from netrev_go.log.points import Kind, Log, Point
 from netrev_go.steps import asking, converting
 from netrev_go.steps.converting import Wish, convert
-from netrev_go.steps.making import Nothing, Unconvertible, make, write
+from netrev_go.steps.making import NothingRecordedError, UnconvertibleError, make, write
 from netrev_go.steps.report import next_line, told_of
 from netrev_go.steps.where import own_line, write_where
 from tests.session.test_strange import OBEYED, unseen
@@ -177,9 +177,9 @@ class Reading(unittest.TestCase):
             (b"NR 3 1 7 4 0 0\n" * 400, "not a log"),
             (whole[:16] + b"\xff" * 8 + whole[24:], "header is damaged"),
         ):
-            with self.assertRaisesRegex(NoLog, said):
+            with self.assertRaisesRegex(NotALogError, said):
                 read(data)
-        with self.assertRaisesRegex(NoLog, "can't be read"):
+        with self.assertRaisesRegex(NotALogError, "can't be read"):
             read_log(pathlib.Path("/nowhere/log.1"))
 
     def test_a_copy_that_a_program_couldn_t_make_says_why(self) -> None:
@@ -187,9 +187,9 @@ class Reading(unittest.TestCase):
             copy = pathlib.Path(folder, "log.1.snapshot")
             copy.with_name(copy.name + ".failed.028").touch()
             copy.with_name("log.2.snapshot.failed.005").touch()
-            with self.assertRaisesRegex(NoLog, "couldn't copy its log: No space left on device"):
+            with self.assertRaisesRegex(NotALogError, "couldn't copy its log: No space left on device"):
                 read_log(copy)
-            with self.assertRaisesRegex(NoLog, "can't be read: No such file"):
+            with self.assertRaisesRegex(NotALogError, "can't be read: No such file"):
                 read_log(copy.with_name("log.3.snapshot"))
             copy.write_bytes(binary(opened(2)))
             self.assertEqual(len(read_log(copy).points), 4)
@@ -223,7 +223,7 @@ class Reading(unittest.TestCase):
         self.assertIn("the log keeps the newest 65 points of 200", log.notes)
         self.assertEqual(make(log).sockets, 32)
         later = [point._replace(number=point.number + 100, kind=Kind.INCREF) for point in opened(3)]
-        with self.assertRaisesRegex(Nothing, "before the oldest point in the log"):
+        with self.assertRaisesRegex(NothingRecordedError, "before the oldest point in the log"):
             make(read(binary(later, room=3)))
 
     def test_points_that_were_overwritten_in_part_are_left_out(self) -> None:
@@ -239,7 +239,7 @@ class Reading(unittest.TestCase):
             data = damaged(whole, chance)
             try:
                 make(read(data))
-            except (NoLog, Nothing, Unconvertible) as fault:
+            except (NotALogError, NothingRecordedError, UnconvertibleError) as fault:
                 self.assertTrue(str(fault))
             except Exception as fault:
                 self.fail(f"damaged log {number} of seed {SEED}: {fault!r}")

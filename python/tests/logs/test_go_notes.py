@@ -10,12 +10,12 @@ from typing import Any
 from netrev.machine.in_place import Machine
 from netrev.text.contents import Limits
 from netrev.text.reading import read_text
-from netrev_go.log.answering import Unconvertible
+from netrev_go.log.answering import UnconvertibleError
 
 from netrev_go.log.notes import ARMED, CHECKING, CLOSING, ENTERING, EVENT_ERROR, GOROUTINE, NIL, PARKED, PARKING, READ_RUNS, READY, SHUT, SWAPPING, UNQUEUED, WAIT, WRITE_RUNS  # fmt: skip
 from netrev_go.log.points import AT_A_SOCKET, AT_A_WORD, Kind, Log, Point
 from netrev_go.log.prelude import NOBODY
-from netrev_go.steps.making import Nothing, Recording, make
+from netrev_go.steps.making import NothingRecordedError, Recording, make
 
 WORD, DESCRIPTOR, OTHER_WORD, OTHER_DESCRIPTOR = 700, 900, 1700, 1900
 READ, WRITE = ord("r"), ord("w")
@@ -278,11 +278,11 @@ class LeftOut(unittest.TestCase):
 
     def test_a_log_that_has_all_points_needs_no_notes(self) -> None:
         log = Noted().note().end()
-        with self.assertRaisesRegex(Nothing, "no socket was opened"):
+        with self.assertRaisesRegex(NothingRecordedError, "no socket was opened"):
             make(Log(log.points, begin=BEGIN))
 
     def test_notes_that_are_cut_off_are_not_used(self) -> None:
-        with self.assertRaisesRegex(Nothing, "before the oldest point"):
+        with self.assertRaisesRegex(NothingRecordedError, "before the oldest point"):
             Noted().note().made()
 
 
@@ -322,7 +322,7 @@ class Damaged(unittest.TestCase):
                 )
             try:
                 recording = log.made()
-            except (Nothing, Unconvertible):
+            except (NothingRecordedError, UnconvertibleError):
                 continue
             prelude = [*map(str, recording.lines[: recording.prelude])]
             made += bool(prelude)
@@ -347,7 +347,7 @@ class Numbers(unittest.TestCase):
         self.assertEqual(made.taken[:2], [(1, 0, 1), (1, made.prelude + 3, 2)])
 
     def test_one_that_has_not_keeps_it(self) -> None:
-        with self.assertRaisesRegex(Nothing, "4,096 goroutines"):
+        with self.assertRaisesRegex(NothingRecordedError, "4,096 goroutines"):
             self.crowd(False).made()
 
     def test_where_all_fit_each_has_its_own(self) -> None:

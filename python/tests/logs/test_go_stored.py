@@ -24,7 +24,7 @@ from netrev_go.log.points import Holder, Kind, Log, Point, Stack
 from netrev_go.log.ran import Ran, Tests
 from netrev_go.steps import converting, report
 from netrev_go.steps.converting import ReadLog, Wish, converted
-from netrev_go.steps.making import Nothing, make
+from netrev_go.steps.making import NothingRecordedError, make
 
 HERE = Path(__file__).parent
 LOG = HERE / "go_recorded.log"
@@ -143,7 +143,7 @@ def of_program(number: int) -> str:
     """The files made from a random program's log, except the answers: other tests compare these."""
     try:
         made = make(log_of(program_of(str(number))), most=2 + number % 3, all_bytes=number % 2 == 0)
-    except Nothing as fault:
+    except NothingRecordedError as fault:
         return str(fault)
     beside, everybody = made.beside, made.everybody
     parts = (

@@ -4,7 +4,7 @@ and each goroutine's steps. `make fuzz-around` tries other programs, also with n
 import pytest
 
 from dev.fuzz.generators.random_logs import Program, program_of, replayed, wrong
-from netrev_go.log.answering import Unconvertible
+from netrev_go.log.answering import UnconvertibleError
 from netrev_go.log.points import Kind, Log
 from netrev_go.steps.making import make
 
@@ -76,5 +76,5 @@ def test_timers_that_are_due_at_once_go_off_in_any_order(fired: tuple[tuple[int,
 
 
 def test_a_timer_is_due_at_its_time_and_not_before() -> None:
-    with pytest.raises(Unconvertible):
+    with pytest.raises(UnconvertibleError):
         said_of(two_timers((OTHER, 1), now=104))

@@ -5,7 +5,7 @@ from typing import Iterator
 
 import pytest
 from dev.fuzz.generators.random_steps import Author
-from netrev.machine.machine import IDLE, Refused, World
+from netrev.machine.machine import IDLE, StepRefusedError, World
 from netrev.machine.steps import apply
 from netrev.run.flow import ANSWERS, ASLEEP, BY_STATUS, NAMES, SORTS, Came, Sort, came, first_step, step_by_status
 from netrev.text.contents import Answer, Step
@@ -50,7 +50,7 @@ def test_who_is_in_an_operation_makes_the_step_of_its_status_and_no_other(seed: 
                 first_step(sort, g, 0, "r", ()) for sort in Sort if NAMES[sort].of == "d" and sort is not Sort.SET
             ]
             for other in others:
-                with pytest.raises(Refused) as refused:
+                with pytest.raises(StepRefusedError) as refused:
                     apply(world, other)
                 assert refused.value.reason == NOT_THERE
 

@@ -8,7 +8,7 @@ from typing import Any
 from dev.fuzz.generators.random_steps import Author
 from netrev.machine.cells import CELLS_OF_ALL, CELLS_OF_ONE, SHOWS_DESC, SHOWS_SOCKET, dumped, value
 from netrev.machine.in_place import Machine
-from netrev.machine.machine import GREATEST_SEQUENCE, Refused, World
+from netrev.machine.machine import GREATEST_SEQUENCE, StepRefusedError, World
 from netrev.machine.steps import apply
 from netrev.model.changed import SHOWS_QUEUES, changed_cells
 from netrev.text.contents import Limits
@@ -41,8 +41,8 @@ class InPlace(unittest.TestCase):
         """Checks that both machines make a step, or refuse it for the same reason, and are equal afterwards; returns the state after it."""
         try:
             after, answer = apply(world, step)
-        except Refused as refused:
-            with self.assertRaises(Refused) as caught:
+        except StepRefusedError as refused:
+            with self.assertRaises(StepRefusedError) as caught:
                 machine.step(step)
             self.assertEqual(caught.exception.reason, refused.reason)
             after = world
@@ -109,5 +109,5 @@ class InPlace(unittest.TestCase):
     def test_a_refused_step_leaves_what_the_step_before_changed(self) -> None:
         machine = Machine(Limits(2, 1, 1, 1))
         machine.step(("spawn",))
-        self.assertRaises(Refused, machine.step, ("spawn",))
+        self.assertRaises(StepRefusedError, machine.step, ("spawn",))
         self.assertEqual(changed_cells(machine), ["gor 1"])

@@ -7,7 +7,7 @@ from dev.fuzz.__main__ import seeds
 from dev.fuzz.cases import Case, make
 from dev.fuzz.counts import Met
 from dev.fuzz.runs import wanted
-from netrev.text.jsontext import Doubtful, NoJson, read_json
+from netrev.text.jsontext import DoubtfulNumberError, NotJsonError, read_json
 from tests.support.examples import REFUSED
 
 ROOT = Path(__file__).resolve().parents[3]
@@ -61,7 +61,7 @@ class Model(unittest.TestCase):
         for line in good:
             read_json(line)
         for line in bad:
-            with self.subTest(line), self.assertRaises(NoJson):
+            with self.subTest(line), self.assertRaises(NotJsonError):
                 read_json(line)
-        with self.assertRaises(Doubtful):
+        with self.assertRaises(DoubtfulNumberError):
             read_json(b"1.79769313486231581e308")

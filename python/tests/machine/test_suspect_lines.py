@@ -6,7 +6,7 @@ import random
 import pytest
 
 from dev.fuzz.generators.random_steps import Author
-from netrev.machine.machine import Refused, World
+from netrev.machine.machine import StepRefusedError, World
 from netrev.machine.observer import Observer
 from netrev.machine.steps import apply
 from netrev.model.suspects import (
@@ -519,7 +519,7 @@ def random_waits(dice: random.Random) -> Recording:
         step = random_step(dice, world)
         try:
             world, answer = apply(world, step)
-        except Refused:
+        except StepRefusedError:
             continue
         steps.append(step)
         answers.append(answer)

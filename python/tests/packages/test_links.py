@@ -9,7 +9,7 @@ from pathlib import Path
 import pytest
 from netrev.text.files import written_whole
 from netrev_go.go_command.outputs import look
-from netrev_go.go_command.toolchain import Trouble
+from netrev_go.go_command.toolchain import RecorderError
 
 OTHER = 12_345  # a user
 
@@ -42,7 +42,9 @@ def test_a_link_to_another_users_link_is_not_followed(link: Path, folder: Path) 
 
 
 def test_netrev_go_says_so_before_it_runs_the_program(link: Path) -> None:
-    with pytest.raises(Trouble, match=r"can't be written: another user's link, which isn't followed\. Nothing was run"):
+    with pytest.raises(
+        RecorderError, match=r"can't be written: another user's link, which isn't followed\. Nothing was run"
+    ):
         look(link.with_suffix(""))
 
 

@@ -8,7 +8,7 @@ import subprocess
 
 from netrev.machine.debugger import State, is_command, read_line
 
-from .support.sharing import NETREV, PATIENCE, Server, Wrong, expect, talk
+from .support.sharing import NETREV, PATIENCE, Server, WrongResultError, expect, talk
 
 MEGABYTE = 1 << 20
 NO_MEMORY = b"fault 108 memory\n"
@@ -54,7 +54,7 @@ def ended(process, given=None):
     except subprocess.TimeoutExpired:
         process.kill()
         process.communicate()
-        raise Wrong(f"netrev didn't end within {PATIENCE} s") from None
+        raise WrongResultError(f"netrev didn't end within {PATIENCE} s") from None
     return process.returncode, output or b"", errors or b""
 
 
@@ -152,8 +152,8 @@ def play_memory(word, recording, right=b""):
     def play(size):
         try:
             return judge(size, *ended_in(size, [word, recording.path], WALK.encode() if word == "run" else b""))
-        except Wrong as wrong:
-            raise Wrong(f"with {size // 1024} KB: {wrong}") from None
+        except WrongResultError as wrong:
+            raise WrongResultError(f"with {size // 1024} KB: {wrong}") from None
 
     def expect_whole_beginning(output):
         if word == "run":
@@ -225,8 +225,8 @@ def play_memory_of_serve(recording):
     def play(size):
         try:
             return start(size)
-        except Wrong as wrong:
-            raise Wrong(f"with {size // 1024} KB: {wrong}") from None
+        except WrongResultError as wrong:
+            raise WrongResultError(f"with {size // 1024} KB: {wrong}") from None
 
     def start(size):
         through = ["sh", "-c", f'ulimit -c 0; ulimit -v {size // 1024}; exec "$@"', "sh"]

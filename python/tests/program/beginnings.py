@@ -14,7 +14,7 @@ from typing import Optional, Sequence
 
 from tests.support.examples import REFUSED
 
-from .support.sharing import NETREV, PATIENCE, ROOT, Wrong, expect
+from .support.sharing import NETREV, PATIENCE, ROOT, WrongResultError, expect
 
 WALK = "scripts/recordings/woken-by-an-event.jsonl"  # twelve steps
 BEGUN = tuple(
@@ -84,4 +84,6 @@ def printed_in_turn(paths: Sequence[Path]) -> str:
             return shell.communicate(timeout=PATIENCE)[0].decode()
         except subprocess.TimeoutExpired:
             os.killpg(shell.pid, signal.SIGKILL)
-            raise Wrong(f"{len(paths)} checks took more than {PATIENCE} s, from {paths[0].name} on") from None
+            raise WrongResultError(
+                f"{len(paths)} checks took more than {PATIENCE} s, from {paths[0].name} on"
+            ) from None

@@ -19,7 +19,7 @@ from pathlib import Path
 
 import pytest
 
-from .support.sharing import ROOT, Wrong, is_program, library_of
+from .support.sharing import ROOT, WrongResultError, is_program, library_of
 
 PROGRAM = os.path.abspath(os.environ.get("NR_REFUSED", ROOT / "crates/nr_refused/out/nr_refused"))
 PATIENCE = 60  # seconds
@@ -71,7 +71,7 @@ class Player:
         came = ran.stdout.decode().splitlines()
         last = came[-1].removeprefix(f"{call}: ") if came else ""
         if ran.returncode or ran.stderr or "grant" not in came or last not in (RIGHT, REFUSED):
-            raise Wrong(f"status {ran.returncode}, {ran.stdout.decode()!r} and {ran.stderr.decode()!r}")
+            raise WrongResultError(f"status {ran.returncode}, {ran.stdout.decode()!r} and {ran.stderr.decode()!r}")
         return last, self.told.stat().st_size > 0
 
     def refuse_each(self, call, behind):
@@ -81,13 +81,13 @@ class Player:
             number += 1
             try:
                 came, was_refused = self.play(call, number, behind)
-            except (Wrong, subprocess.TimeoutExpired) as wrong:
+            except (WrongResultError, subprocess.TimeoutExpired) as wrong:
                 kind = "and all behind it" if behind else "alone"
-                raise Wrong(f"{call} with request {number} refused {kind}: {wrong}") from None
+                raise WrongResultError(f"{call} with request {number} refused {kind}: {wrong}") from None
             if not was_refused and came != RIGHT:
-                raise Wrong(f"{call} said that it was refused, and nothing was")
+                raise WrongResultError(f"{call} said that it was refused, and nothing was")
             if behind and number == 1 and (came == REFUSED) != (call not in WITHOUT):
-                raise Wrong(f"{call} without any memory: {came}")
+                raise WrongResultError(f"{call} without any memory: {came}")
             clean = 0 if was_refused else clean + 1
             tally.refused += was_refused
             tally.told += came == REFUSED
@@ -99,7 +99,7 @@ def calls():
     ran = subprocess.run([PROGRAM], stdout=subprocess.PIPE, timeout=PATIENCE)
     names = ran.stdout.decode().split()
     if ran.returncode != 2 or not names:
-        raise Wrong(f"{PROGRAM} says no calls")
+        raise WrongResultError(f"{PROGRAM} says no calls")
     return names
 
 
@@ -116,5 +116,5 @@ def test_each_request_refused(player, call):
     if call not in LINES:
         tally.add(player.refuse_each(call, behind=True))
     if (tally.told > 0) != (call not in WITHOUT):
-        raise Wrong(f"{call} was refused memory {tally.told} times")
+        raise WrongResultError(f"{call} was refused memory {tally.told} times")
     print(f"refused {tally.refused} times, and said so {tally.told} times")

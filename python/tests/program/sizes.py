@@ -14,7 +14,7 @@ from typing import Callable, Iterable, Iterator, Sequence
 
 import pytest
 
-from .support.sharing import NETREV, PATIENCE, Server, Wrong, expect
+from .support.sharing import NETREV, PATIENCE, Server, WrongResultError, expect
 
 pytestmark = pytest.mark.alone
 
@@ -58,7 +58,9 @@ def same(what: str, right: str, came: str) -> None:
     """Checks that a text, which may be long, is right, and prints the first difference."""
     if right != came:
         at = next((at for at, (one, other) in enumerate(zip(right, came)) if one != other), min(len(right), len(came)))
-        raise Wrong(f"{what}, from character {at}: expected {right[at : at + 60]!r}, came {came[at : at + 60]!r}")
+        raise WrongResultError(
+            f"{what}, from character {at}: expected {right[at : at + 60]!r}, came {came[at : at + 60]!r}"
+        )
 
 
 def play_replies(path: Path, exchange: Sequence[tuple[str, str]]) -> None:
@@ -237,7 +239,7 @@ def play_idle_caller(folder: Path) -> None:
     whole = took.pop("all")
     most = max(took.values())
     if most > whole / 3:
-        raise Wrong(f"the front's own thread took {most} of the {whole} ticks that all its workers took")
+        raise WrongResultError(f"the front's own thread took {most} of the {whole} ticks that all its workers took")
 
 
 def play_commands(folder: Path) -> None:
@@ -279,7 +281,9 @@ def play_copies(folder: Path) -> None:
         most = held * copies * 13 // 10 + 300 * steps + 16 * BUFFER
         took = greatest_memory(path, steps)
         if took > most:
-            raise Wrong(f"with {held} bytes held over {steps} steps netrev takes {took} bytes, and {most} are the most")
+            raise WrongResultError(
+                f"with {held} bytes held over {steps} steps netrev takes {took} bytes, and {most} are the most"
+            )
 
 
 CASES: dict[str, Case] = {

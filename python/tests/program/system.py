@@ -50,7 +50,7 @@ from .support.given import (
     suspects_of,
     upgrade_of,
 )
-from .support.sharing import NETREV, PATIENCE, Server, Wrong, expect, talk
+from .support.sharing import NETREV, PATIENCE, Server, WrongResultError, expect, talk
 
 pytestmark = pytest.mark.alone
 
@@ -703,7 +703,7 @@ def patience():
     """Stops a process that takes too long."""
 
     def stop_waiting(*_):
-        raise Wrong(f"it took more than {4 * PATIENCE} s")
+        raise WrongResultError(f"it took more than {4 * PATIENCE} s")
 
     before = signal.signal(signal.SIGALRM, stop_waiting)
     signal.alarm(4 * PATIENCE)

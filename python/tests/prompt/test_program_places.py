@@ -17,7 +17,7 @@ from nrdb.dap.go_lines import GoLines
 from nrdb.dap.logpoints import LogPoints
 from nrdb.dap.view.debuggee import Debuggee
 from nrdb.dap.view.roots import Roots
-from nrdb.dap.wishes import Unset, wish_of
+from nrdb.dap.wishes import BreakpointError, wish_of
 from nrdb.prompt.answers import ANSWERS
 from nrdb.web.shared import OF_THE_PAGE
 from tests.failed_calls.test_causes import CAUSED, in_the_folder_of_the_source
@@ -168,7 +168,7 @@ class Editor(unittest.TestCase):
     def test_a_condition_holds_one_back(self) -> None:
         self.lines.set_line(str(SOURCE), 46, wish_of("", {"condition": "gor 2 nothing"}))
         self.assertIsNone(self.lines.nearest(0, True))
-        self.assertFalse(self.lines.set_line(str(SOURCE), 46, Unset("no"))["verified"])
+        self.assertFalse(self.lines.set_line(str(SOURCE), 46, BreakpointError("no"))["verified"])
 
     def test_another_file_has_no_lines(self) -> None:
         for path in (str(Path(__file__)), "\0", ""):

@@ -10,7 +10,7 @@ import pytest
 
 from netrev.messages import searches
 from netrev.recording.recording import Recording
-from netrev.session.session import Misused, Session
+from netrev.session.session import UsageError, Session
 from netrev.text.vocabulary import Of
 from netrev.timeline import page, story
 from netrev.timeline.cell_runs import Window
@@ -47,7 +47,7 @@ def test_the_cell_at_the_beginning_of_a_line(line: str, cell: str, rest: list[st
     [("", "until CELL"), ("lock", "lock needs the number"), ("lock x", "lock needs the number"), ("gor -1", "gor needs the number"), ("nothing", "nothing isn't a cell"), ("2 lock", "2 isn't a cell")],
 )  # fmt: skip
 def test_a_line_without_a_cell(line: str, says: str) -> None:
-    with pytest.raises(Misused, match=says):
+    with pytest.raises(UsageError, match=says):
         taken_cell("until", line.split())
 
 
@@ -72,7 +72,7 @@ def test_the_conditions_of_a_line(line: str, wanted: dict[str, str]) -> None:
 
 @pytest.mark.parametrize("line", ["lock 0", "lock 0 =", "lock 0 and clock 7", "clock 7 and lock 0", "clock 7 and lock"])
 def test_a_condition_needs_a_value(line: str) -> None:
-    with pytest.raises(Misused):
+    with pytest.raises(UsageError):
         taken_conditions("until", line.split())
 
 
@@ -90,10 +90,10 @@ def test_positions_by_number_and_by_time(line: str, position: int) -> None:
 
 @pytest.mark.parametrize("line", ["", "3 4", "start end", "x", "-1", "3m"])
 def test_words_that_are_no_position(line: str) -> None:
-    with pytest.raises(Misused):
+    with pytest.raises(UsageError):
         taken_position(cast(Any, mock.Mock(length=6)), line.split())
     if line != "start end":
-        with pytest.raises(Misused):
+        with pytest.raises(UsageError):
             taken_number("list", line.split())
 
 
@@ -195,7 +195,7 @@ def test_the_positions_of_a_page(session: Session, first: int, last: int, says: 
     data = {"first": first, "last": last, "cells": {}, "calls": {"count": 0}}
     with mock.patch.object(page, "collected", return_value=data) as collected, mock.patch.object(page, "writing"):
         if says:
-            with pytest.raises(Misused, match=searches.POSITIONS.format(last=181)):
+            with pytest.raises(UsageError, match=searches.POSITIONS.format(last=181)):
                 page.write_timeline(session, "x.html", first, last)
         else:
             page.write_timeline(session, "x.html", first, last)
@@ -208,7 +208,7 @@ def test_a_page_shows_only_so_many_steps(first: int, last: int, is_full: bool) -
     session = cast(Any, mock.Mock(text=lambda: mock.Mock(length=10 * MOST), path="x.jsonl"))
     with mock.patch.object(page, "collected", return_value=data), mock.patch.object(page, "writing"):
         if is_full:
-            with pytest.raises(Misused):
+            with pytest.raises(UsageError):
                 page.write_timeline(session, "x.html", first, last)
         else:
             page.write_timeline(session, "x.html", first, last)

@@ -15,7 +15,7 @@ from dev.recorder.readiness import Standing
 from dev.recorder.results import read_results
 from dev.recorder.suites import Sample, Suite
 from netrev_go.go_command import toolchain
-from netrev_go.go_command.toolchain import Go, Trouble
+from netrev_go.go_command.toolchain import Go, RecorderError
 from tests.support.folders import folder_of
 
 ROOT = pathlib.Path(__file__).resolve().parents[3]
@@ -217,7 +217,7 @@ class Costs(Tools):
 
     def test_without_go_nothing_is_measured(self) -> None:
         def none(_: str) -> Go:
-            raise Trouble("no Go")
+            raise RecorderError("no Go")
 
         self.patch(costs, chosen=none)
         self.assertEqual(self.ran(), (3, ["no Go"]))
@@ -246,7 +246,7 @@ class Fetching(Tools):
     def test_a_command_that_fails_is_told(self) -> None:
         fetching.run(["true"], self.folder)
         for command, why in ((["sh", "-c", "echo no >&2; exit 1"], "no"), (["/nowhere/apt"], "No such file")):
-            with self.assertRaisesRegex(Trouble, why):
+            with self.assertRaisesRegex(RecorderError, why):
                 fetching.run([*command], self.folder)
 
     def test_it_prints_where_the_commands_are(self) -> None:
@@ -260,7 +260,7 @@ class Fetching(Tools):
             with printed() as out, mock.patch.object(fetching, "commands_of", lambda _: "/there"):
                 self.assertEqual(fetching.main(words), status)
             self.assertTrue(out.getvalue().startswith(said))
-        with printed() as out, mock.patch.object(fetching, "commands_of", mock.Mock(side_effect=Trouble("none"))):
+        with printed() as out, mock.patch.object(fetching, "commands_of", mock.Mock(side_effect=RecorderError("none"))):
             self.assertEqual((fetching.main(["1.27"]), out.getvalue()), (3, "none\n"))
 
 
@@ -288,11 +288,11 @@ class Building(Tools):
 
         compiled = mock.Mock(returncode=1, stderr="no such type")
         self.patch(toolchain, points_program=program, quiet_go=lambda *_: compiled)
-        with self.assertRaisesRegex(Trouble, "unfit this") as unfit:
+        with self.assertRaisesRegex(RecorderError, "unfit this") as unfit:
             toolchain.make_overlay(self.go, made)
         self.assertNotIn("fits it", str(unfit.exception).replace("unfit", ""))
         (self.folder / "fits").touch()
-        with self.assertRaisesRegex(Trouble, "no such type"):
+        with self.assertRaisesRegex(RecorderError, "no such type"):
             toolchain.make_overlay(self.go, made)
         compiled.returncode = 0
         (made / toolchain.NEW).write_text("{}")

@@ -16,7 +16,7 @@ from dev.recorder.results import Result
 from dev.recorder.suites import OF_OTHERS, OF_SAMPLES, SAMPLES, Suite
 from netrev_go import trying
 from netrev_go.go_command.calls_of_go import known_calls, table
-from netrev_go.go_command.toolchain import TRIED, Go, Trouble, is_tried, release_of, tried
+from netrev_go.go_command.toolchain import TRIED, Go, RecorderError, is_tried, release_of, tried
 from netrev_go.log.logfile import read_log
 from netrev_go.log.points import Kind
 from netrev_go.steps.compare import DIFFERS, REFUSES, by_the_model
@@ -68,7 +68,7 @@ class Releases(unittest.TestCase):
 
     def test_each_release_that_was_tried_can_be_fetched(self) -> None:
         self.assertEqual(list(fetching.SUITES), list(TRIED))
-        with self.assertRaises(Trouble) as raised:
+        with self.assertRaises(RecorderError) as raised:
             fetching.commands_of("1.20")
         self.assertIn("Go 1.20 can't be fetched: Debian has 1.19, ", str(raised.exception))
 
@@ -247,7 +247,7 @@ class Trials(unittest.TestCase):
 
     def test_a_go_whose_trial_fails_is_not_recorded(self) -> None:
         for version in ("go1.27.3", "go1.28.0"):
-            with self.assertRaises(Trouble) as raised:
+            with self.assertRaises(RecorderError) as raised:
                 self.ready(version, Trial(False, "step 43: fault 109 answer"), [])
             self.assertIn(f"{version} can't be recorded (", str(raised.exception))
             self.assertIn("step 43: fault 109 answer", str(raised.exception))
@@ -280,7 +280,7 @@ class Standings(unittest.TestCase):
         refused = self.of(trial=lambda _: Trial(False, "netrev refuses the recording: step 43"))
         self.assertEqual(refused.cells(), ["1 of 2", "yes", "no"])
         self.assertIn("step 43", refused.trial)
-        other = self.of(overlay=mock.Mock(side_effect=Trouble("the changed files aren't compiled")))
+        other = self.of(overlay=mock.Mock(side_effect=RecorderError("the changed files aren't compiled")))
         self.assertEqual((other.cells(), other.is_good), (["1 of 2", "no", "no"], False))
         self.assertIn("aren't compiled", other.trial)
 

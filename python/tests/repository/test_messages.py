@@ -17,10 +17,42 @@ TABLES = [
 PACKAGES = ("netrev", "nrdb", "netrev_go", "dev/recorder")
 # The calls that take the text of an error, and which argument that is.
 ERRORS = {
-    **dict.fromkeys(("Trouble", "NoLog", "Nothing", "NoSocket", "Unconvertible", "Late", "complain"), 0),
-    **dict.fromkeys(("Misused", "NoRecording", "Mismatched", "NoChanges", "Lost", "Stay", "Unusable"), 0),
-    **dict.fromkeys(("Unanswerable", "Malformed", "Unset", "NoToken", "Stranger", "Unavailable"), 0),
-    "Rejected": 1,
+    **dict.fromkeys(
+        (
+            "RecorderError",
+            "NotALogError",
+            "NothingRecordedError",
+            "NoSocketError",
+            "UnconvertibleError",
+            "LateError",
+            "complain",
+        ),
+        0,
+    ),
+    **dict.fromkeys(
+        (
+            "UsageError",
+            "NotARecordingError",
+            "MismatchedRecordingError",
+            "IncompleteChangesError",
+            "ScoutUnavailableError",
+            "NoDestinationError",
+            "UnusableFileError",
+        ),
+        0,
+    ),
+    **dict.fromkeys(
+        (
+            "UnanswerableError",
+            "MalformedMessageError",
+            "BreakpointError",
+            "InvalidTokenError",
+            "StrangerError",
+            "UnavailableError",
+        ),
+        0,
+    ),
+    "RejectedRequestError": 1,
 }
 
 

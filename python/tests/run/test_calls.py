@@ -11,7 +11,7 @@ from netrev.findings.causes import errors_table
 from netrev.recording.call import Call, Outcome
 from netrev.recording.recording import Recording
 from netrev.run.calls import book_of
-from netrev.views.following import GOALS, Stay, Subject, calls_table, goroutine_at, steps_table
+from netrev.views.following import GOALS, NoDestinationError, Subject, calls_table, goroutine_at, steps_table
 
 SEEDS = range(300, 312)
 LENGTH = 1_500
@@ -194,10 +194,10 @@ class Going(unittest.TestCase):
     def test_says_where_there_is_nowhere_to_go(self) -> None:
         recording = Recording(b'{"netrev":1,"gor":2,"sock":1,"desc":1,"buf":1}\n["sockopen",1,1]\n["rwlock",0,0,"r"]\n')
         for name, at in (("next", 2), ("reverse-next", 1), ("finish", 1), ("finish", 2)):
-            with self.assertRaises(Stay):
+            with self.assertRaises(NoDestinationError):
                 GOALS[name](recording, 0, at)
         self.assertEqual([goroutine_at(recording, at) for at in (0, 1, 2)], [0, 0, 0])
-        with self.assertRaises(Stay):
+        with self.assertRaises(NoDestinationError):
             goroutine_at(Recording(recording.before_line(3)), 1)
         self.assertEqual(
             calls_table(recording, Subject(), 2, None).rows[0].text,

@@ -15,7 +15,7 @@ from netrev.messages import texts
 from netrev.recording.call import Call, Outcome
 from netrev.recording.goroutine_notes import Pauses, Status
 from netrev.recording.notes import Setting, Use
-from netrev.recording.recording import NoRecording, check_size
+from netrev.recording.recording import NotARecordingError, check_size
 from netrev.run import calls
 from netrev.run.calls import Book
 from netrev.session import text_hints
@@ -67,7 +67,7 @@ def test_the_next_setting_of_a_side(side: str, step: int, found: int | None) -> 
 def test_a_file_may_be_as_large_as_memory(more: int, is_too_large: bool) -> None:
     memory = os.sysconf("SC_PHYS_PAGES") * os.sysconf("SC_PAGE_SIZE")
     if is_too_large:
-        with pytest.raises(NoRecording):
+        with pytest.raises(NotARecordingError):
             check_size("a.jsonl", memory + more)
     else:
         check_size("a.jsonl", memory + more)

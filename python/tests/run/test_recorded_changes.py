@@ -12,16 +12,16 @@ from unittest import mock
 import pytest
 
 from netrev.connection.arriving_changes import ArrivingChanges
-from netrev.connection.scout import Lost
+from netrev.connection.scout import ScoutUnavailableError
 from netrev.machine.cells import look
 from netrev.machine.observer import Observer
 from netrev.messages.session import COMPUTING_CHANGES
 from netrev.model.changes import changes as said_by_model
 from netrev.model.program import replay
 from netrev.recording import changed_lines, changes as recorded_changes
-from netrev.recording.changed_lines import NoChanges
+from netrev.recording.changed_lines import IncompleteChangesError
 from netrev.recording.changes import RecordedChanges
-from netrev.system.interrupts import Interrupted, Interrupts
+from netrev.system.interrupts import SearchInterruptedError, Interrupts
 from netrev.text.vocabulary import CELLS, Of
 from tests.support.examples import EXAMPLES
 
@@ -125,7 +125,7 @@ def test_a_fault_ends_the_changes() -> None:
 
 @pytest.mark.parametrize("text", [b"", b"1 gor 1 = idle\n", b"ok 5 ste", b"ok 0 steps\nok 0 steps\n", b"hello\n"])
 def test_a_text_without_its_end_is_none(text: bytes) -> None:
-    with pytest.raises(NoChanges):
+    with pytest.raises(IncompleteChangesError):
         RecordedChanges.read([text])
 
 
@@ -161,7 +161,7 @@ def test_an_interrupted_wait_can_be_begun_anew(netrev: Path, tmp_path: Path) -> 
     changes, _ = arriving(netrev, script, interrupts)
     with interrupts.held():
         interrupts.came()
-        with pytest.raises(Interrupted):
+        with pytest.raises(SearchInterruptedError):
             changes.steps_of("gor 1")
     assert changes.value("gor 1", 0) == "absent"
     (tmp_path / "go").touch()
@@ -181,9 +181,9 @@ def test_an_interrupted_wait_can_be_begun_anew(netrev: Path, tmp_path: Path) -> 
 )
 def test_a_netrev_that_fails_is_told(netrev: Path, script: str, why: str) -> None:
     changes, _ = arriving(netrev, script)
-    with pytest.raises(Lost, match=f"{netrev} changes some.jsonl: {why}"):
+    with pytest.raises(ScoutUnavailableError, match=f"{netrev} changes some.jsonl: {why}"):
         changes.value("gor 1", 1)
-    with pytest.raises(Lost):
+    with pytest.raises(ScoutUnavailableError):
         changes.steps_of("gor 1")
     changes.drop()
 
@@ -193,7 +193,7 @@ def test_a_netrev_that_was_killed_is_begun_anew(netrev: Path, tmp_path: Path) ->
         f"echo 1 gor 1 = idle; [ -e {tmp_path}/killed ] || {{ touch {tmp_path}/killed; kill -9 $$; }}; echo ok 1 steps"
     )
     changes, _ = arriving(netrev, once)
-    with pytest.raises(Lost):
+    with pytest.raises(ScoutUnavailableError):
         changes.steps_of("gor 1")
     assert list(changes) == [(1, "gor 1", "idle")] and changes.length == 1
     changes.drop()
@@ -201,7 +201,7 @@ def test_a_netrev_that_was_killed_is_begun_anew(netrev: Path, tmp_path: Path) ->
 
 def test_a_line_in_the_middle_that_is_no_change_is_told(netrev: Path) -> None:
     changes, _ = arriving(netrev, "printf '1 gor 1 = idle\\nno number = 3\\n2 clock = 5\\nok 2 steps\\n'")
-    with pytest.raises(Lost, match="a line isn't a change"):
+    with pytest.raises(ScoutUnavailableError, match="a line isn't a change"):
         list(changes)
     changes.drop()
 
@@ -217,6 +217,6 @@ def test_a_reader_that_was_not_started_is_replaced(netrev: Path) -> None:
 
 def test_a_netrev_that_is_not_there_is_told(tmp_path: Path) -> None:
     changes = ArrivingChanges(str(tmp_path / "none"), "some.jsonl", Interrupts(), print)
-    with pytest.raises(Lost, match="No such file"):
+    with pytest.raises(ScoutUnavailableError, match="No such file"):
         changes.value("clock", 1)
     changes.drop()

@@ -3,7 +3,7 @@
 import pytest
 from netrev.recording.recording import Recording
 from netrev.run.returns import function_at
-from netrev.views.following import Goal, Stay, finish_goal
+from netrev.views.following import Goal, NoDestinationError, finish_goal
 from tests.failed_calls.test_causes import CAUSED
 from tests.support.examples import EXAMPLES
 
@@ -26,10 +26,12 @@ def test_within_a_call_it_goes_to_the_end_of_the_call() -> None:
 
 
 def test_a_function_that_does_not_return_is_named() -> None:
-    with pytest.raises(Stay, match="goroutine 0 isn't in a call, and makes no step after main.ask returns"):
+    with pytest.raises(
+        NoDestinationError, match="goroutine 0 isn't in a call, and makes no step after main.ask returns"
+    ):
         finish_goal(POOL, 0, POOL.length)
 
 
 def test_without_lines_of_the_program_it_says_that_there_is_no_call() -> None:
-    with pytest.raises(Stay, match="goroutine 0 isn't in a call$"):
+    with pytest.raises(NoDestinationError, match="goroutine 0 isn't in a call$"):
         finish_goal(Recording.read(str(EXAMPLES / "first.jsonl")), 0, 0)

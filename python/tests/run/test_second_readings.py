@@ -22,7 +22,7 @@ from netrev.text.reading import read_text
 from netrev.text.vocabulary import KINDS, OF_A_GOROUTINE
 from netrev.text.writing import write_plain
 from netrev.views.holders import holders_of
-from netrev_go.steps.making import Nothing, Recording as Made, make
+from netrev_go.steps.making import NothingRecordedError, Recording as Made, make
 from tests.support.modelled import changes_in
 from tests.suspects.test_suspects import OPEN, recording_of
 
@@ -124,7 +124,7 @@ def test_calls_are_those_that_goroutines_made(seed: int) -> None:
     log = log_of(program)
     try:
         made = make(log)
-    except Nothing:
+    except NothingRecordedError:
         return
     if not log.from_the_start:
         return  # (calls that began before the log are known only in part)

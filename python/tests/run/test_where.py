@@ -8,11 +8,11 @@ import unittest
 from pathlib import Path
 from typing import Any
 
-from netrev.recording.recording import NoRecording, Recording
+from netrev.recording.recording import NotARecordingError, Recording
 from netrev.recording.waits import Name, name_of_goid, waits_of
 from netrev.recording.where import MOST_BYTES, MOST_LINE, Lines
 from netrev.session.files import written
-from netrev.session.session import Misused
+from netrev.session.session import UsageError
 from netrev.text.files import whole, written_whole
 from tests.support.folders import folder_of
 
@@ -150,7 +150,7 @@ class Where(unittest.TestCase):
         pipe = self.recording.with_name("pipe")
         os.mkfifo(pipe)
         for path in (pipe, "/dev/zero"):
-            with self.assertRaisesRegex(NoRecording, "isn't a regular file: nrdb reads a recording twice"):
+            with self.assertRaisesRegex(NotARecordingError, "isn't a regular file: nrdb reads a recording twice"):
                 Recording.read(str(path))
         for path in ("a\0b", "\ud800"):
             with self.assertRaisesRegex(OSError, "no file can have that name"):
@@ -192,7 +192,7 @@ class Files(unittest.TestCase):
             path.with_suffix(".where").write_text("lines")
             other.symlink_to(path)
             for name in (path, other, path.with_suffix(".where")):
-                with self.assertRaisesRegex(Misused, "is the recording itself, or its NAME.where"):
+                with self.assertRaisesRegex(UsageError, "is the recording itself, or its NAME.where"):
                     written(str(name), str(path), b"page")
             written(str(Path(folder, "c")), str(path), b"page")
             self.assertEqual((path.read_text(), Path(folder, "c").read_text()), ("steps", "page"))

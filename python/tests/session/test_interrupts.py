@@ -4,7 +4,7 @@ its normal output or ends, and never prints anything else."""
 import unittest
 from typing import Optional
 
-from netrev.connection.netrev import Ended
+from netrev.connection.netrev import NetrevEndedError
 from netrev.connection.scout import Scout
 from netrev.system.interrupts import Interrupts
 from tests.support.disturbed import EXAMPLE, TEXT, Disturbances, Weather
@@ -90,5 +90,5 @@ class Unread(unittest.TestCase):
 
         netrev = Modelled(MODEL, Interrupts(), fails)
         self.assertRaises(MemoryError, netrev.ask_all, ["info position", "print clock", "print timers"])
-        self.assertRaises(Ended, netrev.ask, "info breakpoints")
+        self.assertRaises(NetrevEndedError, netrev.ask, "info breakpoints")
         self.assertTrue(netrev.has_ended)

@@ -8,13 +8,13 @@ import unittest
 from collections.abc import Iterator, Sequence
 from typing import Optional
 
-from netrev.connection.netrev import Ended, Netrev, Reply
+from netrev.connection.netrev import NetrevEndedError, Netrev, Reply
 from netrev.connection.output import TextPrinter
-from netrev.connection.shapes import Strange
+from netrev.connection.shapes import StrangeReplyError
 from netrev.session.attached_commands import Attached
 from netrev.session.queries import MOST, answer_run, lines_together, query_of, runs_of
 from netrev.session.session import Session
-from netrev.system.interrupts import GivenUp, Interrupts
+from netrev.system.interrupts import SessionAbandonedError, Interrupts
 
 
 class Scripted(Netrev):
@@ -30,7 +30,7 @@ class Scripted(Netrev):
 
     def _next(self, asked: str) -> Optional[str]:
         if asked.endswith("strange"):
-            raise Strange(asked, "x")
+            raise StrangeReplyError(asked, "x")
         return None if asked.endswith("end") else f"clock = {asked.split()[-1]}"
 
     def close(self) -> Optional[int]:
@@ -141,21 +141,21 @@ class Ahead(unittest.TestCase):
         self.assertEqual(netrev.sent, [["print 1"], ["print 1", "print 1"]])
 
     def test_its_end_is_told_at_the_line_that_met_it(self) -> None:
-        for last, wrong in (("print end", Ended), ("print strange", Strange)):
+        for last, wrong in (("print end", NetrevEndedError), ("print strange", StrangeReplyError)):
             netrev = Scripted()
             netrev.ask_ahead(["print 1", last, "print 2"])
             self.assertEqual(netrev.ask("print 1"), Reply("clock = 1"))
             with self.assertRaises(wrong):
                 netrev.ask(last)
-            with self.assertRaises(Ended):  # (a reply is left unread)
+            with self.assertRaises(NetrevEndedError):  # (a reply is left unread)
                 netrev.ask("print 2")
 
     def test_nothing_is_answered_when_the_session_is_given_up(self) -> None:
         netrev = Scripted()
         netrev.ask_ahead(["print 1", "print 2"])
-        with self.assertRaises(GivenUp):
+        with self.assertRaises(SessionAbandonedError):
             netrev._interrupts.give_up()
-        with self.assertRaises(GivenUp):
+        with self.assertRaises(SessionAbandonedError):
             netrev.ask("print 1")
 
 
@@ -172,7 +172,7 @@ class Answered(unittest.TestCase):
 
     def test_what_came_before_the_end_is_out(self) -> None:
         session, out = session_with(Scripted())
-        with self.assertRaises(Ended):
+        with self.assertRaises(NetrevEndedError):
             answer_run(session, ["print 1", "p 2", "print end"])
         self.assertEqual(out.flushed[-1], f"{self.SHOWN}(netrev) print end\n")
 

@@ -10,12 +10,12 @@ from pathlib import Path
 from typing import Any, Callable, Generic, Iterator, NamedTuple, Optional, Sequence, TypeVar
 from unittest import mock
 
-from netrev.connection.netrev import Ended, Netrev
+from netrev.connection.netrev import NetrevEndedError, Netrev
 from netrev.connection.output import JsonPrinter
 from netrev.connection.scout import Scout
 from netrev.recording.recording import Recording
 from netrev.session.session import Session
-from netrev.system.interrupts import GivenUp, Interrupts
+from netrev.system.interrupts import SessionAbandonedError, Interrupts
 from nrdb.prompt.answers import ANSWERS
 
 from .modelled import changes_at
@@ -151,7 +151,7 @@ class Disturbances(unittest.TestCase, Generic[Of]):
                 played.session.netrev._kept.clear()  # (a kept reply doesn't show that netrev has ended)
                 played.session.stands()
                 yield point, played, told, True
-            except (GivenUp, Ended):
+            except (SessionAbandonedError, NetrevEndedError):
                 played.weather.left = None
                 yield point, played, played.told(), False
             played.end()
@@ -173,5 +173,5 @@ class Disturbances(unittest.TestCase, Generic[Of]):
                             self.assertEqual(played.run(*PROBES), told_then[position])
                         else:
                             given_up += 1
-                            self.assertRaises((GivenUp, Ended), played.run, "info position")
+                            self.assertRaises((SessionAbandonedError, NetrevEndedError), played.run, "info position")
         return given_up

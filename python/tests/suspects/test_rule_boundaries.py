@@ -25,7 +25,7 @@ from netrev.reduce.units import Needs
 from netrev.run.flow import BY_STATUS, Sort
 from netrev.session.commands import parts_of, whole_words
 from netrev.session.line_hints import hint
-from netrev.session.session import Misused, Session
+from netrev.session.session import UsageError, Session
 from netrev.timeline.drawing import LETTER, Drawing, fitted
 from netrev.timeline.trace import END, write_events
 from netrev_go import cli as recorder
@@ -119,7 +119,7 @@ def test_display_adds_a_cell_once_and_shows_all(typed: str, shown: list[str]) ->
     session.show_displays = lambda: told.append(list(session.displays))
     answer_display(cast(Any, session), typed.split())
     assert told == [shown]
-    with pytest.raises(Misused):
+    with pytest.raises(UsageError):
         answer_display(cast(Any, session), ["lock", "0", "1"])
 
 
@@ -317,7 +317,7 @@ def test_the_target_of_a_reduction(words: str, found: tuple[int, str, str, int])
 
 @pytest.mark.parametrize("words", ["2 3", "clock", "lock 0", "shoe 5", "clock 8", "lock 0 absent"])
 def test_words_that_are_no_target(words: str) -> None:
-    with pytest.raises(Misused):
+    with pytest.raises(UsageError):
         wanted(words)
 
 
@@ -354,7 +354,7 @@ def test_the_suspect_that_a_reduction_keeps(
     if found:
         assert reduced._target(cast(Any, None), cast(Any, None), wanted) == (found, number)
     else:
-        with pytest.raises(Misused):
+        with pytest.raises(UsageError):
             reduced._target(cast(Any, None), cast(Any, None), wanted)
 
 

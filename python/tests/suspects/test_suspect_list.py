@@ -17,7 +17,7 @@ from netrev.recording.notes import By
 from netrev.recording.recording import Recording
 from netrev.recording.suspect_list import HeldReference, Listed, LostWakeUp, OfDeadline, SuspectList
 from netrev.run.notes import Notes
-from netrev.system.interrupts import Interrupted, Interrupts
+from netrev.system.interrupts import SearchInterruptedError, Interrupts
 from netrev.text.writing import write_plain
 from tests.machine.test_suspect_lines import random_recording, random_waits
 from tests.support.examples import ALL, REFUSED
@@ -113,7 +113,7 @@ def test_an_interrupted_wait_can_be_begun_anew(netrev: Path, tmp_path: Path) -> 
     listed = list_of(netrev, script, interrupts)
     with interrupts.held():
         interrupts.came()
-        with pytest.raises(Interrupted):
+        with pytest.raises(SearchInterruptedError):
             listed.of(22)
     (tmp_path / "go").touch()
     found = listed.of(22)

@@ -25,10 +25,10 @@ from typing import Iterator
 from netrev.system.built import netrev_program
 from netrev_go.go_command.running import places
 from netrev_go.go_command.toolchain import Go, overlay, quiet_go
-from netrev_go.log.logfile import NoLog, copy_of, log_of
+from netrev_go.log.logfile import NotALogError, copy_of, log_of
 from netrev_go.steps.asking import check
 from netrev_go.steps.compare import by_the_model, differing
-from netrev_go.steps.making import Nothing, Recording, Unconvertible, make, write, write_words
+from netrev_go.steps.making import NothingRecordedError, Recording, UnconvertibleError, make, write, write_words
 
 from .go_untouched import go_of
 
@@ -100,7 +100,7 @@ def copies(log: Path, count: int, points: int, chance: random.Random) -> Iterato
     while True:
         time.sleep(chance.random() * LONGEST)
         if log.exists():
-            with log.open("rb", buffering=0) as file, suppress(NoLog):  # (its header may not be written yet)
+            with log.open("rb", buffering=0) as file, suppress(NotALogError):  # (its header may not be written yet)
                 copy = copy_of(file).read()
                 passed = int.from_bytes(copy[8:16], "little")
             if passed > 2 * points:
@@ -118,7 +118,7 @@ def compared(copy: bytes, name: Path, netrev: str) -> tuple[Recording | None, st
         file.seek(0)
         try:
             recording = make(log_of(file, True))
-        except (Nothing, Unconvertible) as fault:
+        except (NothingRecordedError, UnconvertibleError) as fault:
             return None, str(fault)
     if not recording.prelude:
         return recording, "it doesn't begin in the middle"

@@ -15,7 +15,7 @@ import pytest
 
 from nrdb.web.document import document
 from nrdb.web.requests import Gate
-from nrdb.web.serving import Server, Unavailable, listening
+from nrdb.web.serving import Server, UnavailableError, listening
 from nrdb.web.streams import Streams
 from tests.support.web_client import LOOPBACK, Address, Listener
 
@@ -34,12 +34,12 @@ class Written:
 
     def post(self, who: str, line: str) -> None:
         if self.is_gone:
-            raise Unavailable("netrev has ended")
+            raise UnavailableError("netrev has ended")
         self.lines.append((who, line))
 
     def complete(self, line: str) -> "Future[bytes]":
         if self.is_gone:
-            raise Unavailable("netrev has ended")
+            raise UnavailableError("netrev has ended")
         made: Future[bytes] = Future()
         made.set_result(json.dumps([line, f"{line}!"]).encode("ascii"))
         return made
@@ -47,14 +47,14 @@ class Written:
     def timeline(self) -> "Future[bytes]":
         made: Future[bytes] = Future()
         if self.is_gone:
-            made.set_exception(Unavailable("netrev has ended"))
+            made.set_exception(UnavailableError("netrev has ended"))
         else:
             made.set_result(DATA)
         return made
 
     def part(self, first: int, last: int) -> "Future[bytes]":
         if last > 100:
-            raise Unavailable("there are 100 steps")
+            raise UnavailableError("there are 100 steps")
         self.parts.append((first, last))
         return self.timeline()
 

@@ -20,7 +20,7 @@ from netrev.timeline.picture import MOST, STAGES
 from nrdb.prompt.answers import ANSWERS
 from nrdb.web.painting import MOST_WAITING as MOST_PICTURES, Painter
 from nrdb.web.running import MOST_WAITING, Running
-from nrdb.web.serving import Unavailable
+from nrdb.web.serving import UnavailableError
 from nrdb.web.shared import Saying, Shared
 from tests.support.folders import folder_of
 from tests.support.modelled import Modelled, changes_at, recording_at
@@ -175,7 +175,7 @@ class NotHere(Played):
     def test_too_many_lines_wait(self) -> None:
         for _ in range(MOST_WAITING):
             self.running.post("browser 1", "info position")
-        with self.assertRaisesRegex(Unavailable, f"{MOST_WAITING} lines wait"):
+        with self.assertRaisesRegex(UnavailableError, f"{MOST_WAITING} lines wait"):
             self.running.post("browser 2", "info position")
         self.running.turn()
         self.running.post("browser 2", "info position")
@@ -226,7 +226,7 @@ class Gone(Played):
         self.assertEqual(
             self.look()[-2:], [{"event": "netrev", "there": False, "says": self.GONE}, self.unanswered("print clock")]
         )
-        with self.assertRaisesRegex(Unavailable, "netrev has ended"):
+        with self.assertRaisesRegex(UnavailableError, "netrev has ended"):
             self.running.post("browser 1", "stepi")
         self.assertEqual(self.look(), [])
 
@@ -260,7 +260,7 @@ class Gone(Played):
         self.opened = lambda _: Modelled(OTHER_MODEL, self.interrupts, lambda _: None)
         (told,) = self.look()
         self.assertIn("the recording has 10 steps, but the session's has 22", told["says"])
-        with self.assertRaises(Unavailable):
+        with self.assertRaises(UnavailableError):
             self.running.post("browser 1", "stepi")
 
     def test_what_answers_there_isnt_netrev(self) -> None:
@@ -318,7 +318,7 @@ class Pictures(Played):
         for cell, runs in part["cells"].items():
             self.assertEqual(runs[0][1], [value for at, value in whole["cells"][cell] if at <= 2][-1])
         for first, last in ((3, 2), (0, 11), (-1, 4)):
-            with self.assertRaisesRegex(Unavailable, f"at most {MOST} steps, from 0 to 10"):
+            with self.assertRaisesRegex(UnavailableError, f"at most {MOST} steps, from 0 to 10"):
                 self.running.part(first, last)
 
     def test_what_makes_it_ends_and_is_begun_anew(self) -> None:
@@ -330,10 +330,10 @@ class Pictures(Played):
 
     def test_why_there_is_none(self) -> None:
         self.painter(EXAMPLES / "other-answer.jsonl")
-        with self.assertRaisesRegex(Unavailable, "step 11: fault 109 answer"):
+        with self.assertRaisesRegex(UnavailableError, "step 11: fault 109 answer"):
             self.made(self.running.timeline())
         self.painter(EXAMPLES / "nothing.jsonl")
-        with self.assertRaisesRegex(Unavailable, "nothing.jsonl"):
+        with self.assertRaisesRegex(UnavailableError, "nothing.jsonl"):
             self.made(self.running.timeline())
 
     def test_too_many_are_waited_for(self) -> None:
@@ -341,9 +341,9 @@ class Pictures(Played):
         with mock.patch.object(Painter, "_run", lambda _: None):
             for _ in range(MOST_PICTURES):
                 self.running.timeline()
-            with self.assertRaisesRegex(Unavailable, f"{MOST_PICTURES} pictures"):
+            with self.assertRaisesRegex(UnavailableError, f"{MOST_PICTURES} pictures"):
                 self.running.timeline()
 
     def test_without_the_recording_there_is_none(self) -> None:
-        with self.assertRaisesRegex(Unavailable, "name its file after --join"):
+        with self.assertRaisesRegex(UnavailableError, "name its file after --join"):
             self.running.timeline()

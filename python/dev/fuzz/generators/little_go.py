@@ -6,7 +6,7 @@ import json
 import random
 from typing import Any, Callable, Generator
 
-from netrev.machine.machine import Refused, World
+from netrev.machine.machine import StepRefusedError, World
 from netrev.machine.steps import apply
 from netrev.run.flow import ASLEEP, LAST, step_by_status
 from netrev.text.contents import Answer, Limits
@@ -36,7 +36,7 @@ class Program:
         """Makes a step if it applies, and returns its answer, or None."""
         try:
             return self.do(kind, *arguments)
-        except Refused:
+        except StepRefusedError:
             return ()
 
     def go(self, body: Callable[[int], Turns]) -> int:

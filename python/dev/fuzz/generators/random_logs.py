@@ -17,7 +17,7 @@ from netrev.machine.in_place import Machine
 from netrev.text.contents import Limits, Step
 from netrev.text.reading import read_text
 from netrev_go.log.points import Kind, Log, Point
-from netrev_go.steps.making import Nothing, Recording, make
+from netrev_go.steps.making import NothingRecordedError, Recording, make
 
 from .small_runtime import AGAIN, BROKEN_PIPE, MODES, NIL, NO_ERROR, OTHER, READY, WAIT, Descriptor, Runtime, Turns
 
@@ -378,7 +378,7 @@ def wrong_with(program: Program, asked: Asked = lambda _: "") -> str:
     log = log_of(program)
     try:
         recording = make(log)
-    except Nothing:
+    except NothingRecordedError:
         return ""
     machine, steps, said = replayed(recording)
     return said or differs(program, log, recording, machine, steps) or asked(recording)

@@ -5,7 +5,7 @@ theme."""
 import random
 from typing import Iterator, Optional, Sequence
 
-from netrev.machine.machine import IDLE, Refused, World
+from netrev.machine.machine import IDLE, StepRefusedError, World
 from netrev.machine.steps import apply
 from netrev.run.flow import ASLEEP, step_by_status
 from netrev.text.contents import GREATEST_TIME, Answer, Limits, Recording, Step
@@ -113,7 +113,7 @@ class Author:
             step = self.step(worlds[-1])
             try:
                 world, answer = apply(worlds[-1], step)
-            except Refused:
+            except StepRefusedError:
                 continue
             worlds.append(world)
             steps.append(step)
@@ -140,7 +140,7 @@ class Author:
             step = self.wild_step(world) if self.dice.random() < 0.5 else self.step(world)
             try:
                 apply(world, step)
-            except Refused as refused:
+            except StepRefusedError as refused:
                 found.setdefault(refused.reason, {})[step[0]] = step
         return self.dice.choice(list(self.dice.choice(list(found.values())).values())) if found else None
 

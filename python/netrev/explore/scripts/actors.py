@@ -7,7 +7,7 @@ from typing import Iterator, Optional
 from netrev.text.contents import Step
 
 from .board import Board
-from .control import CLOCK, MADE, NETWORK, NotMade, Numbers
+from .control import CLOCK, MADE, NETWORK, MissingObjectError, Numbers
 from .scripts import Item, Script
 
 MOST_TRIES = 200
@@ -85,7 +85,7 @@ class Others:
 
     def steps_of(self, item: Item, board: Board, numbers: Numbers) -> Optional[list[Step]]:
         """The steps of an action that is due. The result is empty if the action has no place in this schedule, and None
-        if the action must wait. Raises NotMade if the action's object doesn't exist yet."""
+        if the action must wait. Raises MissingObjectError if the action's object doesn't exist yet."""
         kind, arguments = item.event.kind, item.event.arguments
         if kind in ("spawn", "sockopen"):
             return [(kind, *arguments)]
@@ -98,7 +98,7 @@ class Others:
         if kind == "pollevent":
             return self._event(item, numbers)
         if arguments[0] not in numbers.sockets:
-            raise NotMade
+            raise MissingObjectError
         return self._moves(item, board, numbers.sockets[arguments[0]])
 
     def _pops(self, item: Item, board: Board, numbers: Numbers) -> list[Step]:
@@ -118,7 +118,7 @@ class Others:
     def _event(self, item: Item, numbers: Numbers) -> list[Step]:
         use, tag, mode, error = item.event.arguments
         if use not in numbers.descriptors:
-            raise NotMade
+            raise MissingObjectError
         offset = tag - (self.script.ordinals[use] + 1)
         return [("pollevent", numbers.descriptors[use], max(numbers.fdseqs[use] + offset, 0), mode, error)]
 

@@ -4,6 +4,7 @@ answer to the step determines where the goroutine continues."""
 from bisect import bisect_right
 from typing import NamedTuple, Optional
 
+from netrev.errors import NetrevError
 from netrev.machine.machine import Status
 from netrev.run.flow import BY_STATUS, NAMES, Came, Sort, came, first_step, step_by_status
 from netrev.text.contents import Answer, Step
@@ -68,7 +69,7 @@ class Stream:
         return self.bytes[place : self._starts[following] if following < len(self._starts) else len(self.bytes)]
 
 
-class NotMade(Exception):
+class MissingObjectError(NetrevError):
     """Raised if the object of a step doesn't exist yet. Another goroutine must first make the object."""
 
 
@@ -132,17 +133,17 @@ class Numbers:
         return (self.sockets if is_socket else self.descriptors).get(which, -1)
 
     def needed(self, about: Optional[About]) -> int:
-        """The number of an object that a step needs; raises NotMade if the object doesn't exist."""
+        """The number of an object that a step needs; raises MissingObjectError if the object doesn't exist."""
         number = self.of(about)
         if number < 0 and about is not None:
-            raise NotMade
+            raise MissingObjectError
         return number
 
 
 def next_step(
     board: Board, numbers: Numbers, g: int, place: Place, operation: Operation, stream: Optional[Stream]
 ) -> Step:
-    """The next step of a goroutine; raises NotMade if another goroutine must first make the step's object."""
+    """The next step of a goroutine; raises MissingObjectError if another goroutine must first make the step's object."""
     if step := step_by_status(g, board.goroutines[g]):
         return step
     if place.destroys >= 0:

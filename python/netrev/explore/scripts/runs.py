@@ -2,6 +2,7 @@
 
 from typing import NamedTuple
 
+from netrev.errors import NetrevError
 from netrev.text.contents import Answer, Step
 
 
@@ -20,5 +21,5 @@ class Made(NamedTuple):
     number: int
 
 
-class Impossible(Exception):
+class ImpossibleScheduleError(NetrevError):
     """Raised if a step of a call doesn't apply: the schedule isn't possible for these calls."""

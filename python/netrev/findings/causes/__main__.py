@@ -2,7 +2,7 @@
 
 import sys
 
-from netrev.recording.recording import NoRecording, Recording
+from netrev.recording.recording import NotARecordingError, Recording
 from netrev.run.printed_changes import printed_changes
 from netrev.system.built import netrev_program
 from netrev.text.plain import plain
@@ -17,7 +17,7 @@ def main(words: list[str]) -> int:
         return 2
     try:
         recording = Recording.read(words[0])
-    except (OSError, NoRecording) as fault:
+    except (OSError, NotARecordingError) as fault:
         print(plain(f"{words[0]}: {fault}"), file=sys.stderr)
         return 3
     if netrev := netrev_program():

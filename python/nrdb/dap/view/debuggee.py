@@ -6,13 +6,13 @@ from typing import Iterator, Optional
 
 from netrev.connection.arriving_changes import ArrivingChanges
 from netrev.connection.collected_output import Collecting
-from netrev.connection.errors import Mismatched
+from netrev.connection.errors import MismatchedRecordingError
 from netrev.connection.netrev import Joined, Netrev, Own
 from netrev.connection.scout import Scout
 from netrev.connection.shapes import POSITION
 from netrev.messages import session as messages
 from netrev.recording.backward_search import last_steps
-from netrev.recording.recording import NoRecording, Recording, Step
+from netrev.recording.recording import NotARecordingError, Recording, Step
 from netrev.recording.suspect_list import SuspectList
 from netrev.session.refusals import explained, fault_of
 from netrev.session.session import Session
@@ -20,7 +20,7 @@ from netrev.system.interrupts import Interrupts
 from netrev.text.vocabulary import Of
 from nrdb.prompt.answers import ANSWERS
 
-from .messages import Unanswerable
+from .messages import UnanswerableError
 
 FAR = 10_000  # steps
 Maker = Optional[int]  # who makes a step: a goroutine's number, or None for the network and the clock
@@ -108,18 +108,18 @@ def debuggee(
     program: str, path: str, interrupts: Interrupts, address: Optional[tuple[str, int]] = None
 ) -> Iterator[Debuggee]:
     """Context with the session of the recording that is debugged: a session of its own, or the shared session at an
-    address. Raises Unanswerable if netrev or nrdb rejects the recording."""
+    address. Raises UnanswerableError if netrev or nrdb rejects the recording."""
     printer = Collecting()
     try:
         recording = Recording.read(path)
         if address and (fault := fault_of(program, path)):
-            raise NoRecording(messages.NOT_A_RECORDING.format(path=path, fault=fault))
+            raise NotARecordingError(messages.NOT_A_RECORDING.format(path=path, fault=fault))
         netrev: Netrev = Joined(address, interrupts, lambda: None) if address else Own(program, path, interrupts)
     except OSError as error:
         named = error.filename or (":".join(map(str, address)) if address else path)
-        raise Unanswerable(f"{named}: {error.strerror or error}") from None
-    except NoRecording as wrong:
-        raise Unanswerable(str(wrong)) from None
+        raise UnanswerableError(f"{named}: {error.strerror or error}") from None
+    except NotARecordingError as wrong:
+        raise UnanswerableError(str(wrong)) from None
     try:
         with begun(program, path, recording, netrev, printer, interrupts) as session:
             yield Debuggee(session, recording, printer, path)
@@ -140,11 +140,11 @@ def begun(
         session.program, session.path = program, path
         first = session.ask("info position")
         if not POSITION.fullmatch(first):
-            raise Unanswerable("\n".join([first, *explained(program, path, first)]))
+            raise UnanswerableError("\n".join([first, *explained(program, path, first)]))
         try:
             session.begin(first)
-        except Mismatched as wrong:
-            raise Unanswerable(str(wrong)) from None
+        except MismatchedRecordingError as wrong:
+            raise UnanswerableError(str(wrong)) from None
         yield session
     finally:
         scout.drop()

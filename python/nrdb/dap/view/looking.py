@@ -18,7 +18,7 @@ from netrev.views.goroutine_stacks import stack_of
 
 from .debuggee import Debuggee, Maker
 from .memory import reference_of
-from .messages import Body, Unanswerable
+from .messages import Body, UnanswerableError
 from .roots import Roots
 
 NETWORK = 65_536  # the number of the network's thread; the number of a goroutine's thread is at most 4,096
@@ -32,13 +32,13 @@ def thread_of(maker: Maker) -> int:
 
 
 def maker_of(thread: int) -> Maker:
-    """The maker with this thread number; raises Unanswerable if no maker has that number."""
+    """The maker with this thread number; raises UnanswerableError if no maker has that number."""
     if thread == NETWORK:
         return None
     if thread > GOIDS:
-        raise Unanswerable(texts.GOID_IS_IDLE.format(goid=thread - GOIDS))
+        raise UnanswerableError(texts.GOID_IS_IDLE.format(goid=thread - GOIDS))
     if not 0 < thread < NETWORK:
-        raise Unanswerable(texts.NO_GOROUTINE)
+        raise UnanswerableError(texts.NO_GOROUTINE)
     return thread - 1
 
 
@@ -99,9 +99,9 @@ class Handles:
         return self._given
 
     def take(self, number: int) -> Thing:
-        """The object with this number; raises Unanswerable if the number was given before a move."""
+        """The object with this number; raises UnanswerableError if the number was given before a move."""
         if number not in self._things:
-            raise Unanswerable(texts.OTHER_POSITION)
+            raise UnanswerableError(texts.OTHER_POSITION)
         return self._things[number]
 
     def forget(self) -> None:
@@ -153,7 +153,7 @@ class Looks:
             return self.frames(maker_of(thread))
         found = stack_of(self._debuggee.recording, Name(thread - GOIDS, True), self._debuggee.position)
         if found is None:
-            raise Unanswerable(texts.NO_GOROUTINE)
+            raise UnanswerableError(texts.NO_GOROUTINE)
         frame = Frame(None, found.since)
         calls = [self._call_frame(frame, call) for call in found.stack.calls]
         return self._ordered(found.stack, calls, [self._label(frame, found.does)])
@@ -215,7 +215,7 @@ class Looks:
         """The scopes of a frame: the frame's own objects, the machine, and everything."""
         thing = self.handles.take(frame)
         if not isinstance(thing, Frame):
-            raise Unanswerable(texts.NOT_A_FRAME)
+            raise UnanswerableError(texts.NOT_A_FRAME)
         own = [] if thing.maker is None else [Cells(Of.GOROUTINE, thing.maker)]
         near = [*own, *self._about(thing)]
         scopes = [(cells.title, self.handles.give(cells), False) for cells in (*near, Cells(Of.ALL))]
@@ -251,7 +251,7 @@ class Looks:
             return self.cells(thing.names())
         if isinstance(thing, Every):
             return self._every(thing.of)
-        raise Unanswerable(texts.NO_VARIABLE.format(reference=reference))
+        raise UnanswerableError(texts.NO_VARIABLE.format(reference=reference))
 
     def _every(self, of: Of) -> list[Body]:
         """All objects of a kind, each with its cells inside. A goroutine has only one cell."""

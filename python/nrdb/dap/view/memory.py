@@ -8,7 +8,7 @@ from netrev.connection.netrev import Netrev
 from netrev.messages import editors as texts
 from netrev.text.vocabulary import number_of
 
-from .messages import Body, Request, Unanswerable
+from .messages import Body, Request, UnanswerableError
 
 BUFFERS = ("in", "out")
 
@@ -27,12 +27,12 @@ def read(netrev: Netrev, request: Request) -> Body:
     words = named.split()
     number = number_of(words[1]) if len(words) == 2 else None
     if number is None or words[0] not in BUFFERS:
-        raise Unanswerable(texts.NOT_A_BUFFER.format(name=named))
+        raise UnanswerableError(texts.NOT_A_BUFFER.format(name=named))
     if count < 0:
-        raise Unanswerable(texts.COUNT)
+        raise UnanswerableError(texts.COUNT)
     (shown,) = netrev.looks([f"dump {words[0]} {number}"])
     if shown == "absent":
-        raise Unanswerable(texts.NO_BUFFER.format(name=named))
+        raise UnanswerableError(texts.NO_BUFFER.format(name=named))
     held = b"" if shown == "-" else bytes.fromhex(shown)
     there = held[max(begin, 0) : max(begin + count, 0)] if begin >= 0 else b""
     missing = count - len(there)

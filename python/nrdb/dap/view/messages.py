@@ -5,6 +5,7 @@ from dataclasses import dataclass, field
 from threading import Lock
 from typing import Any, BinaryIO, Optional
 
+from netrev.errors import NetrevError
 from netrev.messages import editors as texts
 
 LONGEST = 16 * 2**20  # the maximum number of bytes in a message
@@ -14,16 +15,16 @@ HEADERS = (b"content-length", b"content-type")  # the header lines of the protoc
 Body = dict[str, Any]
 
 
-class Malformed(Exception):
+class MalformedMessageError(NetrevError):
     """Raised, with the reason, if the input isn't a message. Where such an input ends is unknown, so nothing after it
     can be read."""
 
 
-class EditorGone(OSError):
+class EditorGoneError(NetrevError, OSError):
     """Raised if nothing can be written to the editor any more."""
 
 
-class Unanswerable(Exception):
+class UnanswerableError(NetrevError):
     """Raised for a request that can't be answered, with the reason for the editor to show."""
 
 
@@ -39,21 +40,21 @@ class Request:
         """The argument with this name, which must be a string."""
         value = self.arguments.get(name)
         if not isinstance(value, str):
-            raise Unanswerable(texts.STRING.format(command=self.command, name=name))
+            raise UnanswerableError(texts.STRING.format(command=self.command, name=name))
         return value
 
     def whole_number(self, name: str) -> int:
         """The argument with this name, which must be a whole number."""
         value = self.arguments.get(name)
         if not isinstance(value, int) or isinstance(value, bool):
-            raise Unanswerable(texts.INTEGER.format(command=self.command, name=name))
+            raise UnanswerableError(texts.INTEGER.format(command=self.command, name=name))
         return value
 
     def objects(self, name: str) -> list[Body]:
         """The argument with this name, which must be a list of objects; an empty list if it is missing."""
         value = self.arguments.get(name) or []
         if not isinstance(value, list) or not all(isinstance(one, dict) for one in value):
-            raise Unanswerable(texts.OBJECTS.format(command=self.command, name=name))
+            raise UnanswerableError(texts.OBJECTS.format(command=self.command, name=name))
         return value
 
 
@@ -92,14 +93,14 @@ class Wire:
             name, _, value = line.partition(b":")
             name = name.strip().lower()
             if name not in HEADERS or name in found:
-                raise Malformed(texts.ONE_HEADER)
+                raise MalformedMessageError(texts.ONE_HEADER)
             found[name] = value.strip()
         length = found.get(HEADERS[0], b"")
         if not length.isdigit() or int(length) > LONGEST:
-            raise Malformed(texts.CONTENT_LENGTH)
+            raise MalformedMessageError(texts.CONTENT_LENGTH)
         self._came += int(length)
         if self.most is not None and self._came > self.most:
-            raise Malformed(texts.TOO_MUCH.format(most=self.most))
+            raise MalformedMessageError(texts.TOO_MUCH.format(most=self.most))
         return int(length)
 
     def respond(self, request: Request, body: Body) -> None:
@@ -124,7 +125,7 @@ class Wire:
                 self._writer.write(b"Content-Length: %d\r\n\r\n%s" % (len(data), data))
                 self._writer.flush()
             except (OSError, ValueError) as gone:  # the other end, or nrdb, has closed the stream
-                raise EditorGone(str(gone)) from gone
+                raise EditorGoneError(str(gone)) from gone
 
 
 def _object(data: bytes) -> Body:
@@ -132,9 +133,9 @@ def _object(data: bytes) -> Body:
     try:
         message = json.loads(data)
     except (ValueError, RecursionError):
-        raise Malformed(texts.NOT_JSON) from None
+        raise MalformedMessageError(texts.NOT_JSON) from None
     if not isinstance(message, dict):
-        raise Malformed(texts.NOT_AN_OBJECT)
+        raise MalformedMessageError(texts.NOT_AN_OBJECT)
     return message
 
 
@@ -142,5 +143,5 @@ def _request(message: Body) -> Request:
     """The request that an object represents."""
     number, command, arguments = message.get("seq"), message.get("command"), message.get("arguments")
     if not isinstance(number, int) or not isinstance(command, str):
-        raise Malformed(texts.NO_COMMAND)
+        raise MalformedMessageError(texts.NO_COMMAND)
     return Request(number, command, arguments if isinstance(arguments, dict) else {})

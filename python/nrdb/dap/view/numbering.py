@@ -4,7 +4,7 @@ from typing import NamedTuple
 
 from netrev.messages import editors as texts
 
-from .messages import Body, Request, Unanswerable
+from .messages import Body, Request, UnanswerableError
 
 
 class Numbering(NamedTuple):
@@ -25,5 +25,5 @@ class Numbering(NamedTuple):
         """The line of a breakpoint."""
         line = breakpoint_.get("line")
         if not isinstance(line, int):
-            raise Unanswerable(texts.LINE)
+            raise UnanswerableError(texts.LINE)
         return line + 1 - self.first

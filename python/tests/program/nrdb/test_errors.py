@@ -20,7 +20,7 @@ from nrdb.prompt.answers import ANSWERS
 from nrdb.web.running import Running
 from tests.program.support.sharing import NETREV, ROOT
 
-from .common.dap_client import Adapter as Editor, Refusal
+from .common.dap_client import Adapter as Editor, RefusalError
 from .common.support import EXAMPLES, nrdb
 from .editors.test_dap_port import asked, framed
 
@@ -63,7 +63,7 @@ def test_the_adapter_answers_a_number_of_any_length() -> None:
         for command, arguments in requests:
             try:
                 assert "error in nrdb" not in str(editor(command, **arguments))
-            except Refusal as why:
+            except RefusalError as why:
                 assert "error in nrdb" not in str(why)
         assert editor("threads")["threads"]
 
@@ -158,8 +158,8 @@ def test_a_recording_larger_than_what_is_allowed_is_one_line(tmp_path: Path) -> 
     large = tmp_path / "large.jsonl"
     with large.open("wb") as file:
         file.truncate(2**31)
-    script = "import sys; from netrev.recording.recording import Recording, NoRecording\n"
-    script += "try: Recording.read(sys.argv[1])\nexcept NoRecording as why: print(why)"
+    script = "import sys; from netrev.recording.recording import Recording, NotARecordingError\n"
+    script += "try: Recording.read(sys.argv[1])\nexcept NotARecordingError as why: print(why)"
     run = subprocess.run(
         [sys.executable, "-c", script, str(large)], env=os.environ | {"PYTHONPATH": str(ROOT / "python")}, text=True,
         capture_output=True, timeout=60, check=False, preexec_fn=lambda: resource.setrlimit(resource.RLIMIT_AS, (2**30, 2**30)),

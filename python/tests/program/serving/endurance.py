@@ -12,7 +12,7 @@ from typing import Sequence
 
 from tests.program.address_spaces import MEGABYTE, limit_memory
 from tests.program.support.given import FIRST
-from tests.program.support.sharing import NETREV, PATIENCE, Wrong, expect, library_of
+from tests.program.support.sharing import NETREV, PATIENCE, WrongResultError, expect, library_of
 
 PIECE, BUFFER, EACH_COPY = 65_536, 1_048_576, 1_024
 TIMES = 10_000  # to and fro
@@ -48,7 +48,7 @@ def same(script: str, right: str, came: tuple[int, str, str]) -> None:
         "",
     )
     if wrong or output != right:
-        raise Wrong(f"{wrong or 'other replies'}; status {status}")
+        raise WrongResultError(f"{wrong or 'other replies'}; status {status}")
     expect("status and errors", (0, ""), (status, errors))
 
 
@@ -92,4 +92,4 @@ def test_reads_and_writes_that_are_interrupted_go_on(folder: Path) -> None:
         came = replies([command, FIRST], given, 0, through)
         expect("status, output and errors", right if given else (0, "ok 10 steps\n", ""), came)
         if told.stat().st_size < (2 if given else 1) * INTERRUPTED:
-            raise Wrong(f"{command} was interrupted {told.stat().st_size} times alone")
+            raise WrongResultError(f"{command} was interrupted {told.stat().st_size} times alone")

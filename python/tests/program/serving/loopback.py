@@ -30,14 +30,14 @@ from pathlib import Path
 import pytest
 from netrev.machine.debugger import FULL, Recording, is_command, read_line  # (Python needs this to find nrdb)
 from netrev.text.vocabulary import CELLS, DUMPS, KINDS, MOST, Of
-from tests.program.support.history import GaveUp, Search
+from tests.program.support.history import SearchLimitError, Search
 from tests.program.support.sharing import (
     NETREV,
     PATIENCE,
     ROOT,
     Server,
     Talker,
-    Wrong,
+    WrongResultError,
     converse,
     expect,
     read_to_end,
@@ -201,7 +201,7 @@ def history_of(recording, exchanged, journal=4096):
     """The order of a history that explains all replies."""
     order = Search(recording, exchanged, journal).find()
     if order is None:
-        raise Wrong(f"no history gives the replies of these fronts:\n{as_text(exchanged)}")
+        raise WrongResultError(f"no history gives the replies of these fronts:\n{as_text(exchanged)}")
     return order
 
 
@@ -356,7 +356,7 @@ def reads_nothing(caller):
             caller.sendall(lines)
         except TimeoutError:
             return reset(caller)
-    raise Wrong("64 MB of lines were taken from one who reads no reply")
+    raise WrongResultError("64 MB of lines were taken from one who reads no reply")
 
 
 def more_behind_quit(caller):
@@ -374,7 +374,7 @@ def no_end_behind_quit(caller):
             caller.sendall(b"x" * 65_536)
     except ConnectionError:
         return caller.close()
-    raise Wrong("64 MB behind quit were taken")
+    raise WrongResultError("64 MB behind quit were taken")
 
 
 def stays_behind_quit(caller):
@@ -436,7 +436,7 @@ def play_mixed(lives, dice, windows, workers):
         mixed[0][0] = lines.opening()
         try:
             return history_of(lives, share_lines(lives, mixed, workers=workers, windows=windows, at_once=8))
-        except GaveUp:
+        except SearchLimitError:
             if not left:
                 raise
 
@@ -484,4 +484,4 @@ def expect_no_other(recording, exchanged, has_one_place):
             altered = [list(each) for each in exchanged]
             altered[front][at] = replace(one, reply=other_reply(one.reply))
             if Search(recording, altered, 4096).find():
-                raise Wrong(f"a history was found, with {one.line!r} altered:\n{as_text(altered)}")
+                raise WrongResultError(f"a history was found, with {one.line!r} altered:\n{as_text(altered)}")

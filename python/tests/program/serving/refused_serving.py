@@ -25,7 +25,7 @@ from typing import NamedTuple
 
 import pytest
 from netrev.machine.debugger import is_command, read_line
-from tests.program.support.sharing import Server, Wrong, expect, library_of
+from tests.program.support.sharing import Server, WrongResultError, expect, library_of
 
 from .loopback import PARKED
 
@@ -195,8 +195,8 @@ def play_script(folder, preload, script):
     def play_number(number):
         try:
             return play(folder, script, [preload, f"REFUSED={number}"])
-        except Wrong as wrong:
-            raise Wrong(f"with allocation {number} refused: {wrong}") from None
+        except WrongResultError as wrong:
+            raise WrongResultError(f"with allocation {number} refused: {wrong}") from None
 
     first = 1 if script.loading else first_served(play_number)
     played: list[Played] = []

@@ -22,6 +22,7 @@ from dataclasses import dataclass
 from itertools import accumulate
 from typing import Any, NamedTuple, Optional, Sequence
 
+from netrev.errors import NetrevError
 from netrev.machine.debugger import CHECKPOINTS_FULL, FULL, MARKS_FULL, Asked, Recording, Reply, State, is_command
 
 from .sharing import Exchange
@@ -80,7 +81,7 @@ def earliest(numbers: list[int]) -> list[int]:
     return least[::-1]
 
 
-class GaveUp(Exception):
+class SearchLimitError(NetrevError):
     """Raised if the search has tried too many orders."""
 
 
@@ -150,7 +151,7 @@ class Search:
         """The state after the front's next line if the line fits now, else None."""
         self.left -= 1
         if self.left < 0:
-            raise GaveUp
+            raise SearchLimitError
         exchange = self.next_of(front)
         if exchange.reply == (FULL,):
             return self.state if is_command(exchange.asked) and self.is_full and not self.unplaced else None

@@ -17,6 +17,7 @@ from dataclasses import dataclass, field
 from itertools import count
 from pathlib import Path
 
+from netrev.errors import NetrevError
 from netrev.machine.debugger import FULL, Asked, Reply, is_command, read_line
 
 ROOT = Path(__file__).resolve().parents[4]
@@ -45,14 +46,14 @@ class Exchange:
         return not is_command(self.asked) or self.reply[0].startswith("fault ")
 
 
-class Wrong(Exception):
+class WrongResultError(NetrevError):
     """Raised if a result isn't as expected."""
 
 
 def expect(what, expected, came):
     """Prints the expected and the actual result, and fails, if they differ."""
     if expected != came:
-        raise Wrong(f"{what}\n  expected: {expected!r}\n  came:     {came!r}")
+        raise WrongResultError(f"{what}\n  expected: {expected!r}\n  came:     {came!r}")
 
 
 def is_program(path):
@@ -105,7 +106,7 @@ class Ports:
             self.held.append(marker)
             self.left = range(first + 1, first + self.BLOCK)
             return
-        raise Wrong("there are no free ports")
+        raise WrongResultError("there are no free ports")
 
     @staticmethod
     def is_free(port):
@@ -166,14 +167,14 @@ class Server:
             if self.has_ended():
                 return None
             time.sleep(0.002)
-        raise Wrong(f"front {front} didn't listen within {PATIENCE} s")
+        raise WrongResultError(f"front {front} didn't listen within {PATIENCE} s")
 
     def ended(self):
         """Waits for the end of netrev, and returns its status, output and errors."""
         try:
             output, _ = self.process.communicate(timeout=PATIENCE)
         except subprocess.TimeoutExpired:
-            raise Wrong(f"netrev serve didn't end within {PATIENCE} s") from None
+            raise WrongResultError(f"netrev serve didn't end within {PATIENCE} s") from None
         self.errors.seek(0)
         return self.process.returncode, output.decode(), self.errors.read().decode()
 
@@ -239,7 +240,7 @@ class Talker:
     def take(self, line):
         """Reads a line of a reply. Two kinds of replies are lists, whose first line says how many lines follow."""
         if self.answered == len(self.exchanges):
-            raise Wrong(f"a reply to nothing: {line!r}")
+            raise WrongResultError(f"a reply to nothing: {line!r}")
         if not self.reply:
             first, _, number = line.partition(" ")
             self.missing = 1 + (int(number) if first in ("marks", "checkpoints") else 0)
@@ -271,7 +272,9 @@ def converse(talkers):
                     selector.modify(key.fileobj, wanted, key.data)
             ready = selector.select(PATIENCE)
             if not ready:
-                raise Wrong(f"nothing came within {PATIENCE} s, with {len(selector.get_map())} callers unanswered")
+                raise WrongResultError(
+                    f"nothing came within {PATIENCE} s, with {len(selector.get_map())} callers unanswered"
+                )
             for key, events in ready:
                 talker = key.data
                 if events & selectors.EVENT_WRITE:

@@ -19,9 +19,9 @@ from dev.fuzz.runs import difference
 from dev.fuzz.sessions.interrupts import confined, heard, nothing, pressed
 from dev.fuzz.sessions.slow import Slow
 from netrev.machine import polling, replay as replaying, steps
-from netrev.machine.machine import Refused
+from netrev.machine.machine import StepRefusedError
 from netrev.recording.changes import RecordedChanges
-from netrev.system.interrupts import GivenUp, Interrupts
+from netrev.system.interrupts import SessionAbandonedError, Interrupts
 from tests.program.support.sharing import NETREV
 from tests.support.disturbed import EXAMPLE
 
@@ -36,8 +36,8 @@ def decref_with_another_reason(world, g, s):
     """A fault: `decref` without a reference is refused for another reason."""
     try:
         return steps.decref(world, g, s)
-    except Refused as refused:
-        raise Refused(6 if refused.reason == 7 else refused.reason) from refused
+    except StepRefusedError as refused:
+        raise StepRefusedError(6 if refused.reason == 7 else refused.reason) from refused
 
 
 def error_stays(world, d, mode, error):
@@ -160,7 +160,7 @@ class Pressing(unittest.TestCase):
         self.came += 1
 
     def give_up(self, happens):
-        """Sends netrev a line, checks that this raises GivenUp, and ends netrev."""
+        """Sends netrev a line, checks that this raises SessionAbandonedError, and ends netrev."""
         interrupts = Interrupts()
         with confined():
             netrev = Slow(NETREV, str(EXAMPLE), interrupts, happens)
@@ -169,7 +169,7 @@ class Pressing(unittest.TestCase):
                 with interrupts.held():
                     netrev.ask("info position")
 
-            self.assertRaises(GivenUp, heard, ask)
+            self.assertRaises(SessionAbandonedError, heard, ask)
             netrev.drop()
 
     def test_a_session_that_is_given_up_while_it_closes_leaves_no_ctrl_c_behind(self):

@@ -7,6 +7,7 @@ import os
 import subprocess
 from typing import Any, BinaryIO, Optional, cast
 
+from netrev.errors import NetrevError
 from tests.program.support.sharing import NETREV
 
 from .dap_forms import misfit_of_message
@@ -15,7 +16,7 @@ from .support import NRDB
 Body = dict[str, Any]
 
 
-class Refusal(Exception):
+class RefusalError(NetrevError):
     """Raised, with the reason, if a request was refused."""
 
 
@@ -30,7 +31,7 @@ class Client:
         self.events: list[Body] = []
 
     def __call__(self, command: str, **arguments: Any) -> Body:
-        """The answer to a request; raises Refusal if the request is refused."""
+        """The answer to a request; raises RefusalError if the request is refused."""
         self._sent += 1
         self.send({"seq": self._sent, "type": "request", "command": command, "arguments": arguments})
         while True:
@@ -41,7 +42,7 @@ class Client:
             self.events.append(message)
         assert (message["request_seq"], message["command"]) == (self._sent, command), message
         if not message["success"]:
-            raise Refusal(message["message"])
+            raise RefusalError(message["message"])
         body: Body = message["body"]
         return body
 

@@ -16,6 +16,8 @@ from contextlib import suppress
 from pathlib import Path
 from typing import Any
 
+from netrev.errors import NetrevError
+
 from .browser import CHROMIUM, PATIENCE
 from .web_support import Web
 
@@ -26,7 +28,7 @@ FREE = 10  # a number above all descriptors in use
 ENDING = 10  # seconds
 
 
-class BrowserFailure(Exception):
+class BrowserError(NetrevError):
     """Raised if the browser, or a script in a page, reports an error."""
 
 
@@ -56,7 +58,7 @@ class Chromium:
         return self
 
     def __exit__(self, *_: object) -> None:
-        with suppress(BrowserFailure, OSError):
+        with suppress(BrowserError, OSError):
             self("Browser.close")
         limit, has_ended = time.monotonic() + ENDING, False
         while not has_ended and time.monotonic() < limit:
@@ -83,7 +85,7 @@ class Chromium:
                 break
             self.events.append(message)
         if "error" in message:
-            raise BrowserFailure(f"{method}: {message['error']}")
+            raise BrowserError(f"{method}: {message['error']}")
         result: Body = message["result"]
         return result
 
@@ -92,10 +94,10 @@ class Chromium:
         limit = time.monotonic() + PATIENCE
         while b"\0" not in self._rest:
             if not select.select([self._from], [], [], max(limit - time.monotonic(), 0))[0]:
-                raise BrowserFailure(f"chromium said nothing for {PATIENCE} s")
+                raise BrowserError(f"chromium said nothing for {PATIENCE} s")
             came = os.read(self._from, 1 << 16)
             if not came:
-                raise BrowserFailure("chromium has ended")
+                raise BrowserError("chromium has ended")
             self._rest += came
         said, _, self._rest = self._rest.partition(b"\0")
         message: Body = json.loads(said)
@@ -127,7 +129,7 @@ class Page:
         """The value of an expression in the page."""
         said = self.does("Runtime.evaluate", expression=script, awaitPromise=True, returnByValue=True)
         if "exceptionDetails" in said:
-            raise BrowserFailure(f"{script}: {said['exceptionDetails']}")
+            raise BrowserError(f"{script}: {said['exceptionDetails']}")
         return said["result"].get("value")
 
     def until(self, script: str, patience: float = PATIENCE) -> Any:
@@ -137,7 +139,7 @@ class Page:
             if found := self.value(script):
                 return found
             time.sleep(0.02)
-        raise BrowserFailure(f"{script} didn't come true; the page says: {self.value('document.body.innerText')}")
+        raise BrowserError(f"{script} didn't come true; the page says: {self.value('document.body.innerText')}")
 
     def types(self, text: str) -> None:
         """Types into the focused element, and then Enter."""

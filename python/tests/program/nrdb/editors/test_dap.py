@@ -10,7 +10,7 @@ from contextlib import suppress
 from pathlib import Path
 from typing import Any
 
-from tests.program.nrdb.common.dap_client import Adapter, Refusal
+from tests.program.nrdb.common.dap_client import Adapter, RefusalError
 from tests.program.nrdb.common.dap_forms import misfit_of_message
 from tests.program.nrdb.common.support import EXAMPLES, NRDB
 
@@ -70,7 +70,7 @@ class Hunt(unittest.TestCase):
         self.editor.begin(LOST)
         frame = self.editor("stackTrace", threadId=1)["stackFrames"][0]["id"]
         self.editor.move("stepBack", threadId=1)
-        with self.assertRaisesRegex(Refusal, "another position"):
+        with self.assertRaisesRegex(RefusalError, "another position"):
             self.editor("scopes", frameId=frame)
 
     def test_lines_and_kinds_have_breakpoints(self):
@@ -144,9 +144,9 @@ class Hunt(unittest.TestCase):
         self.assertIn("fdMutex.rwlock", self.editor("evaluate", expression="rwlock", context="hover")["result"])
         labels = [one["label"] for one in self.editor("completions", text="info go", column=8)["targets"]]
         self.assertEqual(labels, ["goroutines"])
-        with self.assertRaisesRegex(Refusal, "isn't a cell"):
+        with self.assertRaisesRegex(RefusalError, "isn't a cell"):
             self.editor("evaluate", expression="no thing", context="watch")
-        with self.assertRaisesRegex(Refusal, "can't be changed"):
+        with self.assertRaisesRegex(RefusalError, "can't be changed"):
             self.editor("setVariable", variablesReference=1, name="rg 0", value="nil")
         self.editor("evaluate", expression="quit", context="repl")
         self.editor.event("terminated")
@@ -179,7 +179,7 @@ class Hunt(unittest.TestCase):
         for source in ({"path": __file__}, {"name": "main.go"}, {"path": "\0"}, {"path": 7}, "main.go", None):
             found = self.editor("breakpointLocations", source=source, line=1, endLine=3)["breakpoints"]
             self.assertEqual(found, [], source)
-            with self.assertRaisesRegex(Refusal, "no step of the recording comes from "):
+            with self.assertRaisesRegex(RefusalError, "no step of the recording comes from "):
                 self.editor("gotoTargets", source=source, line=20)
             (made,) = self.editor("setBreakpoints", source=source, breakpoints=[{"line": 2}])["breakpoints"]
             self.assertFalse(made["verified"])
@@ -245,7 +245,7 @@ class GoLines(unittest.TestCase):
             self.assertEqual(names[names.index("net/http.(*Transport).getConn") :][-1], "net/http.(*Client).Get")
             inner = [frame["source"] for frame in frames if frame["name"].startswith("net/http")]
             self.assertEqual({source["presentationHint"] for source in inner}, {"deemphasize"})
-            with self.assertRaisesRegex(Refusal, "makes no step in the recording"):
+            with self.assertRaisesRegex(RefusalError, "makes no step in the recording"):
                 editor("next", threadId=threads[waiting[0]])
         with Adapter() as editor:
             stopped = editor.begin(str(CAUSED.with_name("hub-bad.jsonl")), source="recording")
@@ -276,13 +276,13 @@ class Ends(unittest.TestCase):
             bad = Path(folder, "bad.jsonl")
             bad.write_text('{"netrev":1,"gor":1,"sock":1,"desc":1,"buf":16}\n["incref",0,0]\n')
             editor("initialize", adapterID="netrev")
-            with self.assertRaisesRegex(Refusal, "step 1: fault 107 reason 4\n(?s:.*)sockopen"):
+            with self.assertRaisesRegex(RefusalError, "step 1: fault 107 reason 4\n(?s:.*)sockopen"):
                 editor("launch", program=str(bad))
-            with self.assertRaisesRegex(Refusal, "No such file"):
+            with self.assertRaisesRegex(RefusalError, "No such file"):
                 editor("launch", program=str(bad) + ".gone")
-            with self.assertRaisesRegex(Refusal, "no file can have that name"):
+            with self.assertRaisesRegex(RefusalError, "no file can have that name"):
                 editor("launch", program=LOST + "\0")
-            with self.assertRaisesRegex(Refusal, "send launch first"):
+            with self.assertRaisesRegex(RefusalError, "send launch first"):
                 editor("threads")
             editor("disconnect")
             self.assertEqual(editor.process.wait(timeout=60), 0)
@@ -292,7 +292,7 @@ class Ends(unittest.TestCase):
             ran, program = Path(folder, "ran"), Path(folder, "program")
             program.write_text(f"#!/bin/sh\ntouch {ran}\n")
             program.chmod(0o700)
-            with self.assertRaisesRegex(Refusal, "a launch can't name"):
+            with self.assertRaisesRegex(RefusalError, "a launch can't name"):
                 editor("launch", program=LOST, netrev=str(program))
             editor.begin(LOST)
             self.assertFalse(ran.exists())
@@ -319,7 +319,7 @@ class Ends(unittest.TestCase):
                 ("setExceptionBreakpoints", {"filters": [{}]}),
             ]  # fmt: skip
             for command, arguments in wrong:
-                with self.assertRaises(Refusal, msg=command):
+                with self.assertRaises(RefusalError, msg=command):
                     editor(command, **arguments)
             named = [{"name": {}}, {"name": []}, {"name": None}, {}]
             made = editor("setFunctionBreakpoints", breakpoints=named)["breakpoints"]
@@ -346,11 +346,11 @@ class Ends(unittest.TestCase):
             for process in children(editor.process.pid):
                 os.kill(process, signal.SIGKILL)
             editor.events.clear()
-            with suppress(Refusal):  # (a long move is answered before it ends)
+            with suppress(RefusalError):  # (a long move is answered before it ends)
                 editor("continue", threadId=1)
             self.assertEqual(editor.event("output")["output"], "| netrev has ended\n")
             editor.event("terminated")
-            with self.assertRaisesRegex(Refusal, "send launch first"):
+            with self.assertRaisesRegex(RefusalError, "send launch first"):
                 editor("threads")
 
     def test_nothing_is_left_behind(self):

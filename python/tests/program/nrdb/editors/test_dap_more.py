@@ -10,7 +10,7 @@ from typing import Any
 
 import pytest
 
-from tests.program.nrdb.common.dap_client import Adapter, Refusal
+from tests.program.nrdb.common.dap_client import Adapter, RefusalError
 from tests.program.nrdb.common.support import EXAMPLES
 from tests.program.nrdb.sessions.test_join import FIRST, Other, serving
 from tests.program.nrdb.sessions.test_terminal import pairs_of_locks
@@ -119,7 +119,7 @@ class Looks(unittest.TestCase):
             self.assertEqual(editor("readMemory", memoryReference="in 0", offset=9, count=3)["unreadableBytes"], 3)
             self.assertEqual(editor("readMemory", memoryReference="out 0", count=0), {"address": "0x0"})
             for wrong in ("in 7", "lock 0", "in", "rq 0"):
-                with self.assertRaises(Refusal, msg=wrong):
+                with self.assertRaises(RefusalError, msg=wrong):
                     editor("readMemory", memoryReference=wrong, count=1)
             self.assertEqual(editor("evaluate", expression="in 0", context="watch")["memoryReference"], "in 0")
 
@@ -144,7 +144,7 @@ class Looks(unittest.TestCase):
             self.assertEqual(stopped["hitBreakpointIds"], [made["id"]])
             frames = editor("stackTrace", threadId=stopped["threadId"])["stackFrames"]
             self.assertIn(str(net), [frame["source"].get("path") for frame in frames if "source" in frame])
-            with self.assertRaisesRegex(Refusal, "goRoot must be a string"):
+            with self.assertRaisesRegex(RefusalError, "goRoot must be a string"):
                 editor("launch", program=str(HIJACKED), goRoot=7)
 
     def test_the_console_writes_never_over_the_recording(self):
@@ -192,7 +192,7 @@ class Shared(unittest.TestCase):
                 ({"program": LOST, "address": address}, "the recording has 22 steps, but the session's has 10"),
             )
             for arguments, why in cases:
-                with self.assertRaisesRegex(Refusal, why):
+                with self.assertRaisesRegex(RefusalError, why):
                     editor("attach", **arguments)
 
 

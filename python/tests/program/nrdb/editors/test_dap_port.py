@@ -15,7 +15,7 @@ from unittest.mock import patch
 import pytest
 from nrdb.dap import handshakes as handshaking
 from nrdb.dap.handshakes import Handshakes
-from tests.program.nrdb.common.dap_client import Client, Refusal
+from tests.program.nrdb.common.dap_client import Client, RefusalError
 from tests.program.nrdb.common.support import EXAMPLES, NRDB
 from tests.program.support.sharing import NETREV
 
@@ -132,7 +132,7 @@ class Strangers(Port):
             told = self.said_to(framed(asked(1, "threads"), launch, asked(3, "initialize")))
             self.assertEqual(told.count(b'"success": false'), 2, told)
             self.assertNotIn(b'"success": true', told)
-        with self.connect() as connection, self.assertRaisesRegex(Refusal, "needs the token that nrdb printed"):
+        with self.connect() as connection, self.assertRaisesRegex(RefusalError, "needs the token that nrdb printed"):
             self.editor(connection).begin(LOST)
         self.goes_on()
 

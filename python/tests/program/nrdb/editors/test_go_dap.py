@@ -14,7 +14,7 @@ from unittest.mock import patch
 
 from dev.recorder.fetching import here
 from tests.editors.test_dap_heard import told_of_work
-from tests.program.nrdb.common.dap_client import Adapter, Body, Client, Refusal
+from tests.program.nrdb.common.dap_client import Adapter, Body, Client, RefusalError
 
 from .test_dap_more import HIJACKED, LOST, SAMPLE
 from .test_editors import SAYS, conversation
@@ -70,7 +70,7 @@ class Decoded(unittest.TestCase):
         main = {"path": str(SAMPLE / "main.go")}
         editor("initialize", adapterID="netrev", supportsProgressReporting=True)
         for wrong in ("attach", "threads", "nonsense"):
-            self.assertRaises(Refusal, editor, wrong)
+            self.assertRaises(RefusalError, editor, wrong)
         editor("launch", program=str(HIJACKED), stopAt="start", source="go", sourceRoot=str(SAMPLE))
         editor.event("initialized")
         editor.move("configurationDone")
@@ -108,7 +108,7 @@ class Decoded(unittest.TestCase):
             editor("evaluate", expression=expression, context=context)
         editor("readMemory", memoryReference="in 0", count=4)
         editor("completions", text="info go", column=8)
-        self.assertRaises(Refusal, editor, "setVariable", variablesReference=1, name="rg 0", value="nil")
+        self.assertRaises(RefusalError, editor, "setVariable", variablesReference=1, name="rg 0", value="nil")
         editor("evaluate", expression="goto 200", context="repl")
         editor.stopped()
         while editor.move("reverseContinue", threadId=1)["reason"] != "exception":
