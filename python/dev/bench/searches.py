@@ -113,4 +113,4 @@ if __name__ == "__main__":
     try:
         main([int(word) for word in sys.argv[1:]] or [1, 2, 4])
     except WrongResultError as wrong:
-        sys.exit(f"searching.py: {wrong}")
+        sys.exit(f"searches.py: {wrong}")

@@ -8,8 +8,7 @@ from threading import Condition, Thread, current_thread
 from typing import Callable, Iterator, Optional
 
 from netrev.messages import session as messages
-from netrev.recording.changed_lines import IncompleteChangesError
-from netrev.recording.changes import RecordedChanges, Told
+from netrev.recording.changes import IncompleteChangesError, RecordedChanges, Told
 from netrev.system.interrupts import Interrupts
 
 from .netrev import READ, SILENCE

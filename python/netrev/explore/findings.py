@@ -10,7 +10,7 @@ from netrev.findings.suspects.found import Suspect
 from netrev.findings.suspects.loading import LEFT_BEHIND, LOST_WAKE_UP, TAKEN_BACK, WRITE_AFTER_SHUT
 from netrev.findings.suspects.ranking import suspects_of
 from netrev.machine.machine import Status, World
-from netrev.run.modelled_changes import PlayedSteps
+from netrev.run.changes import PlayedSteps
 from netrev.text.contents import Answer, Limits, Step
 
 from .failures import FAILS, Failed, Reason, failing_delays, faults_of, reason_of

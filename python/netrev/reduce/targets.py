@@ -9,7 +9,7 @@ from netrev.findings.suspects.ranking import suspects_of
 from netrev.machine.cells import value as value_of_cell
 from netrev.machine.machine import INSIDE
 from netrev.recording.words import in_words
-from netrev.run.modelled_changes import PlayedSteps
+from netrev.run.changes import PlayedSteps
 from netrev.text.vocabulary import CELLS, Of
 
 from .events import Events

@@ -6,7 +6,7 @@ from functools import cached_property, lru_cache, partial
 from typing import Any, Callable, Optional
 
 from netrev.recording.call import CLOSE, CLOSE_WRITE, CONTROL, OPEN, Call, Outcome
-from netrev.recording.goroutine_notes import Goroutine
+from netrev.recording.notes import Goroutine
 from netrev.recording.recording import Recording
 from netrev.text.vocabulary import OF_A_GOROUTINE
 
@@ -96,7 +96,7 @@ def fail(notes: Notes, call: Call, outcome: Outcome) -> None:
 
 
 # One function for each kind of step. It takes the book, the notes and a step's arguments, and returns a function that
-# runs after each step with the same line, as in `noting.py`. (`sysread`, `syswrite`, `setdeadline` and `closewrite` don't end a call.)
+# runs after each step with the same line, as in `notes.py`. (`sysread`, `syswrite`, `setdeadline` and `closewrite` don't end a call.)
 
 
 def goes_on(book: Book, notes: Notes, g: int, *_: object) -> Look:

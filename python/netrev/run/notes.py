@@ -1,21 +1,487 @@
 """Facts that no cell shows, gathered in one pass over a recording's steps and their changes. The notes say which
 goroutine has held which reference since when, which goroutine set which deadline or took which event, and how long
 goroutines paused. This is nrdb's own analysis. Two functions are prepared for each step: one notes the step, the other
-inspects the state. A recording may have a million steps, so equal lines near each other share the two functions."""
+inspects the state. A recording may have a million steps, so equal lines near each other share the two functions.
+
+A function for each kind of step (`NOTES`) gets the notes and a step's arguments, and returns the function that is called at each step
+with the same line; that one's arguments are the step's number as an integer and as text. Each function looks up the cells that it needs
+by step and cell (`12 lock 0`). `changed_aspects` in crates/nr_rev/specs/Aspect.antt says which cells a kind may change.
+`parkcommit`, a deadline and an evict neither make a word ready nor consume its readiness."""
+
+from __future__ import annotations
 
 from collections import deque
+from functools import lru_cache
 from types import MappingProxyType
 from typing import Any, Callable, Mapping, Optional
 
 from netrev.recording.changes import RecordedChanges, Told
-from netrev.recording.goroutine_notes import IDLE, MANY, Goroutine, Statuses
-from netrev.recording.notes import AT, TIMED_OUT, By, Hold, Timeout, Use, code_of
+from netrev.recording.notes import (
+    AT,
+    CLOSING,
+    IDLE,
+    MANY,
+    PARKED,
+    QUEUED,
+    SIDES,
+    TIMED_OUT,
+    By,
+    Due,
+    ErrorEvent,
+    Goroutine,
+    Hold,
+    Passing,
+    Setting,
+    Status,
+    Statuses,
+    Taking,
+    Timeout,
+    Use,
+    Wait,
+    code_of,
+    new,
+)
 from netrev.recording.recording import Recording
 from netrev.system.long_passes import without_collections
 from netrev.text.vocabulary import OF_A_GOROUTINE
 
-from .modelled_changes import changes_of
-from .notes_of_steps import NOTES, Note
+from .changes import changes_of
+
+Note = Callable[[int, str], None]  # called with the step's number as an integer and as text
+
+
+def spawned(notes: Notes) -> Note:
+    def note(step: int, number: str) -> None:
+        notes.goroutine(notes.made).is_made(step, notes.statuses[IDLE])
+        notes.made += 1
+
+    return note
+
+
+def ticked(notes: Notes, time: int) -> Note:
+    def note(step: int, number: str) -> None:
+        notes.clock = time
+
+    return note
+
+
+def stepped(notes: Notes, g: int, *_: object) -> Note:
+    """Notes that the step may give a goroutine a new status."""
+    goroutine, told, cell, moves = notes.goroutine(g), notes.told.get, f" gor {g}", notes.moves
+
+    def note(step: int, number: str) -> None:
+        if status := told(number + cell):
+            moves(goroutine, step, status)
+
+    return note
+
+
+def released(notes: Notes, g: int) -> Note:
+    """Notes that the step may wake the first goroutine in a queue of the socket."""
+    goroutine, own = notes.goroutine(g), stepped(notes, g)
+
+    def note(step: int, number: str) -> None:
+        s = goroutine.status.number
+        own(step, number)
+        for side in "rw":
+            wake(notes, notes.statuses[f"{QUEUED} {s} {side}"], step, number)
+
+    return note
+
+
+def wake(notes: Notes, status: Status, step: int, number: str) -> None:
+    """Notes that the first of the goroutines that sleep in a status may have been woken."""
+    for goroutine in status.sleepers:
+        if shown := notes.told.get(number + goroutine.cell):
+            notes.is_woken(goroutine, step, shown)
+        break
+
+
+def waking(notes: Notes, d: int) -> Note:
+    """Notes that the step may wake a goroutine that is parked on a descriptor."""
+    if d not in notes.wakers:
+        notes.wakers[d] = _waking(notes, d)
+    return notes.wakers[d]
+
+
+def _waking(notes: Notes, d: int) -> Note:
+    reading, writing = (notes.statuses[f"{PARKED} {d} {side}"] for side in "rw")
+    told, cell, infos = notes.told.get, f" info {d}", notes.infos
+
+    def note(step: int, number: str) -> None:
+        if reading.sleepers:
+            wake(notes, reading, step, number)
+        if writing.sleepers:
+            wake(notes, writing, step, number)
+        if shown := told(number + cell):
+            infos[d] = int(shown)
+
+    return note
+
+
+def opened(notes: Notes, g: int, s: int) -> Note:
+    """Notes a new descriptor. The descriptor has the number of the descriptor freed last, or a new number."""
+    told = notes.told.get
+
+    def note(step: int, number: str) -> None:
+        d = notes.free.pop() if notes.free else len(notes.use_of)
+        if tag := told(f"{number} fdseq {d}"):
+            notes.tags[d] = int(tag)
+        if info := told(f"{number} info {d}"):
+            notes.infos[d] = int(info)
+        use = Use(d, s, step, notes.tags[d])
+        if d in notes.use_of:
+            notes.socket_before[use] = notes.use_of[d].socket
+        notes.uses.append(use)
+        notes.use_of[d] = use
+        notes.open_tags[d] = use.tag
+        for ready in notes.ready.values():
+            ready.discard(d)
+
+    return note
+
+
+def closed(notes: Notes, g: int, d: int) -> Note:
+    told, cell = notes.told.get, f" fdseq {d}"
+
+    def note(step: int, number: str) -> None:
+        notes.open_tags.pop(d, None)
+        notes.free.append(d)
+        notes.use_of[d].closed = step
+        if shown := told(number + cell):
+            notes.tags[d] = int(shown)
+
+    return note
+
+
+def reset(notes: Notes, g: int, d: int, side: str) -> Note:
+    goroutine, infos, ready = notes.goroutine(g), notes.infos, notes.ready[side]
+
+    def note(step: int, number: str) -> None:
+        notes.code = 0
+        if infos[d] and notes.ends(step, g, d, side):
+            return
+        goroutine.reset = step
+        if d in ready:
+            taking = taken(notes, step, number, g, d, side)
+            if side == "r":
+                notes.use_of[d].thrown.append(taking)
+
+    return note
+
+
+def began_to_wait(notes: Notes, g: int, d: int, side: str) -> Note:
+    goroutine, told, own, moves = notes.goroutine(g), notes.told.get, f" gor {g}", notes.moves
+    infos, use_of, at = notes.infos, notes.use_of, AT[side]
+
+    def note(step: int, number: str) -> None:
+        notes.code = 0
+        if not (infos[d] and notes.ends(step, g, d, side)):
+            use_of[d].waits[at].append(new(Wait, (step, g, goroutine.tried)))
+        if status := told(number + own):
+            moves(goroutine, step, status)
+
+    return note
+
+
+def took(notes: Notes, g: int) -> Note:
+    """Notes that a goroutine arms its wait or wakes. If its wait word was ready, the goroutine consumes that."""
+    goroutine, told, own, moves, ready = notes.goroutine(g), notes.told.get, f" gor {g}", notes.moves, notes.ready
+
+    def note(step: int, number: str) -> None:
+        before = goroutine.status
+        if before.number in ready[before.side]:
+            taken(notes, step, number, g, before.number, before.side)
+        if status := told(number + own):
+            moves(goroutine, step, status)
+
+    return note
+
+
+def taken(notes: Notes, step: int, number: str, g: int, d: int, side: str) -> Taking:
+    """Notes that a goroutine consumes a descriptor's readiness."""
+    if f"{number} {side}g {d}" in notes.told:
+        notes.ready[side].discard(d)
+    use, at = notes.use_of[d], AT[side]
+    taking: Taking = new(Taking, (step, g, use.last_events[at]))
+    use.taken[at] = taking
+    return taking
+
+
+def looked(notes: Notes, g: int) -> Note:
+    """Notes that a goroutine checks why it was woken."""
+    goroutine, own = notes.goroutine(g), stepped(notes, g)
+
+    def note(step: int, number: str) -> None:
+        notes.ends(step, g, goroutine.status.number, goroutine.status.side)
+        own(step, number)
+
+    return note
+
+
+def set_deadline(notes: Notes, g: int, d: int, mode: str, time: int) -> Note:
+    sides, wakes, infos, use_of = SIDES[mode], waking(notes, d), notes.infos, notes.use_of
+    other = SIDES["w" if mode == "r" else "r"] if mode != "rw" else ()
+
+    def note(step: int, number: str) -> None:
+        if infos[d] & CLOSING:
+            return
+        use = use_of[d]
+        setting = new(Setting, (step, g, mode, time))
+        use.settings.append(setting)
+        due = new(Due, (setting, None))
+        for at in sides:
+            use.dues[at] = due
+            if time < 0:
+                use.passings[at].append(Passing(step, "setdeadline", due))
+        for at in other:
+            before = use.dues[at]
+            if before and before.moved is None:
+                use.dues[at] = Due(before.setting, setting)
+        if time < 0 or infos[d]:  # (or a deadline that has passed is moved)
+            wakes(step, number)
+
+    return note
+
+
+def evicted(notes: Notes, g: int, d: int) -> Note:
+    wakes = waking(notes, d)
+
+    def note(step: int, number: str) -> None:
+        notes.evicted[notes.use_of[d].socket] = step
+        wakes(step, number)
+
+    return note
+
+
+def came(notes: Notes, d: int, tag: int, mode: str, error: int) -> Note:
+    """Notes an event. (Little can be prepared for an event, because each use of a descriptor has its own tag.)"""
+    comes, open_tags = coming(notes, d, mode, error), notes.open_tags
+
+    def note(step: int, number: str) -> None:
+        if open_tags.get(d) == tag:
+            comes(step, number)
+        else:
+            notes.stale[d] = step, tag
+
+    return note
+
+
+def coming(notes: Notes, d: int, mode: str, error: int) -> Note:
+    """The function that notes an event, unless the event is dropped."""
+    made = notes.comings.get((d, mode, error))
+    if made is None:
+        made = notes.comings[d, mode, error] = _coming(notes, d, mode, error)
+    return made
+
+
+def _coming(notes: Notes, d: int, mode: str, error: int) -> Note:
+    wakes, told, sides, use_of = waking(notes, d), notes.told.get, SIDES[mode], notes.use_of
+    words = [(f" {side}g {d}", notes.ready[side]) for side in mode]
+
+    def note(step: int, number: str) -> None:
+        use = use_of[d]
+        if error:
+            use.errors.append(ErrorEvent(step, mode))
+        for at in sides:
+            use.last_events[at] = step
+        for word, ready in words:
+            if told(number + word) == "ready":
+                ready.add(d)
+        wakes(step, number)
+
+    return note
+
+
+@lru_cache(maxsize=1_024)
+def cell_and_value(line: str) -> tuple[str, int, str]:
+    """The name of a cell, its number, and its value: `info 0 = 8`. The results are cached, because many `fire` steps
+    make the same changes."""
+    cell, _, value = line.partition(" = ")
+    name, _, which = cell.partition(" ")
+    return name, int(which or -1), value
+
+
+def fired(notes: Notes, i: int) -> Note:
+    """Notes that a deadline passes. The changed cell shows which deadline it is."""
+
+    def note(step: int, number: str) -> None:
+        for line in notes.fired(number):
+            name, which, value = cell_and_value(line)
+            if name == "info":
+                notes.infos[which] = int(value)
+            elif name == "gor":
+                notes.is_woken(notes.goroutines[which], step, value)
+            elif name in ("rd", "wd"):
+                use, at = notes.use_of[which], AT[name[0]]
+                use.passings[at].append(new(Passing, (step, "fire", use.dues[at])))
+
+    return note
+
+
+# the fields of a lock word: low bits are the two locks, high bits count the waiting readers and writers
+REFERENCES = (2**20 - 1) << 3
+WAITING = 1 << 23
+
+
+def arrived(notes: Notes, s: int, digits: str) -> Note:
+    inputs, came, told, cell = notes.inputs, notes.arrived, notes.told.get, f" in {s}"
+
+    def note(step: int, number: str) -> None:
+        came[s] = step
+        if shown := told(number + cell):
+            inputs[s] = int(shown)
+
+    return note
+
+
+def drained(notes: Notes, s: int, count: int) -> Note:
+    outputs, told, cell = notes.outputs, notes.told.get, f" out {s}"
+
+    def note(step: int, number: str) -> None:
+        if shown := told(number + cell):
+            outputs[s] = int(shown)
+
+    return note
+
+
+def peer_closed(notes: Notes, s: int) -> Note:
+    def note(step: int, number: str) -> None:
+        notes.peer[s] = step
+
+    return note
+
+
+def read(notes: Notes, g: int, s: int, most: int) -> Note:
+    goroutine, inputs, told, cell = notes.goroutine(g), notes.inputs, notes.told.get, f" in {s}"
+    again, peer = notes.again["r"], notes.peer
+
+    def note(step: int, number: str) -> None:
+        goroutine.tried = step
+        notes.moved = 0
+        if shown := told(number + cell):
+            notes.moved = inputs[s] - int(shown)
+            inputs[s] = int(shown)
+        elif s not in peer:
+            again[s] = step
+
+    return note
+
+
+def written(notes: Notes, g: int, s: int, digits: str) -> Note:
+    goroutine, outputs, told, cell = notes.goroutine(g), notes.outputs, notes.told.get, f" out {s}"
+    again = notes.again["w"]
+
+    def note(step: int, number: str) -> None:
+        goroutine.tried = step
+        notes.moved = 0
+        if shown := told(number + cell):
+            notes.moved = int(shown) - outputs.get(s, 0)
+            outputs[s] = int(shown)
+        if s in notes.shut:
+            notes.refused_writes.append((step, g, s))
+        elif not notes.moved:
+            again[s] = step
+
+    return note
+
+
+def shut(notes: Notes, g: int, s: int) -> Note:
+    def note(step: int, number: str) -> None:
+        notes.shut.setdefault(s, By(step, g))
+
+    return note
+
+
+def referred(kind: str) -> Callable[..., Note]:
+    """Makes the function for steps that may take a reference. The function notes whether the lock word counts one more
+    reference, and, for a side, whether the step also took the lock."""
+
+    def of(notes: Notes, g: int, s: int, side: str = "") -> Note:
+        goroutine, locks, told, cell = notes.goroutine(g), notes.locks, notes.told.get, f" lock {s}"
+        holds, own, may_move = notes.holds.setdefault(s, []), f" gor {g}", kind != "incref"
+
+        def note(step: int, number: str) -> None:
+            if shown := told(number + cell):
+                before = locks.get(s, 0)
+                word = locks[s] = int(shown)
+                if word & REFERENCES > before & REFERENCES:
+                    holds.append(new(Hold, (g, step, kind, side)))
+                    goroutine.held += 1
+                    if kind == "increfclose":
+                        notes.closer[s] = By(step, g)
+            if may_move and (status := told(number + own)):
+                notes.moves(goroutine, step, status)
+
+        return note
+
+    return of
+
+
+def given(notes: Notes, g: int, s: int, side: str = "") -> Note:
+    """Notes that a goroutine gives up a reference."""
+    locks, told, cell, holds = notes.locks, notes.told.get, f" lock {s}", notes.holds.setdefault(s, [])
+    goroutine, own, longest = notes.goroutine(g), f" gor {g}", notes.longest_holds
+
+    def note(step: int, number: str) -> None:
+        before = locks[s]
+        if shown := told(number + cell):
+            locks[s] = int(shown)
+        hold = holds[-1]
+        if hold.goroutine == g and hold.side == side:
+            holds.pop()
+            goroutine.held -= 1
+        else:
+            hold = fitting(holds, g, side)
+            holds.remove(hold)
+            notes.goroutines[hold.goroutine].held -= 1
+        _, since, kind, _ = hold
+        if step - since > longest.get(kind, -1):
+            longest[kind] = step - since
+        if side and before >= WAITING and (status := told(number + own)):
+            notes.moves(goroutine, step, status)
+
+    return note
+
+
+def fitting(holds: list[Hold], g: int, side: str) -> Hold:
+    """The reference that a goroutine gives up: its own last reference of this kind. If it has none, the reference is
+    another goroutine's, because Go only counts references."""
+    of_the_sort = [one for one in holds if one.side == side]
+    mine = [one for one in of_the_sort if one.goroutine == g]
+    return (mine or of_the_sort or holds)[-1]
+
+
+NOTES: dict[str, Callable[..., Note]] = {
+    "spawn": spawned,
+    "exit": stepped,
+    "arrive": arrived,
+    "peerclose": peer_closed,
+    "sysread": read,
+    "syswrite": written,
+    "drain": drained,
+    "closewrite": shut,
+    **{kind: referred(kind) for kind in ("incref", "increfclose", "rwlock")},
+    "decref": given,
+    "rwunlock": given,
+    "acquire": stepped,
+    "release": released,
+    "pollopen": opened,
+    "pollclose": closed,
+    "pollreset": reset,
+    "waitbegin": began_to_wait,
+    "blockarm": took,
+    "blockcheck": stepped,
+    "parkcommit": stepped,
+    "blockswap": took,
+    "waitcheck": looked,
+    "setdeadline": set_deadline,
+    "evict": evicted,
+    "pollevent": came,
+    "fire": fired,
+    "tick": ticked,
+}
+
 
 Look = Callable[[int], None]  # called with the step's number
 Looks = Mapping[str, Callable[..., Look]]  # makes such a function for each kind, from the notes and a step's arguments

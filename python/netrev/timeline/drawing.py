@@ -10,7 +10,7 @@ from netrev.findings.evidence.index import index_of
 from netrev.findings.evidence.words import name_of
 from netrev.recording.call import Call
 from netrev.recording.recording import Recording
-from netrev.run.modelled_changes import changes_of
+from netrev.run.changes import changes_of
 from netrev.text.plain import plain
 
 from .calls import DONE, FAILED, HANGS, LISTENS, OPEN, Data, names_data, state_of

@@ -24,7 +24,7 @@ from netrev.machine.steps import apply
 from netrev.recording.recording import Recording
 from netrev.run.calls import book_of
 from netrev.run.flow import Sort
-from netrev.run.modelled_changes import PlayedSteps
+from netrev.run.changes import PlayedSteps
 from netrev.session.session import UsageError
 from netrev.system.interrupts import SearchInterruptedError
 from netrev.text.contents import Limits

@@ -12,7 +12,8 @@ from unittest.mock import patch
 from netrev.findings.causes import __main__ as causes, first_words
 from netrev.findings.causes.tables import hangs_table
 from netrev.recording.recording import Recording
-from netrev.run import modelled_changes, printed_changes
+from netrev.run import changes as modelled_changes
+from netrev.run import changes as printed_changes
 from tests.suspects.test_suspects import OPEN
 
 from .test_causes import CAUSED, with_lines

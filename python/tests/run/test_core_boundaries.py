@@ -13,8 +13,7 @@ import pytest
 from netrev.findings.suspects.loading import RULES, RULES_OF_CALLS, _rule_of
 from netrev.messages import texts
 from netrev.recording.call import Call, Outcome
-from netrev.recording.goroutine_notes import Pauses, Status
-from netrev.recording.notes import Setting, Use
+from netrev.recording.notes import Pauses, Setting, Status, Use
 from netrev.recording.recording import NotARecordingError, check_size
 from netrev.run import calls
 from netrev.run.calls import Book

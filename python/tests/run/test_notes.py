@@ -8,9 +8,9 @@ from typing import Any, Callable, Iterator, Sequence
 from unittest.mock import patch
 
 from dev.fuzz.generators.random_steps import Author
-from netrev.recording.goroutine_notes import MANY
+from netrev.recording.notes import MANY
 from netrev.run.calls import Book
-from netrev.run.modelled_changes import PlayedSteps
+from netrev.run.changes import PlayedSteps
 from netrev.run.notes import Notes
 from netrev.text.vocabulary import KINDS, OF_A_GOROUTINE
 
@@ -42,7 +42,7 @@ class Paused(unittest.TestCase):
         for seed in SEEDS:
             recording, _ = Author(random.Random(f"pauses {seed}")).recording(STEPS)
             behind = Behind()
-            with self.subTest(seed=seed), patch("netrev.recording.changed_lines.WINDOW", 2 ** (seed % 14)):
+            with self.subTest(seed=seed), patch("netrev.recording.changes.WINDOW", 2 ** (seed % 14)):
                 notes = Notes(PlayedSteps(recording.steps), {kind: behind.made for kind in KINDS})
                 pauses = behind.pauses(recording.steps)
                 found = {place: (known.count, known.longest) for place, known in notes.pauses.items() if known.count}

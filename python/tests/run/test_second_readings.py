@@ -14,7 +14,7 @@ from netrev.machine.steps import apply
 from netrev.recording.notes import Use
 from netrev.recording.recording import Recording
 from netrev.run.calls import book_of
-from netrev.run.modelled_changes import changes_of
+from netrev.run.changes import changes_of
 from netrev.run.notes import Notes
 from netrev.run.timers import timers_of
 from netrev.text.contents import Limits, Recording as Text

@@ -7,7 +7,7 @@ from dev.fuzz.generators.injections import Bug, Traffic
 from dev.fuzz.generators.random_steps import Author
 from netrev.recording.recording import Recording
 from netrev.run.calls import book_of
-from netrev.run.modelled_changes import PlayedSteps
+from netrev.run.changes import PlayedSteps
 from netrev.run.owners import NONE
 from netrev.run.used_sockets import Touched
 

@@ -8,7 +8,7 @@ import pytest
 from netrev.findings.suspects.found import HANGS, STILL_THERE, TIMED_OUT, Suspect, Weight
 from netrev.findings.suspects.ranking import suspects_of
 from netrev.findings.suspects.rules_of_calls.left_open import SINCE
-from netrev.run.modelled_changes import changes_of
+from netrev.run.changes import changes_of
 from tests.failed_calls.test_causes import (
     CLOSES,
     GETS,

@@ -3,7 +3,7 @@
 import sys
 
 from netrev.recording.recording import NotARecordingError, Recording
-from netrev.run.printed_changes import printed_changes
+from netrev.run.changes import printed_changes
 from netrev.system.built import netrev_program
 from netrev.text.plain import plain
 

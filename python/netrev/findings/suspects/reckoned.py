@@ -4,8 +4,7 @@ directly.)"""
 
 from typing import Iterator, Optional
 
-from netrev.recording.goroutine_notes import PARKED
-from netrev.recording.notes import AT, By, Due
+from netrev.recording.notes import AT, PARKED, By, Due
 from netrev.recording.suspect_list import Listed, LostWakeUp, OfDeadline
 from netrev.run.notes import Notes
 

@@ -7,8 +7,7 @@ from typing import Optional
 
 from netrev.findings.evidence.index import Index, index_of
 from netrev.machine.machine import INSIDE
-from netrev.recording.goroutine_notes import MANY
-from netrev.recording.notes import AT, Use
+from netrev.recording.notes import AT, MANY, Use
 from netrev.recording.suspect_list import Listed
 from netrev.run.notes import Notes
 from netrev.text.plurals import counted

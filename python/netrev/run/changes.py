@@ -1,14 +1,32 @@
-"""The changes made by a recording's steps, for schedules of `explore` and candidates of `reduce`. They are computed
-without netrev, by the Python model of the machine, in the form of `netrev changes`."""
+"""The changes made by a recording's steps, for callers without a session: from one run of `netrev changes`, or computed
+without netrev, by the Python model of the machine, which takes many times as long."""
 
+import subprocess
 from typing import Any, Callable, Iterable, Iterator, Optional
 
 from netrev.machine.in_place import Machine
 from netrev.model.changes import lines_of
-from netrev.recording.changes import RecordedChanges
+from netrev.recording.changes import IncompleteChangesError, RecordedChanges
 from netrev.recording.recording import Recording, Row
+from netrev.system.command_lines import file_word
 from netrev.text.contents import Limits, Step
 from netrev.text.vocabulary import KINDS, MOST
+
+# the seconds that netrev may take, and the additional seconds for each step; the model takes about as long
+AT_LEAST, A_STEP = 5, 0.00005
+
+
+def printed_changes(netrev: str, path: str, recording: Recording) -> Optional[RecordedChanges]:
+    """The changes of a recording in a file, as netrev lists them. The result is None if netrev can't be started, takes
+    longer than the model would, or refuses the recording."""
+    words, seconds = [netrev, "changes", file_word(path)], AT_LEAST + A_STEP * recording.length
+    try:
+        run = subprocess.run(words, stdin=subprocess.DEVNULL, capture_output=True, timeout=seconds, check=False)
+        changes = RecordedChanges.read([run.stdout])
+    except (OSError, subprocess.TimeoutExpired, IncompleteChangesError):
+        return None
+    return None if run.returncode or changes.fault or changes.length != recording.length else changes
+
 
 WIDE = Limits(MOST, MOST, MOST, MOST)  # (the steps were made within the limits)
 OF_BYTES = frozenset(kind for kind, row in KINDS.items() if "bytes" in row.arguments)
