@@ -3,11 +3,12 @@ hanging goroutines wait for. If nothing failed and nothing hangs, it shows what 
 command to type next."""
 
 from collections import defaultdict
-from typing import Callable, Hashable, Union
+from typing import Callable, Hashable, NamedTuple, Sequence, Union
 
 from netrev.findings.evidence.ended_goroutines import goid_of
 from netrev.findings.evidence.index import READING, WRITING, Cause, Index, index_of, with_more, with_others
 from netrev.findings.evidence.words import is_of_go, place_in, waits_words
+from netrev.findings.finding import Finding, Kind, command_of, place_of
 from netrev.findings.hangs.hang_words import hang_looks, hang_says, tree_lines
 from netrev.findings.hangs.joins import Topic, joined
 from netrev.findings.hangs.wait_graph import Hang, WaitGraph, graph_at, is_at_mutex, waiters_of
@@ -20,10 +21,9 @@ from netrev.findings.streams.failed_dials import ended_says, failed_dials, refus
 from netrev.findings.streams.gone_readers import ended_behind
 from netrev.findings.streams.unpassed_ends import unpassed_ends
 from netrev.recording.call import CLOSE, Call, Outcome
-from netrev.recording.goroutines import FOR_VALUE
+from netrev.recording.goroutines import FOR_VALUE, FailedDial
 from netrev.recording.recording import Recording
-from netrev.recording.waits import Name
-from netrev.system.command_lines import command_line, file_word
+from netrev.recording.waits import Name, name_of_goid
 from netrev.text.plurals import counted
 
 from .ended_requests import requests_that_ended
@@ -35,38 +35,86 @@ MOST_FAILED, MOST_HANGS, MOST_PERHAPS = 4, 3, 2
 CAUSE, INDENT, NEXT = "cause:  ", "        ", "next:   "
 
 
+class FirstFindings(NamedTuple):
+    """The failed calls and hangs that the first output shows, the number of those that it leaves out, and, if nothing
+    failed, what may be wrong."""
+
+    shown: list[Finding]
+    left_out: int
+    perhaps: list[Finding]
+
+    @property
+    def all(self) -> list[Finding]:
+        """All findings that are shown, in order."""
+        return [*self.shown, *self.perhaps]
+
+    def lines(self, name: str) -> list[str]:
+        """The lines of the first output, before `plain` is applied to them; none if no cause is found."""
+        lines = [line for finding in self.shown for line in paragraph(finding.sentences)]
+        if self.left_out:
+            lines.append(f"{INDENT}({self.left_out} more: info errors, info hangs)")
+        lines += [line for finding in self.perhaps for line in paragraph(finding.sentences)]
+        return [*lines, *(f"{NEXT}{command_of(finding.evidence, name)}" for finding in self.all[:1])]
+
+
 def first_words(recording: Recording, name: str) -> list[str]:
     """The lines of the first output, before `plain` is applied to them; none if no cause is found."""
-    failed = failures_of(recording)
+    return first_findings(recording).lines(name)
+
+
+def first_findings(recording: Recording) -> FirstFindings:
+    """The findings of the first output."""
+    failed, shown = failures_of(recording), set[int]()
     graph = graph_at(recording, recording.length)
     hangs = hangs_of(graph, bool(failed))
-    shown, looks, lines = set[int](), list[list[str]](), list[str]()
     topics = topics_of(graph, failed[:MOST_FAILED], hangs[:MOST_HANGS])
-    for topic in topics:
-        looks.append(topic_looks(topic))
-        lines += paragraph(topic_lines(graph, topic, shown))
-    if rest := len(failed) + len(hangs) - len([one for one in topics if one.cause]) - count_in(hangs, topics):
-        lines.append(f"{INDENT}({rest} more: info errors, info hangs)")
+    found = [finding_of_topic(graph, topic, shown) for topic in topics]
+    left_out = len(failed) + len(hangs) - len([topic for topic in topics if topic.cause]) - count_in(hangs, topics)
+    perhaps = list[Finding]()
     if not failed and all(hang.is_quiet for hang in hangs):
-        left = list(failed_dials(index_of(recording))) or leftovers_of(recording)
-        cancelled = [*requests_that_ended(recording, False), *causes_of_ended(index_of(recording))]
-        late = list(late_answers(index_of(recording)))
-        perhaps = [*cancelled, *once(recording, [*late, *left], [1] * len([*late, *left]))][:MOST_PERHAPS]
-        perhaps = [one for one in perhaps if not any(one.says[0].endswith(line.strip()) for line in lines)]
-        looks += [one.looks for one in perhaps]
-        lines += [line for one in perhaps for line in paragraph([*one.says, *text_after(recording, one.stopped)])]
-    if not lines:
-        refused = list(refused_dials(recording))[:MOST_FAILED]
-        lines += [
-            line
-            for one in refused
-            for line in paragraph([f"{refused_words(recording, one)}.", *ended_says(recording, one)])
-        ]
-        looks += [[f"goto {one.step}", "info goroutines"] for one in refused]
-    if looks:
-        words = [file_word(name), *(word for look in looks[0] for word in ("-ex", look))]
-        lines.append(f"{NEXT}{command_line('nrdb', *words)}")
-    return lines
+        perhaps = perhaps_of(recording, [line.strip() for finding in found for line in finding.sentences[1:]])
+    if not found and not left_out and not perhaps:
+        perhaps = [finding_of_dial(recording, dial) for dial in refused_dials(recording)][:MOST_FAILED]
+    return FirstFindings(found, left_out, perhaps)
+
+
+def finding_of_topic(graph: WaitGraph, topic: Topic, shown: set[int]) -> Finding:
+    """The finding for a topic. `shown` has the steps whose source is shown so far."""
+    sentences, evidence = topic_lines(graph, topic, shown), topic_looks(topic)
+    if topic.cause:
+        return finding_of_cause(Kind.FAILED_CALL, graph.recording, topic.cause._replace(says=sentences, looks=evidence))
+    roots = topic.hang.roots if topic.hang else []
+    place = place_of(roots[0].stack) if roots else None
+    steps, names = tuple(root.since for root in roots), tuple(root.name for root in roots)
+    return Finding(Kind.HANG, tuple(sentences), place, steps, names, tuple(evidence))
+
+
+def finding_of_cause(kind: Kind, recording: Recording, cause: Cause) -> Finding:
+    """The finding for a cause, with its sentences."""
+    place = place_of(recording.lines.of(cause.call.first))
+    names = (Name(cause.call.goroutine),)
+    return Finding(kind, tuple(cause.says), place, tuple(cause.steps), names, tuple(cause.looks))
+
+
+def perhaps_of(recording: Recording, sentences: list[str]) -> list[Finding]:
+    """What may be wrong if no call failed, unless one of these sentences says so already."""
+    index = index_of(recording)
+    left = list(failed_dials(index)) or leftovers_of(recording)
+    cancelled = [*requests_that_ended(recording, False), *causes_of_ended(index)]
+    late = list(late_answers(index))
+    perhaps = [*cancelled, *once(recording, [*late, *left], [1] * len([*late, *left]))][:MOST_PERHAPS]
+    new = [cause for cause in perhaps if not any(cause.says[0].endswith(sentence) for sentence in sentences)]
+    return [
+        finding_of_cause(Kind.LEFT_OVER, recording, with_more(cause, text_after(recording, cause.stopped)))
+        for cause in new
+    ]
+
+
+def finding_of_dial(recording: Recording, dial: FailedDial) -> Finding:
+    """The finding for a dial that the system refused."""
+    sentences = (f"{refused_words(recording, dial)}.", *ended_says(recording, dial))
+    place, name = place_of(recording.lines.stacks[dial.stack]), name_of_goid(recording.lines, dial.goid)
+    return Finding(Kind.REFUSED_DIAL, sentences, place, (dial.step,), (name,), (f"goto {dial.step}", "info goroutines"))
 
 
 def topics_of(graph: WaitGraph, failed: list[Cause], hangs: list[Hang]) -> list[Topic]:
@@ -271,7 +319,7 @@ def alike(recording: Recording, step: int, other: int) -> bool:
     return recording.lines.of(step).own() == recording.lines.of(other).own()
 
 
-def paragraph(says: list[str]) -> list[str]:
+def paragraph(says: Sequence[str]) -> list[str]:
     """The lines of a cause, one sentence to a line."""
     first, *rest = says
     return [f"{CAUSE}{first}", *(f"{INDENT}{line}" for line in rest)]

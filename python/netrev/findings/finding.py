@@ -1,0 +1,66 @@
+"""A finding about a recording, such as a failed call, a hang or a suspect. Printers turn findings into text, JSON and
+annotations."""
+
+import re
+from dataclasses import dataclass
+from enum import Enum
+from typing import Iterator, NamedTuple, Optional, Sequence
+
+from netrev.recording.waits import Name
+from netrev.recording.where import Stack
+from netrev.system.command_lines import command_line, file_word
+from netrev.text.plain import plain
+
+# A file's name begins at the start of a word; otherwise a long word would be searched from each of its letters.
+PLACE = re.compile(r"(?<![\w./@+~-])([\w./@+~-]+\.go):(\d+)\b")
+
+
+class Kind(Enum):
+    """The kinds of findings."""
+
+    FAILED_CALL = "failed call"
+    HANG = "hang"
+    LEFT_OVER = "left over"  # what may be wrong if no call failed
+    REFUSED_DIAL = "refused dial"
+    WAIT = "wait"  # a goroutine that isn't at rest at the end
+    SUSPECT = "suspect"
+
+
+class Place(NamedTuple):
+    """A line of a source file."""
+
+    file: str
+    line: int
+
+
+@dataclass(frozen=True)
+class Finding:
+    """A finding: its line of the program if known, the steps and goroutines that it names, its sentences, and nrdb's
+    commands that show it. Each detail begins with a label: netrev's answers, doubts about them, and the steps' lines.
+    """
+
+    kind: Kind
+    sentences: tuple[str, ...]
+    place: Optional[Place] = None
+    steps: tuple[int, ...] = ()
+    goroutines: tuple[Name, ...] = ()
+    evidence: tuple[str, ...] = ()
+    details: tuple[str, ...] = ()
+
+
+def place_of(stack: Stack) -> Optional[Place]:
+    """The program's line in a stack, if known."""
+    own = stack.own()
+    return Place(own[0].file, own[0].line) if own else None
+
+
+def named_places(sentences: Sequence[str]) -> Iterator[tuple[Place, str]]:
+    """The first line of a source file that a sentence names, and the sentence, for each sentence that names one."""
+    for sentence in map(plain, sentences):
+        if named := PLACE.search(sentence):
+            yield Place(named[1], int(named[2])), sentence.strip()
+
+
+def command_of(evidence: Sequence[str], name: object) -> str:
+    """The command line that opens a recording and runs the commands of a finding."""
+    return command_line("nrdb", file_word(name), *(word for command in evidence for word in ("-ex", command)))
