@@ -8,7 +8,7 @@ from threading import Condition, Thread, current_thread
 from typing import Callable, Iterator, Optional
 
 from netrev.messages import session as messages
-from netrev.recording.changes import IncompleteChangesError, RecordedChanges, Told
+from netrev.recording.changes import IncompleteChangesError, RecordedChanges, StepChanges
 from netrev.system.interrupts import Interrupts
 
 from .netrev import READ, SILENCE
@@ -89,10 +89,10 @@ class ArrivingChanges(RecordedChanges):
         with self._lost_where_wrong():
             yield from super().between(first, last)
 
-    def told(self) -> Iterator[Told]:
-        for told in super().told():
+    def by_steps(self) -> Iterator[StepChanges]:
+        for changes in super().by_steps():
             self._interrupts.check()
-            yield told
+            yield changes
 
     def _hold(self) -> None:
         with self._lost_where_wrong():

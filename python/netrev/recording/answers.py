@@ -80,12 +80,12 @@ def name_of(answer: Any) -> str:
 def answer_words(kind: str, answer: Any) -> str:
     """The meaning of an answer; empty if the answer's name says everything."""
     name = name_of(answer)
-    said = SAYS.get(kind, {}).get(name, "")
+    meaning = SAYS.get(kind, {}).get(name, "")
     if name in ("got", "put"):
-        return said.format(bytes=counted(answer[1], "byte"))
-    if name == "code" and not said and answer[1] < len(OF_A_CHECK):
+        return meaning.format(bytes=counted(answer[1], "byte"))
+    if name == "code" and not meaning and answer[1] < len(OF_A_CHECK):
         return f"the check: {OF_A_CHECK[answer[1]]}"
-    return said
+    return meaning
 
 
 def spelled(kind: str) -> str:

@@ -135,7 +135,7 @@ class Change(NamedTuple):
     value: str
 
 
-class Told(NamedTuple):
+class StepChanges(NamedTuple):
     """The changes of a range of steps. The lines are in one text, with a line feed before each line."""
 
     first: int
@@ -165,8 +165,8 @@ class OfCells(dict[str, "array[int]"]):
     """An array of numbers for each cell."""
 
     def __missing__(self, cell: str) -> "array[int]":
-        self[cell] = made = array("I")
-        return made
+        self[cell] = numbers = array("I")
+        return numbers
 
 
 def value_at_start(cell: str) -> str:
@@ -281,13 +281,13 @@ class RecordedChanges:
         """All changes, step by step."""
         return (Change(int(step), cell, value) for step, cell, value in self.texts())
 
-    def told(self) -> Iterator[Told]:
+    def by_steps(self) -> Iterator[StepChanges]:
         """All changes, a few thousand steps at a time, for a caller that needs few of the changes. The lines aren't
         parsed one by one."""
         self._wait(None)
         first = 1
         for end, text in self._lines.whole_steps(self._length + 1):
-            yield Told(first, end, text)
+            yield StepChanges(first, end, text)
             first = end
 
     def _is_asked_little(self) -> bool:
@@ -342,8 +342,8 @@ class RecordedChanges:
             raise IncompleteChangesError(messages.CHANGES_GO_ON)
         last = text.rfind(b"\n", 0, end - 1) + 1
         is_end = text.find(b" = ", last, end) < 0
-        if told := text[: last if is_end else end]:
-            self._lines.take(told)
+        if lines := text[: last if is_end else end]:
+            self._lines.take(lines)
         if is_end:
             try:
                 self._take_end(text[last : end - 1].decode("ascii"))

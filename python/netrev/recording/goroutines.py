@@ -269,7 +269,7 @@ class AllGoroutines:
 
     def park_of(self, goid: int, position: int) -> Optional[Park]:
         """The goroutine's wait outside the poller at a position; None if it isn't in such a wait."""
-        return next((one for one in self.parks.get(goid, ()) if one.is_at(position)), None)
+        return next((park for park in self.parks.get(goid, ()) if park.is_at(position)), None)
 
 
 def typed(value: Any, sort: type) -> Any:

@@ -182,12 +182,12 @@ class Status(str):
     is_asleep: bool
 
     def __new__(cls, text: str, pauses: Pauses) -> "Status":
-        made = super().__new__(cls, text)
+        status = super().__new__(cls, text)
         place, *rest = text.split(" ")
-        made.number, made.side = int(rest[0]) if rest else -1, "".join(rest[1:])
-        made.pauses, made.sleepers = pauses, {}
-        made.is_idle, made.is_acquiring, made.is_asleep = place == IDLE, place == ACQUIRING, place in (QUEUED, PARKED)
-        return made
+        status.number, status.side = int(rest[0]) if rest else -1, "".join(rest[1:])
+        status.pauses, status.sleepers = pauses, {}
+        status.is_idle, status.is_acquiring, status.is_asleep = place == IDLE, place == ACQUIRING, place in (QUEUED, PARKED)
+        return status
 
 
 class Statuses(dict[str, Status]):

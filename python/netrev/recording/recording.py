@@ -192,12 +192,12 @@ class Recording:
         """The JSON array of each step, in order. Equal lines may share an array, which must not be changed."""
         return self.rows(lambda values: values)
 
-    def rows(self, made: Callable[[list[Any]], Row], begin: int = 1, end: Optional[int] = None) -> Iterator[Row]:
+    def rows(self, row_of: Callable[[list[Any]], Row], begin: int = 1, end: Optional[int] = None) -> Iterator[Row]:
         """The result of `made` for each step's array, in order. Equal lines near each other may share one result."""
-        return chain.from_iterable(self._rows_together(made, begin, end))
+        return chain.from_iterable(self._rows_together(row_of, begin, end))
 
     def _rows_together(
-        self, made: Callable[[list[Any]], Row], begin: int, end: Optional[int]
+        self, row_of: Callable[[list[Any]], Row], begin: int, end: Optional[int]
     ) -> Iterator[Iterable[Row]]:
         """The values of `rows`, in groups of steps that are parsed together."""
         end = self.length if end is None else min(end, self.length)
@@ -210,7 +210,7 @@ class Recording:
             if not isinstance(self._numbers, range):  # (some are blank)
                 lines = [line for line in lines if line and not line.isspace()]
             unlike = dict.fromkeys(lines)
-            rows = dict(zip(unlike, map(made, parsed(b"[%s]" % b",".join(unlike)))))
+            rows = dict(zip(unlike, map(row_of, parsed(b"[%s]" % b",".join(unlike)))))
             yield map(rows.__getitem__, lines)
 
     def steps_of(self, kinds: tuple[str, ...], until: int, socket: Optional[int] = None) -> Iterator[Step]:

@@ -95,22 +95,22 @@ class Lines(AllGoroutines):
     @classmethod
     def beside(cls, path: str, steps: int) -> "Lines":
         """The lines from the file beside a recording with this many steps."""
-        made, name = cls(), Path(path).with_suffix(".where")
+        lines, name = cls(), Path(path).with_suffix(".where")
         try:
             status = os.stat(name)
             if not stat.S_ISREG(status.st_mode):
-                made.fault = messages.LINES_NOT_A_FILE
+                lines.fault = messages.LINES_NOT_A_FILE
             elif status.st_size > MOST_BYTES:
-                made.fault = messages.LINES_TOO_LARGE.format(megabytes=MOST_BYTES // 2**20)
+                lines.fault = messages.LINES_TOO_LARGE.format(megabytes=MOST_BYTES // 2**20)
             else:
-                made.written = status.st_mtime
+                lines.written = status.st_mtime
                 with open(name, encoding="utf-8") as file:
-                    made._take(iter(lambda: file.readline(MOST_LINE), ""), steps)
+                    lines._take(iter(lambda: file.readline(MOST_LINE), ""), steps)
         except FileNotFoundError:
             pass
         except OSError as error:
-            made.fault = error.strerror or messages.LINES_UNREADABLE
-        return made
+            lines.fault = error.strerror or messages.LINES_UNREADABLE
+        return lines
 
     def why_unused(self, path: str) -> str:
         """The message that says why a file can't be used."""

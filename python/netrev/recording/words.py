@@ -32,7 +32,7 @@ class LockWord:
         return cls(bool(word & 1), bool(word & 2), bool(word & 4), *counts)
 
     def __str__(self) -> str:
-        said = [
+        parts = [
             "closed" if self.closed else "",
             "read lock" if self.read_locked else "",
             "write lock" if self.write_locked else "",
@@ -40,7 +40,7 @@ class LockWord:
             f"{self.readers} waiting to read" if self.readers else "",
             f"{self.writers} waiting to write" if self.writers else "",
         ]
-        return ", ".join(filter(None, said))
+        return ", ".join(filter(None, parts))
 
 
 def lock_words(value: str) -> str:
@@ -51,14 +51,14 @@ def lock_words(value: str) -> str:
 def info_words(value: str) -> str:
     """The meaning of a descriptor's summary."""
     bits = {1: "closing", 2: "event error", 4: "read deadline passed", 8: "write deadline passed"}
-    said = [words for bit, words in bits.items() if int(value) & bit]
-    return ", ".join(said) or "nothing is set"
+    meanings = [words for bit, words in bits.items() if int(value) & bit]
+    return ", ".join(meanings) or "nothing is set"
 
 
 def _owing(socket: str, reads: str, writes: str) -> str:
     owed = ((reads, "readers"), (writes, "writers"))
-    said = [f"{counted(int(number), 'release')} to {who}" for number, who in owed if number != "0"]
-    return f"owes {' and '.join(said)} of socket {socket}"
+    releases = [f"{counted(int(number), 'release')} to {who}" for number, who in owed if number != "0"]
+    return f"owes {' and '.join(releases)} of socket {socket}"
 
 
 STATUSES = {
@@ -85,12 +85,12 @@ def status_words(value: str) -> str:
 
 def poll_words(value: str) -> str:
     """A descriptor's wait word as text; empty for `nil`."""
-    said = {
+    meanings = {
         "nil": "",
         "ready": "an event came that nobody has taken",
         "wait": "a goroutine is about to park",
     }
-    return said.get(value, f"goroutine {value[1:]} is parked")
+    return meanings.get(value, f"goroutine {value[1:]} is parked")
 
 
 def deadline_words(value: str) -> str:

@@ -54,12 +54,12 @@ class Book:
     def _seeing_errors(self, maker: Optional[Maker], notes: Notes, g: int, *arguments: Any) -> Look:
         """Stores the step's error in the innermost call. Only a recording with errors of system calls needs this. The
         call may end with this step."""
-        made, goroutine, calls = maker and maker(self, notes, g, *arguments), notes.goroutine(g), self.open[g]
+        inner, goroutine, calls = maker and maker(self, notes, g, *arguments), notes.goroutine(g), self.open[g]
 
         def look(step: int) -> None:
             self.error = self._errors.get(step, "")
-            if made:
-                made(step)
+            if inner:
+                inner(step)
             if self.error:
                 self.settle(step, goroutine, calls)
 

@@ -43,9 +43,9 @@ class PlayedSteps(Recording):
     def has_answers(self) -> bool:
         return False
 
-    def rows(self, made: Callable[[list[Any]], Row], begin: int = 1, end: Optional[int] = None) -> Iterator[Row]:
+    def rows(self, row_of: Callable[[list[Any]], Row], begin: int = 1, end: Optional[int] = None) -> Iterator[Row]:
         steps = self._steps[begin - 1 : end]
-        return (made([part.hex() if isinstance(part, bytes) else part for part in step]) for step in steps)
+        return (row_of([part.hex() if isinstance(part, bytes) else part for part in step]) for step in steps)
 
 
 def changes_of(recording: Recording) -> RecordedChanges:

@@ -15,7 +15,7 @@ from functools import lru_cache
 from types import MappingProxyType
 from typing import Any, Callable, Mapping, Optional
 
-from netrev.recording.changes import RecordedChanges, Told
+from netrev.recording.changes import RecordedChanges, StepChanges
 from netrev.recording.notes import (
     AT,
     CLOSING,
@@ -52,8 +52,8 @@ Note = Callable[[int, str], None]  # called with the step's number as an integer
 
 def spawned(notes: Notes) -> Note:
     def note(step: int, number: str) -> None:
-        notes.goroutine(notes.made).is_made(step, notes.statuses[IDLE])
-        notes.made += 1
+        notes.goroutine(notes.goroutine_count).is_made(step, notes.statuses[IDLE])
+        notes.goroutine_count += 1
 
     return note
 
@@ -67,10 +67,10 @@ def ticked(notes: Notes, time: int) -> Note:
 
 def stepped(notes: Notes, g: int, *_: object) -> Note:
     """Notes that the step may give a goroutine a new status."""
-    goroutine, told, cell, moves = notes.goroutine(g), notes.told.get, f" gor {g}", notes.moves
+    goroutine, value_of, cell, moves = notes.goroutine(g), notes.values.get, f" gor {g}", notes.moves
 
     def note(step: int, number: str) -> None:
-        if status := told(number + cell):
+        if status := value_of(number + cell):
             moves(goroutine, step, status)
 
     return note
@@ -92,7 +92,7 @@ def released(notes: Notes, g: int) -> Note:
 def wake(notes: Notes, status: Status, step: int, number: str) -> None:
     """Notes that the first of the goroutines that sleep in a status may have been woken."""
     for goroutine in status.sleepers:
-        if shown := notes.told.get(number + goroutine.cell):
+        if shown := notes.values.get(number + goroutine.cell):
             notes.is_woken(goroutine, step, shown)
         break
 
@@ -106,14 +106,14 @@ def waking(notes: Notes, d: int) -> Note:
 
 def _waking(notes: Notes, d: int) -> Note:
     reading, writing = (notes.statuses[f"{PARKED} {d} {side}"] for side in "rw")
-    told, cell, infos = notes.told.get, f" info {d}", notes.infos
+    value_of, cell, infos = notes.values.get, f" info {d}", notes.infos
 
     def note(step: int, number: str) -> None:
         if reading.sleepers:
             wake(notes, reading, step, number)
         if writing.sleepers:
             wake(notes, writing, step, number)
-        if shown := told(number + cell):
+        if shown := value_of(number + cell):
             infos[d] = int(shown)
 
     return note
@@ -121,13 +121,13 @@ def _waking(notes: Notes, d: int) -> Note:
 
 def opened(notes: Notes, g: int, s: int) -> Note:
     """Notes a new descriptor. The descriptor has the number of the descriptor freed last, or a new number."""
-    told = notes.told.get
+    value_of = notes.values.get
 
     def note(step: int, number: str) -> None:
         d = notes.free.pop() if notes.free else len(notes.use_of)
-        if tag := told(f"{number} fdseq {d}"):
+        if tag := value_of(f"{number} fdseq {d}"):
             notes.tags[d] = int(tag)
-        if info := told(f"{number} info {d}"):
+        if info := value_of(f"{number} info {d}"):
             notes.infos[d] = int(info)
         use = Use(d, s, step, notes.tags[d])
         if d in notes.use_of:
@@ -142,13 +142,13 @@ def opened(notes: Notes, g: int, s: int) -> Note:
 
 
 def closed(notes: Notes, g: int, d: int) -> Note:
-    told, cell = notes.told.get, f" fdseq {d}"
+    value_of, cell = notes.values.get, f" fdseq {d}"
 
     def note(step: int, number: str) -> None:
         notes.open_tags.pop(d, None)
         notes.free.append(d)
         notes.use_of[d].closed = step
-        if shown := told(number + cell):
+        if shown := value_of(number + cell):
             notes.tags[d] = int(shown)
 
     return note
@@ -171,14 +171,14 @@ def reset(notes: Notes, g: int, d: int, side: str) -> Note:
 
 
 def began_to_wait(notes: Notes, g: int, d: int, side: str) -> Note:
-    goroutine, told, own, moves = notes.goroutine(g), notes.told.get, f" gor {g}", notes.moves
+    goroutine, value_of, own, moves = notes.goroutine(g), notes.values.get, f" gor {g}", notes.moves
     infos, use_of, at = notes.infos, notes.use_of, AT[side]
 
     def note(step: int, number: str) -> None:
         notes.code = 0
         if not (infos[d] and notes.ends(step, g, d, side)):
             use_of[d].waits[at].append(new(Wait, (step, g, goroutine.tried)))
-        if status := told(number + own):
+        if status := value_of(number + own):
             moves(goroutine, step, status)
 
     return note
@@ -186,13 +186,13 @@ def began_to_wait(notes: Notes, g: int, d: int, side: str) -> Note:
 
 def took(notes: Notes, g: int) -> Note:
     """Notes that a goroutine arms its wait or wakes. If its wait word was ready, the goroutine consumes that."""
-    goroutine, told, own, moves, ready = notes.goroutine(g), notes.told.get, f" gor {g}", notes.moves, notes.ready
+    goroutine, value_of, own, moves, ready = notes.goroutine(g), notes.values.get, f" gor {g}", notes.moves, notes.ready
 
     def note(step: int, number: str) -> None:
         before = goroutine.status
         if before.number in ready[before.side]:
             taken(notes, step, number, g, before.number, before.side)
-        if status := told(number + own):
+        if status := value_of(number + own):
             moves(goroutine, step, status)
 
     return note
@@ -200,7 +200,7 @@ def took(notes: Notes, g: int) -> Note:
 
 def taken(notes: Notes, step: int, number: str, g: int, d: int, side: str) -> Taking:
     """Notes that a goroutine consumes a descriptor's readiness."""
-    if f"{number} {side}g {d}" in notes.told:
+    if f"{number} {side}g {d}" in notes.values:
         notes.ready[side].discard(d)
     use, at = notes.use_of[d], AT[side]
     taking: Taking = new(Taking, (step, g, use.last_events[at]))
@@ -269,14 +269,14 @@ def came(notes: Notes, d: int, tag: int, mode: str, error: int) -> Note:
 
 def coming(notes: Notes, d: int, mode: str, error: int) -> Note:
     """The function that notes an event, unless the event is dropped."""
-    made = notes.comings.get((d, mode, error))
-    if made is None:
-        made = notes.comings[d, mode, error] = _coming(notes, d, mode, error)
-    return made
+    note = notes.comings.get((d, mode, error))
+    if note is None:
+        note = notes.comings[d, mode, error] = _coming(notes, d, mode, error)
+    return note
 
 
 def _coming(notes: Notes, d: int, mode: str, error: int) -> Note:
-    wakes, told, sides, use_of = waking(notes, d), notes.told.get, SIDES[mode], notes.use_of
+    wakes, value_of, sides, use_of = waking(notes, d), notes.values.get, SIDES[mode], notes.use_of
     words = [(f" {side}g {d}", notes.ready[side]) for side in mode]
 
     def note(step: int, number: str) -> None:
@@ -286,7 +286,7 @@ def _coming(notes: Notes, d: int, mode: str, error: int) -> Note:
         for at in sides:
             use.last_events[at] = step
         for word, ready in words:
-            if told(number + word) == "ready":
+            if value_of(number + word) == "ready":
                 ready.add(d)
         wakes(step, number)
 
@@ -325,21 +325,21 @@ WAITING = 1 << 23
 
 
 def arrived(notes: Notes, s: int, digits: str) -> Note:
-    inputs, came, told, cell = notes.inputs, notes.arrived, notes.told.get, f" in {s}"
+    inputs, came, value_of, cell = notes.inputs, notes.arrived, notes.values.get, f" in {s}"
 
     def note(step: int, number: str) -> None:
         came[s] = step
-        if shown := told(number + cell):
+        if shown := value_of(number + cell):
             inputs[s] = int(shown)
 
     return note
 
 
 def drained(notes: Notes, s: int, count: int) -> Note:
-    outputs, told, cell = notes.outputs, notes.told.get, f" out {s}"
+    outputs, value_of, cell = notes.outputs, notes.values.get, f" out {s}"
 
     def note(step: int, number: str) -> None:
-        if shown := told(number + cell):
+        if shown := value_of(number + cell):
             outputs[s] = int(shown)
 
     return note
@@ -353,13 +353,13 @@ def peer_closed(notes: Notes, s: int) -> Note:
 
 
 def read(notes: Notes, g: int, s: int, most: int) -> Note:
-    goroutine, inputs, told, cell = notes.goroutine(g), notes.inputs, notes.told.get, f" in {s}"
+    goroutine, inputs, value_of, cell = notes.goroutine(g), notes.inputs, notes.values.get, f" in {s}"
     again, peer = notes.again["r"], notes.peer
 
     def note(step: int, number: str) -> None:
         goroutine.tried = step
         notes.moved = 0
-        if shown := told(number + cell):
+        if shown := value_of(number + cell):
             notes.moved = inputs[s] - int(shown)
             inputs[s] = int(shown)
         elif s not in peer:
@@ -369,13 +369,13 @@ def read(notes: Notes, g: int, s: int, most: int) -> Note:
 
 
 def written(notes: Notes, g: int, s: int, digits: str) -> Note:
-    goroutine, outputs, told, cell = notes.goroutine(g), notes.outputs, notes.told.get, f" out {s}"
+    goroutine, outputs, value_of, cell = notes.goroutine(g), notes.outputs, notes.values.get, f" out {s}"
     again = notes.again["w"]
 
     def note(step: int, number: str) -> None:
         goroutine.tried = step
         notes.moved = 0
-        if shown := told(number + cell):
+        if shown := value_of(number + cell):
             notes.moved = int(shown) - outputs.get(s, 0)
             outputs[s] = int(shown)
         if s in notes.shut:
@@ -398,11 +398,11 @@ def referred(kind: str) -> Callable[..., Note]:
     reference, and, for a side, whether the step also took the lock."""
 
     def of(notes: Notes, g: int, s: int, side: str = "") -> Note:
-        goroutine, locks, told, cell = notes.goroutine(g), notes.locks, notes.told.get, f" lock {s}"
+        goroutine, locks, value_of, cell = notes.goroutine(g), notes.locks, notes.values.get, f" lock {s}"
         holds, own, may_move = notes.holds.setdefault(s, []), f" gor {g}", kind != "incref"
 
         def note(step: int, number: str) -> None:
-            if shown := told(number + cell):
+            if shown := value_of(number + cell):
                 before = locks.get(s, 0)
                 word = locks[s] = int(shown)
                 if word & REFERENCES > before & REFERENCES:
@@ -410,7 +410,7 @@ def referred(kind: str) -> Callable[..., Note]:
                     goroutine.held += 1
                     if kind == "increfclose":
                         notes.closer[s] = By(step, g)
-            if may_move and (status := told(number + own)):
+            if may_move and (status := value_of(number + own)):
                 notes.moves(goroutine, step, status)
 
         return note
@@ -420,12 +420,12 @@ def referred(kind: str) -> Callable[..., Note]:
 
 def given(notes: Notes, g: int, s: int, side: str = "") -> Note:
     """Notes that a goroutine gives up a reference."""
-    locks, told, cell, holds = notes.locks, notes.told.get, f" lock {s}", notes.holds.setdefault(s, [])
+    locks, value_of, cell, holds = notes.locks, notes.values.get, f" lock {s}", notes.holds.setdefault(s, [])
     goroutine, own, longest = notes.goroutine(g), f" gor {g}", notes.longest_holds
 
     def note(step: int, number: str) -> None:
         before = locks[s]
-        if shown := told(number + cell):
+        if shown := value_of(number + cell):
             locks[s] = int(shown)
         hold = holds[-1]
         if hold.goroutine == g and hold.side == side:
@@ -438,7 +438,7 @@ def given(notes: Notes, g: int, s: int, side: str = "") -> Note:
         _, since, kind, _ = hold
         if step - since > longest.get(kind, -1):
             longest[kind] = step - since
-        if side and before >= WAITING and (status := told(number + own)):
+        if side and before >= WAITING and (status := value_of(number + own)):
             notes.moves(goroutine, step, status)
 
     return note
@@ -447,8 +447,8 @@ def given(notes: Notes, g: int, s: int, side: str = "") -> Note:
 def fitting(holds: list[Hold], g: int, side: str) -> Hold:
     """The reference that a goroutine gives up: its own last reference of this kind. If it has none, the reference is
     another goroutine's, because Go only counts references."""
-    of_the_sort = [one for one in holds if one.side == side]
-    mine = [one for one in of_the_sort if one.goroutine == g]
+    of_the_sort = [hold for hold in holds if hold.side == side]
+    mine = [hold for hold in of_the_sort if hold.goroutine == g]
     return (mine or of_the_sort or holds)[-1]
 
 
@@ -509,14 +509,14 @@ class Notes:
         self.recording, self.changes, self._looks = recording, changes_of(recording), looks
         # the step, the number of bytes that the step moved, and the code that it found
         self.step = self.moved = self.code = 0
-        self.told: dict[str, str] = {}  # the changes made by the steps nearby: `12 lock 0`, with the value
+        self.values: dict[str, str] = {}  # the changes made by the steps nearby: `12 lock 0`, with the value
         self._lines, self._fired_at = "", 0  # the lines of those changes, and the place of the last firing in them
         self.clock = 0
         self.statuses = Statuses()
         self.pauses = self.statuses.pauses
         self.goroutines: dict[int, Goroutine] = {}
         self.goroutine(0).is_made(0, self.statuses[IDLE])
-        self.made = 1  # the number of goroutines
+        self.goroutine_count = 1  # the number of goroutines
         self._turn = NOBODY  # the goroutine that made the last step
         self.wakers: dict[int, Note] = {}  # for descriptors, the functions that note that a goroutine is woken there
         # the functions that note events, keyed by the event's descriptor, mode and error
@@ -557,14 +557,14 @@ class Notes:
     def _go_through(self) -> None:
         try:
             with without_collections():
-                for told in self.changes.told():
-                    self._holds(told)
-                    self._note_steps(range(told.first, told.end))
+                for changes in self.changes.by_steps():
+                    self._holds(changes)
+                    self._note_steps(range(changes.first, changes.end))
             self._turn.last = self.step
         except (KeyError, IndexError, ValueError):
             deque(self.changes.texts(), maxlen=0)  # (raises IncompleteChangesError if a line is malformed)
             raise
-        self.told.clear()
+        self.values.clear()
         self._lines = ""
 
     def _note_steps(self, steps: range) -> None:
@@ -590,12 +590,12 @@ class Notes:
         if pause > idle.enough:
             idle.ends(pause)
 
-    def _holds(self, told: Told) -> None:
+    def _holds(self, changes: StepChanges) -> None:
         """Stores the changes made by the next steps in the same dictionary as before, because callers keep a reference
         to it."""
-        self.told.clear()
-        self.told.update(told.cells())
-        self._lines, self._fired_at = told.text, 0
+        self.values.clear()
+        self.values.update(changes.cells())
+        self._lines, self._fired_at = changes.text, 0
 
     def _row(self, values: list[Any]) -> Row:
         """A row for a step's array: the step's goroutine, if any, the function that notes the step, and the function

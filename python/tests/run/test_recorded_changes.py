@@ -95,11 +95,11 @@ def test_what_is_told_together_has_all_lines_of_its_steps(
     changes = RecordedChanges.read(in_pieces(said(path), 40))
     end = 1
     found: list[tuple[str, str]] = []
-    for told in changes.told():
-        assert told.first == end
-        end = told.end
-        cells = list(told.cells())
-        assert all(told.first <= int(name.split()[0]) < told.end for name, _ in cells)
+    for lines in changes.by_steps():
+        assert lines.first == end
+        end = lines.end
+        cells = list(lines.cells())
+        assert all(lines.first <= int(name.split()[0]) < lines.end for name, _ in cells)
         found += cells
     assert end == changes.length + 1
     assert found == [(f"{step} {cell}", value) for step, cell, value in changes]
