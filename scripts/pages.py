@@ -33,20 +33,8 @@ import sys
 from collections.abc import Callable, Iterator
 from pathlib import Path
 
-from page_rules import (
-    citations,
-    comments,
-    definitions,
-    imports,
-    links,
-    lists,
-    memory,
-    merges,
-    quotes,
-    raw_calls,
-    reading,
-    verdict,
-)
+from page_rules import citations, definitions, links, lists, quotes, reading, verdict
+from page_rules.code import comments, imports, memory, merges, raw_calls
 from page_rules.tree import Finding, Tree
 
 Rule = Callable[[Tree], Iterator[Finding]]

@@ -186,7 +186,11 @@ class Status(str):
         place, *rest = text.split(" ")
         status.number, status.side = int(rest[0]) if rest else -1, "".join(rest[1:])
         status.pauses, status.sleepers = pauses, {}
-        status.is_idle, status.is_acquiring, status.is_asleep = place == IDLE, place == ACQUIRING, place in (QUEUED, PARKED)
+        status.is_idle, status.is_acquiring, status.is_asleep = (
+            place == IDLE,
+            place == ACQUIRING,
+            place in (QUEUED, PARKED),
+        )
         return status
 
 

@@ -73,7 +73,9 @@ class Whose:
 
     def _go_through(self) -> None:
         named, descriptor_of, socket_of = self._named, self._descriptor_of, self._socket_of
-        is_of, socket_is, descriptor_is = (column.append for column in (self.goroutines, self._sockets, self._descriptors))
+        is_of, socket_is, descriptor_is = (
+            column.append for column in (self.goroutines, self._sockets, self._descriptors)
+        )
         for number, (how, g, which, kind, arguments) in enumerate(self._recording.rows(row_of), 1):
             if how == AS_BEFORE:
                 s, d = named.get(g, NOWHERE)

@@ -77,9 +77,7 @@ def imports(tree: Tree) -> Iterator[Finding]:
         yield Finding(PAGE, 1, f"no table under {HEADING!r}")
         return
     met = set[Row]()
-    folders = Counter[str]()
     for path in tree.matching("python/*/*.py"):
-        folders[str(PurePosixPath(path).parent)] += 1
         own = _row_of(rows, path.removeprefix(PYTHON))
         if own is None:
             if not path.endswith("/__init__.py"):
@@ -93,6 +91,7 @@ def imports(tree: Tree) -> Iterator[Finding]:
     for row in rows:
         if row not in met:
             yield Finding(PAGE, row.line, f"{row.name} contains no module")
+    folders = Counter(str(PurePosixPath(path).parent) for path in tree.matching("python/*.py", "scripts/*.py"))
     for folder, count in folders.items():
         if count > MOST:
             yield Finding(f"{folder}/__init__.py", 1, f"{count} modules in its folder, {MOST} at most")
