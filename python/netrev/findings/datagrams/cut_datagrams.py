@@ -34,8 +34,8 @@ class CutDatagram(NamedTuple):
         """The sentences about the datagram."""
         recording, length = index.recording, counted(size_of(index, self.read), "byte")
         wrote = f"{told(recording, self.wrote)} sent a datagram of {counted(size_of(index, self.wrote), 'byte')} in {self.wrote.steps()}"
-        made = made_at(index, self.read)
-        read = f"{told(recording, self.read)} read it into a buffer of {length}{made}, in step {self.read.last}"
+        place = made_at(index, self.read)
+        read = f"{told(recording, self.read)} read it into a buffer of {length}{place}, in step {self.read.last}"
         return [f"{wrote}; {read}: the rest was thrown away."]
 
 
@@ -46,8 +46,8 @@ def made_at(index: Index, read: Call) -> str:
     if not own or not into:
         return ""
     makes = re.compile(rf"\b{re.escape(into[1])}\b *(?::?= *make\(\[\]byte|\[\w+\]byte)")
-    made = [number for number, _ in found_in(index.recording, own[0], makes) if number <= own[0].line]
-    return f" ({own[0].file}:{made[-1]})" if made else ""
+    numbers = [number for number, _ in found_in(index.recording, own[0], makes) if number <= own[0].line]
+    return f" ({own[0].file}:{numbers[-1]})" if numbers else ""
 
 
 @lru_cache(maxsize=2)
@@ -60,11 +60,11 @@ def cut_datagrams(index: Index) -> tuple[CutDatagram, ...]:
 
 def cut_at(index: Index, socket: int) -> Iterator[CutDatagram]:
     """The datagrams that were longer than the buffers of the Reads on a socket."""
-    asked = asked_of(index.recording)
-    reads = [one for one in index.by_socket[socket] if one.name == "Read" and one.moved and one.last]
+    sizes = asked_of(index.recording)
+    reads = [read for read in index.by_socket[socket] if read.name == "Read" and read.moved and read.last]
     sent = sent_to(index, socket) if reads and is_datagram(index, socket) else []
     for read, wrote in zip(sorted(reads, key=attrgetter("last")), sent):
-        room, size = asked.of(read), size_of(index, wrote)
+        room, size = sizes.of(read), size_of(index, wrote)
         if room is None or wrote.first >= read.last or size_of(index, read) != min(size, room):
             return
         if size > room:
@@ -76,8 +76,12 @@ def sent_to(index: Index, socket: int) -> list[Call]:
     own, peer = index.recording.lines.addresses.get(socket, ("", ""))
     if not own:
         return []
-    found = (one for one in sent_at(index) if is_same(one.target, own) and (not peer or is_same(one.source, peer)))
-    return sorted((one.wrote for one in found), key=attrgetter("first"))
+    found = (
+        datagram
+        for datagram in sent_at(index)
+        if is_same(datagram.target, own) and (not peer or is_same(datagram.source, peer))
+    )
+    return sorted((datagram.wrote for datagram in found), key=attrgetter("first"))
 
 
 def causes_of_cuts(index: Index) -> list[Cause]:
@@ -101,11 +105,11 @@ def cut_says(index: Index, call: Call, position: int) -> list[str]:
     truncated, the sentences say so, and say what the receiver did next. Otherwise they say so if the last datagram that
     the goroutine received was truncated."""
     wrote = index.last_use(call.socket, call.first, ("Write",)) if is_datagram(index, call.socket) else None
-    pair = next((one for one in cut_datagrams(index) if wrote and one.wrote is wrote), None)
+    pair = next((cut for cut in cut_datagrams(index) if wrote and cut.wrote is wrote), None)
     if pair is None or pair.wrote.goroutine != call.goroutine or pair.read.last > position:
         return last_cut(index, call)
     own = index.by_goroutine[pair.read.goroutine]
-    following = next((one for one in own if one.first > pair.read.last), None)
+    following = next((own_call for own_call in own if own_call.first > pair.read.last), None)
     says = pair.says(index)
     if following and following.name == "Read" and following.socket == pair.read.socket:
         ways = ways_without_an_answer(
@@ -119,12 +123,16 @@ def cut_says(index: Index, call: Call, position: int) -> list[str]:
 
 def writes_of(index: Index, read: Call) -> set[Stack]:
     """The stacks of the Writes that a Read's goroutine made to the same socket."""
-    calls = (one for one in index.by_socket[read.socket] if one.goroutine == read.goroutine and one.name == "Write")
-    return {index.recording.lines.of(one.first) for one in calls}
+    calls = (
+        write for write in index.by_socket[read.socket] if write.goroutine == read.goroutine and write.name == "Write"
+    )
+    return {index.recording.lines.of(write.first) for write in calls}
 
 
 def last_cut(index: Index, call: Call) -> list[str]:
     """A sentence about the last datagram that was read on a socket before a call, if that datagram was truncated."""
-    reads = [one for one in index.by_socket[call.socket] if one.name == "Read" and one.moved and one.first < call.first]
-    pair = next((one for one in cut_datagrams(index) if reads and one.read is reads[-1]), None)
+    reads = [
+        read for read in index.by_socket[call.socket] if read.name == "Read" and read.moved and read.first < call.first
+    ]
+    pair = next((cut for cut in cut_datagrams(index) if reads and cut.read is reads[-1]), None)
     return pair.says(index) if pair else []

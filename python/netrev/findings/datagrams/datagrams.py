@@ -23,7 +23,7 @@ def unanswered_datagram(index: Index, call: Call, position: int) -> list[str]:
     if wrote is None or read is None:
         return []
     recording, calls = index.recording, index.by_goroutine[read.goroutine]
-    answers = [one for one in calls if one.name == "Write" and one.socket == read.socket and one.moved]
+    answers = [write for write in calls if write.name == "Write" and write.socket == read.socket and write.moved]
     now = index.inside(read.goroutine, position)
     if len(answers) < FEWEST or answers[-1].first > read.last or now is None or now.socket != read.socket:
         return []
@@ -31,7 +31,7 @@ def unanswered_datagram(index: Index, call: Call, position: int) -> list[str]:
         f"Perhaps its request, {told(recording, wrote)} in {wrote.steps()}, was read by {told(recording, read)} in step {read.last}. That goroutine "
         f"has written there {len(answers)} times before; now it reads on since step {now.first}, without an answer."
     ]
-    if not any(one.name in DEADLINES for one in back(index.by_socket[call.socket], position)):
+    if not any(setting.name in DEADLINES for setting in back(index.by_socket[call.socket], position)):
         says.append(
             f"No deadline was set for reading at socket {call.socket}: a datagram that is lost is waited for without end."
         )
@@ -46,16 +46,18 @@ def dropped_datagram(index: Index, call: Call) -> list[str]:
     if wrote is None or read is None:
         return []
     recording, own = index.recording, index.by_goroutine[read.goroutine]
-    answers = [one for one in own if one.name == "Write" and one.socket == read.socket and one.moved]
-    following = next((one for one in own if one.first > read.last), None)
-    if not any(one.first < read.first for one in answers) or any(read.last < one.first <= call.last for one in answers):
+    answers = [write for write in own if write.name == "Write" and write.socket == read.socket and write.moved]
+    following = next((own_call for own_call in own if own_call.first > read.last), None)
+    if not any(answer.first < read.first for answer in answers) or any(
+        read.last < answer.first <= call.last for answer in answers
+    ):
         return []
     if following is None or following.name != "Read" or following.socket != read.socket or following.first > call.last:
         return []
-    asked = asked_of(recording).of(read)
+    size = asked_of(recording).of(read)
     whole = (
-        f" It asked for {asked} bytes and got as many: perhaps the datagram was longer, and cut."
-        if asked == read.moved
+        f" It asked for {size} bytes and got as many: perhaps the datagram was longer, and cut."
+        if size == read.moved
         else ""
     )
     return [
@@ -68,10 +70,10 @@ def reader_of(index: Index, call: Call, wrote: Call, position: int) -> Optional[
     """The only Read on another datagram socket since a Write; None if several Reads got data, or if the Read and the
     Write have different lengths."""
     found = [
-        one
+        candidate
         for socket, calls in index.by_socket.items()
         if socket != call.socket and is_datagram(index, socket)
-        for one in calls
-        if one.name == "Read" and wrote.first < one.last <= position and one.moved
+        for candidate in calls
+        if candidate.name == "Read" and wrote.first < candidate.last <= position and candidate.moved
     ]
     return found[0] if len(found) == 1 and found[0].moved == wrote.moved else None

@@ -15,7 +15,9 @@ def shared_says(index: Index, call: Call) -> list[str]:
     if not is_datagram(index, call.socket):
         return []
     calls = index.by_socket[call.socket]
-    readers, writers = ({one.goroutine for one in calls if one.name == name} for name in ("Read", "Write"))
+    readers, writers = (
+        {transfer.goroutine for transfer in calls if transfer.name == name} for name in ("Read", "Write")
+    )
     shared = sorted(readers & writers)
     if len(shared) < 2 or call.goroutine not in shared:
         return []

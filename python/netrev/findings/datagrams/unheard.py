@@ -26,18 +26,20 @@ def unheard(index: Index, call: Call, position: int) -> Optional[Need]:
         return None
     since = max(
         (
-            one.last
-            for one in index.by_socket[call.socket]
-            if one.name == "Read" and one.moved and one.last < call.first
+            read.last
+            for read in index.by_socket[call.socket]
+            if read.name == "Read" and read.moved and read.last < call.first
         ),
         default=0,
     )
     found = (
-        one
-        for one in sent_at(index)
-        if since < one.wrote.first <= position and is_same(one.target, own) and not is_same(one.source, peer)
+        datagram
+        for datagram in sent_at(index)
+        if since < datagram.wrote.first <= position
+        and is_same(datagram.target, own)
+        and not is_same(datagram.source, peer)
     )
-    sent = min(found, key=lambda one: one.wrote.first, default=None)
+    sent = min(found, key=lambda datagram: datagram.wrote.first, default=None)
     if sent is None:
         return None
     says = [
@@ -50,16 +52,16 @@ def unheard(index: Index, call: Call, position: int) -> Optional[Need]:
 
 def opened_at(index: Index, socket: int) -> str:
     """The line that opened a socket: `, which was opened at a.go:41 in answer`; empty if unknown."""
-    opened = next((one for one in index.by_socket.get(socket, ()) if one.name == OPEN), None)
+    opened = next((call for call in index.by_socket.get(socket, ()) if call.name == OPEN), None)
     stack = index.recording.lines.of(opened.first) if opened else None
     return f", which was opened{place_in(stack)}" if stack and stack.own() else ""
 
 
-def is_same(one: str, other: str) -> bool:
+def is_same(address: str, other_address: str) -> bool:
     """Whether two addresses may be the same. If one address is unspecified, only the ports are compared."""
-    if one.startswith(UNSPECIFIED) or other.startswith(UNSPECIFIED):
-        return one.rpartition(":")[2] == other.rpartition(":")[2]
-    return one == other
+    if address.startswith(UNSPECIFIED) or other_address.startswith(UNSPECIFIED):
+        return address.rpartition(":")[2] == other_address.rpartition(":")[2]
+    return address == other_address
 
 
 def sent_at(index: Index) -> Iterator[Sent]:

@@ -16,14 +16,16 @@ def perhaps_dropped(recording: Recording, wait: Waiting, by: Waiter) -> list[str
     reader = by.call
     if reader is None or reader.name != "Read" or wait.name.is_goid or len(wait.objects) != 1:
         return []
-    calls = [one for one in index_of(recording).by_socket[reader.socket] if one.last and one.moved]
+    calls = [call for call in index_of(recording).by_socket[reader.socket] if call.last and call.moved]
     wrote = [
-        one for one in calls if one.name == "Write" and Name(one.goroutine) == wait.name and one.first <= wait.first
+        call
+        for call in calls
+        if call.name == "Write" and Name(call.goroutine) == wait.name and call.first <= wait.first
     ]
     read = [
-        one
-        for one in calls
-        if one.name == "Read" and Name(one.goroutine) == by.name and wrote and one.last > wrote[-1].first
+        call
+        for call in calls
+        if call.name == "Read" and Name(call.goroutine) == by.name and wrote and call.last > wrote[-1].first
     ]
     uses = recording.lines.uses.get(wait.objects[0].object, ())
     if not read or any(use.what == PUT and use.last >= read[-1].first for use in uses):

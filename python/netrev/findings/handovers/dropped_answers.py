@@ -111,17 +111,17 @@ def request_of(index: Index, wait: Waiting, socket: int) -> Optional[Call]:
     """The last Write of a goroutine to a socket before it waits. If the waiter made no Write, the result is the first
     Write of a goroutine that got the request from the waiter."""
     calls = [] if wait.name.is_goid else index.by_goroutine.get(wait.name.number, [])
-    writes = [one for one in calls if one.name == "Write" and one.socket == socket and one.moved and one.last]
-    own = next((one for one in reversed(writes) if one.first <= wait.first), None)
+    writes = [call for call in calls if call.name == "Write" and call.socket == socket and call.moved and call.last]
+    own = next((write for write in reversed(writes) if write.first <= wait.first), None)
     return own or written_for(index, wait, socket)
 
 
 def read_since(index: Index, hand: Hand, wrote: Call) -> Optional[Call]:
     """The last Read, after a Write, that got bytes for a goroutine; the Read in which the goroutine waits now doesn't
     count."""
-    calls = [one for one in index.by_goroutine.get(hand.call.goroutine, []) if one.socket == hand.call.socket]
-    reads = [one for one in calls if one.name == "Read" and one.moved and one.last]
-    return next((one for one in reversed(reads) if wrote.first < one.last < hand.call.first), None)
+    calls = [call for call in index.by_goroutine.get(hand.call.goroutine, []) if call.socket == hand.call.socket]
+    reads = [call for call in calls if call.name == "Read" and call.moved and call.last]
+    return next((read for read in reversed(reads) if wrote.first < read.last < hand.call.first), None)
 
 
 def has_put(recording: Recording, wait: Waiting, read: Call) -> bool:
@@ -136,15 +136,15 @@ def is_answered(index: Index, wrote: Call) -> bool:
     other = index.other_end(wrote.socket)
     if other is None:
         return False
-    moved = [one for one in index.by_socket.get(other, ()) if one.name in MOVING and one.moved and one.last]
-    read = next((one for one in moved if one.name == "Read" and one.last > wrote.first), None)
-    answers = [one for one in moved if one.name == "Write" and read and one.first > read.last]
+    moved = [call for call in index.by_socket.get(other, ()) if call.name in MOVING and call.moved and call.last]
+    read = next((call for call in moved if call.name == "Read" and call.last > wrote.first), None)
+    answers = [call for call in moved if call.name == "Write" and read and call.first > read.last]
     if not answers:
         return False
-    writers = {one.goroutine for one in moved if one.name == "Write"}
-    asked = [one for one in index.by_socket[wrote.socket] if one.name == "Write" and one.moved]
+    writers = {call.goroutine for call in moved if call.name == "Write"}
+    requests = [write for write in index.by_socket[wrote.socket] if write.name == "Write" and write.moved]
     is_serial = len(writers) == 1 and moved[-1].name == "Write" and reads_on(index, moved[-1].goroutine, other)
-    return is_serial or sum(one.name == "Write" for one in moved) >= len(asked)
+    return is_serial or sum(call.name == "Write" for call in moved) >= len(requests)
 
 
 def reads_on(index: Index, goroutine: int, socket: int) -> bool:

@@ -37,7 +37,7 @@ def dropped_notices(recording: Recording, wait: Waiting) -> list[str]:
         for number in range(1, len(lines) + 1)
         if is_dropping(recording, own[0], name, Call("", file, number, OF_THE_PROGRAM), lines)
     ]  # fmt: skip
-    found = [place for place in found if any(is_near(place, one) for one in passed)]
+    found = [place for place in found if any(is_near(place, line) for line in passed)]
     if not found:
         return []
     puts = " and ".join(found[:MOST])

@@ -53,8 +53,15 @@ def dropped_request(recording: Recording, wait: Waiting, waiters: Mapping[Name, 
 
 def answered_before(recording: Recording, wait: Waiting) -> int:
     """The step after which a goroutine's last wait at the same line ended; 0 if no wait there has ended."""
-    earlier = (one for one in waits_of(recording).of.get(wait.name, ()) if one.stack.own() == wait.stack.own())
-    return max((one.last for one in earlier if one.last is not None and one.last <= wait.first), default=0)
+    earlier = (
+        past_wait
+        for past_wait in waits_of(recording).of.get(wait.name, ())
+        if past_wait.stack.own() == wait.stack.own()
+    )
+    return max(
+        (past_wait.last for past_wait in earlier if past_wait.last is not None and past_wait.last <= wait.first),
+        default=0,
+    )
 
 
 def left_to_a_timer(recording: Recording, taker: Waiter) -> str:
@@ -76,12 +83,12 @@ def taker_of(recording: Recording, wait: Waiting, request: Use, waiters: Mapping
     took a request has ended or waits for the next request."""
     lines, number = recording.lines, request.object
     uses = lines.uses[number]
-    put, took = (sum(use.often for use in uses if use.what == what) for what in (PUT, TOOK))
+    puts, takes = (sum(use.often for use in uses if use.what == what) for what in (PUT, TOOK))
     takers = [use for use in uses if use.what == TOOK]
     own = wait.stack.own()
-    if put != took or own is None or any(not is_free(recording, use, number, waiters) for use in takers):
+    if puts != takes or own is None or any(not is_free(recording, use, number, waiters) for use in takers):
         return None
-    for use in sorted(takers, key=lambda one: -one.end):
+    for use in sorted(takers, key=lambda taker: -taker.end):
         waiter = waiters.get(name_of_goid(lines, use.goid))
         line = answer_line(recording, wait, own[0].file, waiter) if waiter else 0
         if waiter and line:

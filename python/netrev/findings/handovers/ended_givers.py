@@ -34,8 +34,8 @@ def ended_giver(index: Index, wait: Waiting) -> Optional[Need]:
     if not givings:
         return None
     found = dict[int, list[int]]()  # the goroutines, by the line that they should have reached
-    for goid, made in ended_before(recording, wait, own[0].file, givings):
-        number = upcoming(recording, goid, made, own[0].file, givings)
+    for goid, statement in ended_before(recording, wait, own[0].file, givings):
+        number = upcoming(recording, goid, statement, own[0].file, givings)
         if number:
             found.setdefault(number, []).append(goid)
     first = next(iter(found), 0)
@@ -54,12 +54,12 @@ def need_of(index: Index, wait: Waiting, found: list[int], own: Call, number: in
     ended the wait."""
     lines, names = index.recording.lines, [name_of_goid(index.recording.lines, goid) for goid in found]
     known = lines.goroutines[found[0]]
-    made = f", started at {known.made.place()}," if known.made else ","
+    start = f", started at {known.made.place()}," if known.made else ","
     does = WORDS[FOR_VALUE if wait.kind == A_SELECT else wait.objects[0].use][0]
     if len(names) == 1:
-        ended = f"{names[0]}{made} which has ended after step {known.last}{ended_where(index, names[0])}"
+        ended = f"{names[0]}{start} which has ended after step {known.last}{ended_where(index, names[0])}"
     else:
-        ended = f"{of_names(names)}{made} which have all ended"
+        ended = f"{of_names(names)}{start} which have all ended"
     says = f"Perhaps it waited for {ended}, without passing {own.file}:{number}, which {does}."
     return Need([says], gone=names[0] if len(names) == 1 else None, is_odd=True, ended=tuple(names))
 
@@ -67,34 +67,34 @@ def need_of(index: Index, wait: Waiting, found: list[int], own: Call, number: in
 def ended_before(recording: Recording, wait: Waiting, file: str, givings: list[Giving]) -> Iterator[tuple[int, Call]]:
     """The goroutines that ended without passing one of these lines, latest first, each with the `go` statement that
     started it. If the waiter started some of these goroutines, the result has only those."""
-    waiter, passed, numbers = goid_of(recording, wait.name), lines_of(recording), {one.number for one in givings}
+    waiter, passed, numbers = goid_of(recording, wait.name), lines_of(recording), {giving.number for giving in givings}
     known = recording.lines.goroutines
-    ended = [(goid, one.made) for goid, one in known.items() if one.last >= 0 and one.made]
-    mine = [(goid, made) for goid, made in ended if known[goid].maker == waiter] or ended
-    for goid, made in sorted(mine[-MOST:], key=lambda one: -known[one[0]].begin):
+    ended = [(goid, goroutine.made) for goid, goroutine in known.items() if goroutine.last >= 0 and goroutine.made]
+    mine = [(goid, statement) for goid, statement in ended if known[goid].maker == waiter] or ended
+    for goid, statement in sorted(mine[-MOST:], key=lambda pair: -known[pair[0]].begin):
         if not any(call.file == file and call.line in numbers for call in passed.of(goid)):
-            yield goid, made
+            yield goid, statement
 
 
-def upcoming(recording: Recording, goid: int, made: Call, file: str, givings: list[Giving]) -> int:
+def upcoming(recording: Recording, goid: int, statement: Call, file: str, givings: list[Giving]) -> int:
     """The line at which a goroutine would next have given or taken a value; 0 if unknown. The goroutine passed earlier
     lines of that function, or it started in the function and passed no known line of it."""
     passed = lines_of(recording).of(goid)
     for giving in givings:
         last = max((call.line for call in passed if call.file == file and call.line in giving.within), default=0)
-        if 0 < last < giving.number or not last and starts(recording, made, file, giving):
+        if 0 < last < giving.number or not last and starts(recording, statement, file, giving):
             return giving.number
     return 0
 
 
-def starts(recording: Recording, made: Call, file: str, giving: Giving) -> bool:
+def starts(recording: Recording, statement: Call, file: str, giving: Giving) -> bool:
     """Whether a `go` statement starts the function of a line."""
-    if made.file != file:
+    if statement.file != file:
         return False
-    text = text_at(recording, made)
+    text = text_at(recording, statement)
     if "func(" in text:
-        return made.line == giving.within.start
+        return statement.line == giving.within.start
     named = STARTS.search(text)
-    head = text_at(recording, made._replace(line=giving.within.start)) if giving.within else ""
+    head = text_at(recording, statement._replace(line=giving.within.start)) if giving.within else ""
     function = FUNCTION.match(head)
     return bool(named and function and named[1] == function[1])

@@ -50,7 +50,7 @@ def only_itself(recording: Recording, wait: Waiting) -> str:
 
 def is_in(stack: Stack, call: Call) -> bool:
     """Whether a goroutine is in the function that contains a call, at a later line."""
-    return any(one.function == call.function and one.line > call.line for one in stack.calls)
+    return any(frame.function == call.function and frame.line > call.line for frame in stack.calls)
 
 
 def has_left(stack: Stack, earlier: Stack) -> bool:

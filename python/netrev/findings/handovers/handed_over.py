@@ -18,10 +18,10 @@ from netrev.recording.where import OF_THE_PROGRAM, Stack
 def put_before(recording: Recording, wait: Waiting) -> Optional[Use]:
     """The last value that a goroutine put into another channel before it waited, in a function that the goroutine is
     still in."""
-    at, inside = {one.object for one in wait.objects}, functions_of(wait.stack)
+    objects, inside = {at.object for at in wait.objects}, functions_of(wait.stack)
     found = (
         use for use in puts_of(recording).get(goid_of(recording, wait.name), ())
-        if use.object not in at and use.end <= wait.begin and functions_of(recording.lines.stacks[use.stack]) & inside
+        if use.object not in objects and use.end <= wait.begin and functions_of(recording.lines.stacks[use.stack]) & inside
     )  # fmt: skip
     return max(found, key=END, default=None)
 

@@ -91,8 +91,8 @@ class NeedsOfChannels:
         if takes == wanted and is_filled_by_maker(self._recording, at):
             return None
         if takes == wanted:  # the goroutine waits to give back: the channel has too many values
-            return Need(excess_says(balances)) if any(one.missing < 0 for one in balances) else None
-        by = next((one.name for one in balances if self._is_holder(one, wait)), None)
+            return Need(excess_says(balances)) if any(balance.missing < 0 for balance in balances) else None
+        by = next((balance.name for balance in balances if self._is_holder(balance, wait)), None)
         says = self._once(("kept", at.object), lambda: kept_says(self._recording, balances))
         if by is None:
             return Need(says, is_kept=True) if says else None
@@ -140,7 +140,7 @@ class NeedsOfChannels:
         """Sentences about these goroutines' calls, if they gave values back to a channel more often than they took."""
         for number in self._recording.lines.objects:
             if self.is_buffered(At(number, "")) and (balances := self._balances(number)):
-                mine = [one for one in balances if one.name in names and one.takes == TOOK]
+                mine = [balance for balance in balances if balance.name in names and balance.takes == TOOK]
                 if says := excess_says(mine):
                     return [f"{says[0]} So perhaps two goroutines have the same."]
         return []
@@ -156,8 +156,12 @@ class NeedsOfChannels:
     def is_new(self, wait: Waiting) -> bool:
         """Whether no goroutine has yet done what a goroutine waits for on its channels."""
         since = self._made_since(wait)
-        given = (one for at in wait.objects for one in self._given(at))
-        return bool(wait.objects) and all(at.use for at in wait.objects) and not any(one.last >= since for one in given)
+        operations = (operation for at in wait.objects for operation in self._given(at))
+        return (
+            bool(wait.objects)
+            and all(at.use for at in wait.objects)
+            and not any(operation.last >= since for operation in operations)
+        )
 
     def _made_since(self, wait: Waiting) -> int:
         """A step before which a goroutine's channel was made; 0 if unknown. The results of `made_since` are cached here."""
@@ -167,52 +171,59 @@ class NeedsOfChannels:
         """What a goroutine needs from its channels, if possible from the last goroutine that did the awaited operation."""
         is_one = len(wait.objects) == 1
         since = self._made_since(wait)
-        given = [one for at in wait.objects for one in self._given(at) if one.name != wait.name and one.last >= since]
+        operations = [
+            candidate
+            for at in wait.objects
+            for candidate in self._given(at)
+            if candidate.name != wait.name and candidate.last >= since
+        ]
         closing = self._closing(wait)
         if (
-            not given
+            not operations
             and not (closing and closing.by)
             and (by := giver_at_siblings(self._recording, wait, self._waiters))
         ):
             return by._replace(more=self.more_of(wait, by.by)) if by.by else by
-        if closing and (closing.by or not given):
+        if closing and (closing.by or not operations):
             return closing
-        if one := next((one for one in given if one.name in self._waiters), None):
-            is_last = one.last >= max(other.last for other in given)
-            words = f"{(GIVES_WORDS if is_last else GAVE_BEFORE)[one.what]}{place_in(one.stack)}"
+        if operation := next((candidate for candidate in operations if candidate.name in self._waiters), None):
+            is_last = operation.last >= max(candidate.last for candidate in operations)
+            words = f"{(GIVES_WORDS if is_last else GAVE_BEFORE)[operation.what]}{place_in(operation.stack)}"
             if not is_one:
-                return Need([], one.name, f"perhaps for {{by}}: it {words}", Certainty.PERHAPS)
-            is_over = has_left(self._waiters[one.name].stack, one.stack)
-            siblings, more = self._of_siblings(wait), self.more_of(wait, one.name)
+                return Need([], operation.name, f"perhaps for {{by}}: it {words}", Certainty.PERHAPS)
+            is_over = has_left(self._waiters[operation.name].stack, operation.stack)
+            siblings, more = self._of_siblings(wait), self.more_of(wait, operation.name)
             ended = self._ended_siblings(wait)
             begins, certainty = ("perhaps for {by}: it", Certainty.PERHAPS) if is_over else ("{by}", Certainty.LIKELY)
             return Need(
-                siblings, one.name, f"{begins} {words}", certainty, more=more, is_odd=bool(siblings), ended=ended
+                siblings, operation.name, f"{begins} {words}", certainty, more=more, is_odd=bool(siblings), ended=ended
             )
         if not is_one:
             return self._of_ended_takers(wait)
         if says := self._of_siblings(wait):
             return Need(says, is_odd=True, ended=self._ended_siblings(wait))
-        return self._of_the_past(wait, given[:1], closing)
+        return self._of_the_past(wait, operations[:1], closing)
 
     def _of_ended_takers(self, wait: Waiting) -> Need:
         """What a goroutine in a select needs: room in a channel from which only ended goroutines took values."""
         for at in wait.objects:
-            given = self._given(at) if at.use == FOR_ROOM else []
-            if given and all(has_ended(self._recording, one.name) for one in given):
-                one, stack = given[0], given[0].stack
-                did = f"{str(one.name).capitalize()} {GIVES_WORDS[one.what]}{place_in(stack)} (step {one.last})"
+            operations = self._given(at) if at.use == FOR_ROOM else []
+            if operations and all(has_ended(self._recording, operation.name) for operation in operations):
+                latest, stack = operations[0], operations[0].stack
+                did = (
+                    f"{str(latest.name).capitalize()} {GIVES_WORDS[latest.what]}{place_in(stack)} (step {latest.last})"
+                )
                 ended = have_ended(self._recording, wait._replace(objects=(at,)))
-                return Need([f"{did}; it {self._does(one.name, stack)}.", *ended], is_odd=True)
+                return Need([f"{did}; it {self._does(latest.name, stack)}.", *ended], is_odd=True)
         return ended_giver(index_of(self._recording), wait) or Need([])
 
-    def _of_the_past(self, wait: Waiting, given: list[Given], closing: Optional[Need]) -> Need:
+    def _of_the_past(self, wait: Waiting, operations: list[Given], closing: Optional[Need]) -> Need:
         """What a goroutine needs if no waiting goroutine did the awaited operation. The need says which other goroutine did it last, if any."""
-        for one in given:
-            loop = loop_words(self._recording, one.stack) if has_ended(self._recording, one.name) else ""
-            did = f"{str(one.name).capitalize()} {GIVES_WORDS[one.what]}{place_in(one.stack)} (step {one.last}{loop})"
-            ended = f"{did}; it {does}." if (does := self._does(one.name, one.stack)) else f"{did}."
-            gone = one.name if has_ended(self._recording, one.name) else None
+        for operation in operations:
+            loop = loop_words(self._recording, operation.stack) if has_ended(self._recording, operation.name) else ""
+            did = f"{str(operation.name).capitalize()} {GIVES_WORDS[operation.what]}{place_in(operation.stack)} (step {operation.last}{loop})"
+            ended = f"{did}; it {does}." if (does := self._does(operation.name, operation.stack)) else f"{did}."
+            gone = operation.name if has_ended(self._recording, operation.name) else None
             return Need([ended, *((closing.more if closing else []) or have_ended(self._recording, wait))], gone=gone)
         is_filled = any(is_filled_by_maker(self._recording, at) for at in wait.objects)
         if not is_filled and (itself := only_itself(self._recording, wait)):
@@ -232,8 +243,8 @@ class NeedsOfChannels:
         """Some goroutines that did the awaited operation on a channel. Waiting goroutines come first."""
 
         def find() -> list[Given]:
-            every = list(self._ledger.given(at))
-            return sorted(every, key=lambda one: one.name not in self._waiters)[:MOST_GIVEN]
+            operations = list(self._ledger.given(at))
+            return sorted(operations, key=lambda operation: operation.name not in self._waiters)[:MOST_GIVEN]
 
         return self._once(("given", at), find)
 
@@ -289,12 +300,12 @@ class NeedsOfChannels:
         if at.use != FOR_ROOM:
             return []
         left = [
-            one for some in self._waits.of.values() for one in some
-            if one.last is not None and any(other.object == at.object and other.use != FOR_ROOM for other in one.objects)
+            past_wait for waits in self._waits.of.values() for past_wait in waits
+            if past_wait.last is not None and any(other.object == at.object and other.use != FOR_ROOM for other in past_wait.objects)
         ]  # fmt: skip
         if not left:
             return []
-        last = max(left, key=lambda one: (one.first, one.begin))
+        last = max(left, key=lambda past_wait: (past_wait.first, past_wait.begin))
         name = str(last.name).capitalize()
         return [
             f"{name} waited for that{place_in(last.stack)} from step {last.first} to {last.last}, and went on without."

@@ -18,7 +18,7 @@ MOST_LINKS = 4
 def chain_says(index: Index, call: Call, need: Need, position: int) -> list[str]:
     """The sentences about the goroutines of the chain, starting with the goroutine that the failed call needed."""
     waiters = waiters_during(index, position)
-    needs, told = Needs(index, waiters, position), list(need.says)
+    needs, known = Needs(index, waiters, position), list(need.says)
     says, seen, by = list[str](), {Name(call.goroutine)}, need.by
     while by is not None and by in waiters and by not in seen and len(seen) <= MOST_LINKS:
         seen.add(by)
@@ -26,8 +26,8 @@ def chain_says(index: Index, call: Call, need: Need, position: int) -> list[str]
         if is_elsewhere(index, call, waiter, need):
             break
         need = needs.of(waiter) if is_still_so(index, waiter, position) else Need([])
-        found = link_says(index, waiter, need, need.by in seen, told + says)
-        says += [line for line in found if line not in told + says]
+        found = link_says(index, waiter, need, need.by in seen, known + says)
+        says += [line for line in found if line not in known + says]
         by = need.by
     return says
 
@@ -48,13 +48,13 @@ def is_still_so(index: Index, waiter: Waiter, position: int) -> bool:
     )
 
 
-def link_says(index: Index, waiter: Waiter, need: Need, is_back: bool, told: list[str]) -> list[str]:
+def link_says(index: Index, waiter: Waiter, need: Need, is_back: bool, known: list[str]) -> list[str]:
     """The sentences about one goroutine of the chain. `is_back` means that it waits for a goroutine that is already in
     the chain. The sentences then leave out `need.how`. If the goroutine waits in a call, they also leave out
     `need.says`."""
     more = [*need.says, *need.more] if not (is_back and waiter.call) else need.more
     place = place_in(waiter.stack)
-    is_told = bool(place) and any(place in line for line in told)
+    is_told = bool(place) and any(place in line for line in known)
     how = need.how.format(by=need.by) if need.how and not is_back else ""
     if is_told and waiter.call and more:
         more = [f"Of socket {waiter.call.socket}: {more[0]}", *more[1:]]

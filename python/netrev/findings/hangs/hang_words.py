@@ -45,12 +45,16 @@ def hang_says(graph: WaitGraph, hang: Hang) -> list[str]:
     recording = graph.recording
     if hang.is_deadlock:
         members = zip(members_words(recording, hang), hang.needs, ahead_says(graph, hang))
-        said = [[f"{words}.", *ahead, *need.more] for words, need, ahead in members]
-        shown = said[:MOST_LOOSE] if hang.is_loose else said
-        left = [f"{counted(len(said) - len(shown), 'goroutine')} more like these."] if len(said) > len(shown) else []
+        paragraphs = [[f"{words}.", *ahead, *need.more] for words, need, ahead in members]
+        shown = paragraphs[:MOST_LOOSE] if hang.is_loose else paragraphs
+        left = (
+            [f"{counted(len(paragraphs) - len(shown), 'goroutine')} more like these."]
+            if len(paragraphs) > len(shown)
+            else []
+        )
         return [
             deadlock_words(graph, hang),
-            *(line for some in shown for line in some),
+            *(line for paragraph in shown for line in paragraph),
             *left,
             *of_waiters(graph, hang),
             *unread_words(graph, hang),
@@ -82,8 +86,8 @@ def of_waiters(graph: WaitGraph, hang: Hang) -> list[str]:
 def ahead_says(graph: WaitGraph, hang: Hang) -> list[list[str]]:
     """Sentences about the deadlines that the roots' calls still have."""
     index = index_of(graph.recording)
-    found = (deadline_ahead(index, root.call, graph.position) if root.call else None for root in hang.roots)
-    return [[setting_says(index, one)] if one else [] for one in found]
+    settings = (deadline_ahead(index, root.call, graph.position) if root.call else None for root in hang.roots)
+    return [[setting_says(index, setting)] if setting else [] for setting in settings]
 
 
 def beside_words(graph: WaitGraph, hang: Hang) -> list[str]:
@@ -108,7 +112,9 @@ def unread_words(graph: WaitGraph, hang: Hang) -> list[str]:
         return []
     is_one = not hang.waiting and not hang.is_deadlock
     says = [] if is_one else unread_says(index, names, graph.position)
-    return says or reader_words(index, {one.name for one in waiters_of(hang) if wants_value(one)}, graph.position)
+    return says or reader_words(
+        index, {waiter.name for waiter in waiters_of(hang) if wants_value(waiter)}, graph.position
+    )
 
 
 def wants_value(waiter: Waiter) -> bool:
@@ -249,7 +255,7 @@ def tree_lines(graph: WaitGraph, hang: Hang) -> list[str]:
 def branch_lines(recording: Recording, branch: Branch, depth: int) -> list[str]:
     """A branch and the branches below it."""
     lines = [f"{INDENT * depth}- {branch_words(recording, branch)}"]
-    return lines + [line for one in branch.branches for line in branch_lines(recording, one, depth + 1)]
+    return lines + [line for inner in branch.branches for line in branch_lines(recording, inner, depth + 1)]
 
 
 def branch_words(recording: Recording, branch: Branch) -> str:
@@ -269,11 +275,11 @@ def how_words(branch: Branch) -> str:
     """Sentences about the goroutines that a branch waits for."""
     words = branch.need.how
     if len(set(branch.on)) > 1:
-        for one, several in [
-            *((f"{{by}} {one}", f"{{by}} {several}") for one, several in VERBS.items()),
+        for singular, plural in [
+            *((f"{{by}} {singular}", f"{{by}} {plural}") for singular, plural in VERBS.items()),
             *SEVERAL.items(),
         ]:
-            words = words.replace(one, several)
+            words = words.replace(singular, plural)
     return words.format(by=of_names(branch.on))
 
 

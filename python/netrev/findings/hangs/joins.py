@@ -24,16 +24,16 @@ class Topic(NamedTuple):
 def joined(graph: WaitGraph, order: list[Topic]) -> list[Topic]:
     """The topics, each hang joined to the first failed call to which it is related. A hang that explains a failed call
     is listed even if it isn't in `order`, as in a program that ended by itself."""
-    hangs = [one.hang for one in order if one.hang]
-    left = [*hangs, *(hang for hang in graph.shown if not any(hang is one for one in hangs))]
+    hangs = [topic.hang for topic in order if topic.hang]
+    left = [*hangs, *(hang for hang in graph.shown if not any(hang is known for known in hangs))]
     of_failures: dict[int, Topic] = {}
     for number, topic in enumerate(order):
         found = next(((hang, because) for hang in left if (because := because_of(graph, hang, topic.cause))), None)
         if found:
             of_failures[number] = Topic(topic.cause, *found)
-            left = [one for one in left if one is not found[0]]
+            left = [hang for hang in left if hang is not found[0]]
     every = (of_failures.get(number, topic) for number, topic in enumerate(order))
-    return [one for one in every if one.cause or any(one.hang is hang for hang in left)]
+    return [topic for topic in every if topic.cause or any(topic.hang is hang for hang in left)]
 
 
 def because_of(graph: WaitGraph, hang: Hang, cause: Optional[Cause]) -> str:
@@ -44,14 +44,14 @@ def because_of(graph: WaitGraph, hang: Hang, cause: Optional[Cause]) -> str:
     if cause is None or hang.is_quiet or hang.is_of_go or not (hang.has_reason or hang.is_deadlock or is_write):
         return ""
     call, waiters = cause.call, {waiter.name: waiter for waiter in waiters_of(hang)}
-    if named := next((one for one in waiters.values() if one.call and one.since in cause.steps), None):
+    if named := next((waiter for waiter in waiters.values() if waiter.call and waiter.since in cause.steps), None):
         return f"{str(named.name).capitalize()} is still waiting."
     name = Name(call.goroutine)
     if name in waiters and has_stopped(graph, waiters[name], call):
         return f"{str(name).capitalize()} has been waiting since then."
     if any(name in (need.gone, *need.ended) for need in hang.needs):
         return f"{str(name).capitalize()} has ended since, and others wait for that."
-    other = next((waiters[one] for one in others_of(graph, call) if one in waiters), None)
+    other = next((waiters[name] for name in others_of(graph, call) if name in waiters), None)
     if other and other.since <= call.last:
         return f"{str(other.name).capitalize()}, at the other end, was waiting then, and still is."
     twin = next((root for root in hang.roots if is_twin(graph, root, call)), None)
@@ -62,7 +62,7 @@ def has_stopped(graph: WaitGraph, waiter: Waiter, call: Call) -> bool:
     """Whether the goroutine of a failed call began to wait outside the poller after that call, and has since then used
     no socket except to close it."""
     calls = index_of(graph.recording).by_goroutine[call.goroutine]
-    later = [one for one in calls if one.first > call.last and one.name != CLOSE]
+    later = [later_call for later_call in calls if later_call.first > call.last and later_call.name != CLOSE]
     return waiter.wait is not None and waiter.since >= call.last and not later
 
 

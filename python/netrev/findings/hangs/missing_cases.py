@@ -30,7 +30,7 @@ def missing_case_says(recording: Recording, hang: Hang) -> list[str]:
     if hang.is_deadlock or wait is None or wait.kind != A_SELECT or own_of(wait.stack) is None:
         return []
     shutdown = shutdown_of(recording, wait)
-    ends = shutdown or next((one for branch in hang.branches if (one := group_wait_of(branch))), None)
+    ends = shutdown or next((group_wait for branch in hang.branches if (group_wait := group_wait_of(branch))), None)
     if ends is None:
         return []
     lacking = lacking_of(recording, wait, ends)
@@ -54,9 +54,11 @@ def shutdown_of(recording: Recording, wait: Waiting) -> Optional[Waiting]:
     because Shutdown polls."""
     if not has(wait.stack, SERVE):
         return None
-    every = (one for some in waits_of(recording).of.values() for one in some if one.kind == ALL_REQUESTS)
-    others = [one for one in every if one.name != wait.name]
-    yet = [one for one in others if one.last is None]
+    every = (
+        past_wait for waits in waits_of(recording).of.values() for past_wait in waits if past_wait.kind == ALL_REQUESTS
+    )
+    others = [past_wait for past_wait in every if past_wait.name != wait.name]
+    yet = [past_wait for past_wait in others if past_wait.last is None]
     return min(yet or others, key=attrgetter("first", "begin"), default=None)
 
 
@@ -71,10 +73,12 @@ def lacking_of(recording: Recording, wait: Waiting, ends: Waiting) -> Optional[L
     own, closed = own_of(wait.stack), closed_by(recording, ends.name)
     for at in wait.objects:
         closed.pop(at.object, None)
-    for some in waits_of(recording).of.values() if closed and own else ():
-        for one in some:
-            use = next((closed[at.object] for at in one.objects if at.object in closed and at.use == FOR_VALUE), None)
-            other = own_of(one.stack) if use and one.name not in (wait.name, ends.name) else None
+    for waits in waits_of(recording).of.values() if closed and own else ():
+        for past_wait in waits:
+            use = next(
+                (closed[at.object] for at in past_wait.objects if at.object in closed and at.use == FOR_VALUE), None
+            )
+            other = own_of(past_wait.stack) if use and past_wait.name not in (wait.name, ends.name) else None
             if (
                 use
                 and own
@@ -82,7 +86,7 @@ def lacking_of(recording: Recording, wait: Waiting, ends: Waiting) -> Optional[L
                 and other.function != own.function
                 and owner(other.function) == owner(own.function)
             ):
-                return Lacking(use, one)
+                return Lacking(use, past_wait)
     return None
 
 

@@ -92,8 +92,8 @@ class Needs:
     def _of_lock(self, call: Call) -> Need:
         """What a call needs while it waits for the lock of a socket's side: the end of the call that holds the lock."""
         holders = [
-            one for one in self._index.by_socket[call.socket]
-            if one.side == call.side and not one.is_asking and one.first <= self._position and self._is_under_way(one)
+            candidate for candidate in self._index.by_socket[call.socket]
+            if candidate.side == call.side and not candidate.is_asking and candidate.first <= self._position and self._is_under_way(candidate)
         ]  # fmt: skip
         if not holders or not call.side:
             return Need([])
@@ -115,8 +115,8 @@ class Needs:
             opened = index.last_use(other, self._position, ("Open",))
             if opened and (since := since_begin(self._recording, opened.first)):
                 return Need([*says, f"Nobody has read or written there{since}."])
-            made = place_of_step(self._recording, opened.first, opened.goroutine) if opened else ""
-            says.append(f"Nobody has read or written there since it was opened{made}.")
+            place = place_of_step(self._recording, opened.first, opened.goroutine) if opened else ""
+            says.append(f"Nobody has read or written there since it was opened{place}.")
             if opened and (started := self._started_for(opened)):
                 return Need(says, started, "perhaps {by} should use the other end", Certainty.PERHAPS)
             by = Name(opened.goroutine) if opened else None
@@ -152,8 +152,14 @@ class Needs:
             for call in self._index.by_goroutine.get(maker.number, ())
         ):
             return None
-        alike = (one for one in lines.goroutines.values() if (one.made, one.maker) == (known.made, known.maker))
-        waiters = [self._waiters[name] for one in alike if (name := name_of_goid(lines, one.goid)) in self._waiters]
+        alike = (
+            goroutine
+            for goroutine in lines.goroutines.values()
+            if (goroutine.made, goroutine.maker) == (known.made, known.maker)
+        )
+        waiters = [
+            self._waiters[name] for goroutine in alike if (name := name_of_goid(lines, goroutine.goid)) in self._waiters
+        ]
         first = min(waiters, key=attrgetter("since"), default=None)
         return first.name if first else None
 
@@ -163,13 +169,23 @@ class Needs:
         again."""
         lines, reads = self._recording.lines, self._index.by_socket[last.socket]
         got = [
-            one for one in reads if one.goroutine == last.goroutine and one.name == "Read" and one.moved and one.last
+            read
+            for read in reads
+            if read.goroutine == last.goroutine and read.name == "Read" and read.moved and read.last
         ]
         maker = lines.goid_of(last.goroutine, last.first)
         if last.name != "Read" or not self._is_under_way(last) or not got or not maker:
             return None
-        started = [one for one in lines.goroutines.values() if one.maker == maker and one.first >= got[-1].last]
-        waiters = [self._waiters[name] for one in started if (name := name_of_goid(lines, one.goid)) in self._waiters]
+        started = [
+            goroutine
+            for goroutine in lines.goroutines.values()
+            if goroutine.maker == maker and goroutine.first >= got[-1].last
+        ]
+        waiters = [
+            self._waiters[name]
+            for goroutine in started
+            if (name := name_of_goid(lines, goroutine.goid)) in self._waiters
+        ]
         first = min(waiters, key=attrgetter("since"), default=None)
         return first.name if first else None
 
@@ -180,10 +196,12 @@ class Needs:
         if last.name != "Read" or Name(last.goroutine) in self._waiters:
             return None
         wrote = {
-            one.socket for one in self._index.by_goroutine[last.goroutine] if one.name == "Write" and one.moved
+            write.socket for write in self._index.by_goroutine[last.goroutine] if write.name == "Write" and write.moved
         } - {last.socket}
         readers = (
-            one for one in self._waiters.values() if one.call and one.call.name in READING and one.call.socket in wrote
+            waiter
+            for waiter in self._waiters.values()
+            if waiter.call and waiter.call.name in READING and waiter.call.socket in wrote
         )
         found = next(readers, None)
         return found.name if found else None
@@ -203,9 +221,9 @@ class Needs:
         until = following.first if following else self._recording.length + 1
         maker = lines.goid_of(opened.goroutine, opened.first)
         started = [
-            one
-            for one in lines.goroutines.values()
-            if maker and one.maker == maker and opened.first <= one.first < until
+            goroutine
+            for goroutine in lines.goroutines.values()
+            if maker and goroutine.maker == maker and opened.first <= goroutine.first < until
         ]
         first = min(started, key=attrgetter("begin"), default=None)
         return name_of_goid(lines, first.goid) if first else None
@@ -223,8 +241,10 @@ class Needs:
         recording, now = self._recording, self._index.inside(last.goroutine, self._position)
         if now is last:
             return [f"There {told(recording, last)} is itself under way since step {last.first}."]
-        came = f", {came_of(recording, last)}" if last.came() and last.last <= self._position else ""
-        did = f"There {told(recording, last)} was the last, {last.steps() if last.last <= self._position else ''}{came}"
+        result = f", {came_of(recording, last)}" if last.came() and last.last <= self._position else ""
+        did = (
+            f"There {told(recording, last)} was the last, {last.steps() if last.last <= self._position else ''}{result}"
+        )
         if now:
             return [f"{did}; it is now in {told(recording, now)}, since step {now.first}."]
         return [f"{did}; {doing(self._index, self._waits, last.goroutine, self._position)}."]
@@ -234,5 +254,5 @@ def doing(index: Index, waits: Waits, goroutine: int, position: int) -> str:
     """What a goroutine that is in no call does: `it sleeps at a.go:63 in client since step 9`."""
     if wait := waits.at(Name(goroutine), position):
         return f"it {waits_words(wait)} since step {wait.first}"
-    last = [one for one in index.by_goroutine[goroutine] if one.first <= position][-1]
+    last = [call for call in index.by_goroutine[goroutine] if call.first <= position][-1]
     return f"since step {last.last} it is in no call of a socket"

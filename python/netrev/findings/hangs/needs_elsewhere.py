@@ -119,9 +119,12 @@ class NeedsElsewhere:
         if wrote is None or wrote.name != "Write" or not wrote.last or not is_dialed(self._index, wrote.socket):
             return None
         readers = (
-            one.name
-            for one in self._waiters.values()
-            if one.call and one.call.name in READING and one.call.socket == wrote.socket and not one.call.is_asking
+            waiter.name
+            for waiter in self._waiters.values()
+            if waiter.call
+            and waiter.call.name in READING
+            and waiter.call.socket == wrote.socket
+            and not waiter.call.is_asking
         )
         return next(readers, None)
 
@@ -156,8 +159,8 @@ class NeedsElsewhere:
         if closes is None:
             return Need([])
         users = [
-            one for one in self._index.by_socket[closes.socket]
-            if one.goroutine != closes.goroutine and one.first <= self._position < (one.last or self._position + 1)
+            call for call in self._index.by_socket[closes.socket]
+            if call.goroutine != closes.goroutine and call.first <= self._position < (call.last or self._position + 1)
         ]  # fmt: skip
         if not users:
             return Need([])
@@ -169,14 +172,14 @@ class NeedsElsewhere:
         goroutine, or that should have woken all waiters."""
         key = wait.stack.own(), wait.objects
         if key not in self._conditions:
-            alike = [one for one in self._waiters.values() if one.wait and one.wait.objects == wait.objects]
+            alike = [waiter for waiter in self._waiters.values() if waiter.wait and waiter.wait.objects == wait.objects]
             self._conditions[key] = unsignalled(self._recording, wait) or one_alone(self._recording, wait, len(alike))
         return self._conditions[key]
 
     def _of_connection(self) -> Need:
         """What a net/http request needs while it waits for a connection: the goroutine that perhaps has the
         connection."""
-        asking = (name for name, one in self._waiters.items() if one.wait and one.wait.kind == A_RESPONSE)
+        asking = (name for name, waiter in self._waiters.items() if waiter.wait and waiter.wait.kind == A_RESPONSE)
         by = next(asking, None)
         how = "perhaps {by} has the connection, and waits for the response"
         return Need([], by, how, Certainty.PERHAPS) if by else Need([])
@@ -222,15 +225,15 @@ class NeedsElsewhere:
         """The goroutine that ended this goroutine's last wait at the same line and now waits itself. Unless
         `elsewhere`, only waits on the same channels or mutex count."""
         earlier = (
-            one for one in reversed(self._waits.of[wait.name])
-            if one.last is not None and one.by is not None and one.last <= wait.first
+            past_wait for past_wait in reversed(self._waits.of[wait.name])
+            if past_wait.last is not None and past_wait.by is not None and past_wait.last <= wait.first
         )  # fmt: skip
         same = (
-            one.by
-            for one in earlier
-            if one.reason == wait.reason
-            and one.stack.own() == wait.stack.own()
-            and (elsewhere or one.objects == wait.objects)
+            past_wait.by
+            for past_wait in earlier
+            if past_wait.reason == wait.reason
+            and past_wait.stack.own() == wait.stack.own()
+            and (elsewhere or past_wait.objects == wait.objects)
         )
         return next((by for by in same if by in self._waiters), None)
 

@@ -88,7 +88,7 @@ class Hang(NamedTuple):
         do."""
         need, wait = self.needs[0], self.root.wait
         if self.is_deadlock:
-            return self.is_of_mutexes or any(one.more and not one.is_plain for one in self.needs)
+            return self.is_of_mutexes or any(reason.more and not reason.is_plain for reason in self.needs)
         idles = wait is not None and wait.kind in QUIET and wait.kind != A_CONDITION
         return need.is_odd or bool(need.gone or need.ended or (wait and need.says) or (need.more and not idles))
 
@@ -159,7 +159,11 @@ class WaitGraph:
         if call is None or call.name not in READING or not self.needs[by].is_kept:
             return False
         index = index_of(self.recording)
-        before = [one for one in index.by_socket[call.socket] if one.last and one.moved and one.name in MOVING]
+        before = [
+            transfer
+            for transfer in index.by_socket[call.socket]
+            if transfer.last and transfer.moved and transfer.name in MOVING
+        ]
         has_answered = bool(before) and before[-1].name == "Write" and before[-1].goroutine == call.goroutine
         return has_answered and before[0].name == "Read" and self.needs[name].certainty > Certainty.PERHAPS
 
@@ -237,8 +241,8 @@ class WaitGraph:
                     seen.add(name)
                     alike[self._likeness(name)].append(name)
                     upcoming += [name] if depth == DEEP else []
-        made = [self._branch(some, seen, depth) for some in alike.values()]
-        return sorted(made, key=lambda branch: -branch.need.certainty)
+        branches = [self._branch(some, seen, depth) for some in alike.values()]
+        return sorted(branches, key=lambda branch: -branch.need.certainty)
 
     def _branch(self, names: list[Name], seen: set[Name], depth: int) -> Branch:
         waiters, on = [self.waiters[name] for name in names], [self.edges[name].on for name in names]
@@ -271,7 +275,7 @@ def mutex_of(waiter: Waiter) -> int:
 def count_of(branches: Iterable[Branch], is_meant: Callable[[Branch], bool]) -> int:
     """The number of goroutines that wait in the branches that a test accepts. Branches below a rejected branch don't
     count."""
-    return sum(len(one.waiters) + count_of(one.branches, is_meant) for one in branches if is_meant(one))
+    return sum(len(branch.waiters) + count_of(branch.branches, is_meant) for branch in branches if is_meant(branch))
 
 
 def waiters_of(hang: Hang) -> Iterator[Waiter]:

@@ -53,9 +53,9 @@ def cancel_before(index: Index, step: int) -> Optional[Cancel]:
     goid = lines.goid_of(goroutine, step)
     since = last_step_before(index, goroutine, step)
     inside = {call.function for call in lines.of(step).calls}
-    found = [one for one in found_closed(recording, goid, since, step) if one.looker in inside]
-    for one in sorted(found, key=attrgetter("time"), reverse=True):
-        closes = [use for use in lines.uses.get(one.object, ()) if use.what == CLOSED and use.last < step]
+    found = [finding for finding in found_closed(recording, goid, since, step) if finding.looker in inside]
+    for finding in sorted(found, key=attrgetter("time"), reverse=True):
+        closes = [use for use in lines.uses.get(finding.object, ()) if use.what == CLOSED and use.last < step]
         if closes and (has(lines.stacks[closes[-1].stack], OF_A_CONTEXT) or lines.stacks[closes[-1].stack].own()):
             return Cancel(goroutine, closes[-1], limits_of(recording, closes[-1], goid))
     return None
@@ -93,8 +93,8 @@ def looker_of(stack: Stack) -> str:
 
 def last_step_before(index: Index, goroutine: int, step: int) -> int:
     """The last step of a goroutine's previous call, before the call that contains a step."""
-    calls = [one for one in index.by_goroutine.get(goroutine, ()) if 0 < one.last < step]
-    return max((one.last for one in calls), default=0)
+    calls = [call for call in index.by_goroutine.get(goroutine, ()) if 0 < call.last < step]
+    return max((call.last for call in calls), default=0)
 
 
 def limits_of(recording: Recording, use: Use, goid: int) -> list[Timer]:
@@ -144,7 +144,7 @@ def cancel_says(index: Index, cancel: Cancel) -> str:
 
 def perhaps_of(index: Index, timers: list[Timer]) -> str:
     """`perhaps ` if the timers were made at several places; else empty."""
-    return "perhaps " if len({place_in(index.recording.lines.stacks[one.stack]) for one in timers}) > 1 else ""
+    return "perhaps " if len({place_in(index.recording.lines.stacks[timer.stack]) for timer in timers}) > 1 else ""
 
 
 def limit_says(index: Index, timers: list[Timer]) -> str:
@@ -161,8 +161,9 @@ def is_of_a_rest(recording: Recording, timer: Timer) -> bool:
     place, and that timer is due at nearly the same time. If the timers belong to two separate requests, their due times
     differ as much as the times at which they were made."""
     return any(
-        (one.goid, one.stack) == (timer.goid, timer.stack) and 2 * abs(one.due - timer.due) < timer.time - one.time
-        for one in recording.lines.timers.get(0, ())
+        (earlier.goid, earlier.stack) == (timer.goid, timer.stack)
+        and 2 * abs(earlier.due - timer.due) < timer.time - earlier.time
+        for earlier in recording.lines.timers.get(0, ())
     )
 
 

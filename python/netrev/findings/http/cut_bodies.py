@@ -24,16 +24,16 @@ def cut_bodies(index: Index) -> Iterator[Call]:
 
 
 def is_of_a_body(recording: Recording, call: Call) -> bool:
-    functions = [one.function for one in recording.lines.of(call.first).calls]
-    return OF_A_LENGTH in functions and any(one.startswith(OF_A_BODY) for one in functions)
+    functions = [frame.function for frame in recording.lines.of(call.first).calls]
+    return OF_A_LENGTH in functions and any(function.startswith(OF_A_BODY) for function in functions)
 
 
 def body_says(recording: Recording, call: Call, closed: Call) -> list[str]:
     """Sentences about a body that is shorter than its Content-Length because the other end was closed. The sentences
     name the lines of the program that set a Content-Length."""
-    file = next((one.file for one in recording.lines.of(call.first).calls if one.of == OF_THE_PROGRAM), "")
+    file = next((frame.file for frame in recording.lines.of(call.first).calls if frame.of == OF_THE_PROGRAM), "")
     places = places_with(recording, file, SETS_LENGTH) if file else []
     sets = f", which {' and '.join(places[:MOST])} set{'' if places[1:] else 's'}" if 0 < len(places) <= MOST else ""
-    if any(one.function.startswith(OF_A_CLIENT) for one in recording.lines.of(closed.first).calls):
+    if any(frame.function.startswith(OF_A_CLIENT) for frame in recording.lines.of(closed.first).calls):
         return ["The body of the request ended before its Content-Length: the client closed the connection."]
     return [f"The body ended before its Content-Length{sets}: the server closed the connection."]

@@ -35,7 +35,7 @@ class EndedBefore(NamedTuple):
         request = f"The request{place_in(stack)} ({name}, step {self.use.last})"
         if any(call.function == GET_CONNECTION for call in stack.calls[:3]):
             waits = waits_of(recording)
-            own = [one for one in waits.of.get(name, ()) if one.kind == A_CONNECTION and one.first <= self.use.last]
+            own = [wait for wait in waits.of.get(name, ()) if wait.kind == A_CONNECTION and wait.first <= self.use.last]
             since = own[-1].first if own else self.use.last
             bodies = open_bodies(recording, Ledger(recording, waits), waits, since)
             return [f"{request} ended while it waited for a connection: its context had ended.", *bodies]
@@ -50,7 +50,7 @@ def ended_before(index: Index) -> Iterator[EndedBefore]:
         for use in uses:
             functions = [call.function for call in lines.stacks[use.stack].calls[:3]] if use.what == ENDED else []
             own = lines.stacks[use.stack].own() if CAUSE_OF_END in functions else None
-            if own and own[0].of == OF_THE_PROGRAM and any(one in functions for one in ROUND_TRIPS):
+            if own and own[0].of == OF_THE_PROGRAM and any(function in functions for function in ROUND_TRIPS):
                 yield EndedBefore(use)
 
 
@@ -58,10 +58,10 @@ def of_a_handler(recording: Recording, goid: int) -> list[str]:
     """Sentences about a handler of net/http that started a goroutine in a function that takes the request's context.
     That context ends when the handler returns."""
     known = recording.lines.goroutines.get(goid)
-    made = known.made if known else None
-    lines = source_of(recording, made.file) if made and made.of == OF_THE_PROGRAM else None
-    within = range_of(lines, made._replace(function="")) if lines and made else None
-    if not lines or not within or not made:
+    statement = known.made if known else None
+    lines = source_of(recording, statement.file) if statement and statement.of == OF_THE_PROGRAM else None
+    within = range_of(lines, statement._replace(function="")) if lines and statement else None
+    if not lines or not within or not statement:
         return []
     texts = {number: lines[number - 1].partition("//")[0] for number in within}
     request = REQUEST.search(texts[within.start])
@@ -71,7 +71,7 @@ def of_a_handler(recording: Recording, goid: int) -> list[str]:
     if not context:
         return []
     return [
-        f"Its goroutine was started at {made.place()}, in a function that takes {request[1]}.Context() at {made.file}:{context}: net/http ends that "
+        f"Its goroutine was started at {statement.place()}, in a function that takes {request[1]}.Context() at {statement.file}:{context}: net/http ends that "
         "context as the handler returns."
     ]
 
@@ -90,7 +90,7 @@ def kept_by_a_handler(recording: Recording, stack: Stack) -> list[str]:
 
 def causes_of_ended(index: Index) -> list[Cause]:
     """Causes for the requests that weren't sent because their contexts had ended."""
-    return [cause for one in ended_before(index) if (cause := cause_of(index, one))]
+    return [cause for request in ended_before(index) if (cause := cause_of(index, request))]
 
 
 def cause_of(index: Index, ended: EndedBefore) -> Optional[Cause]:

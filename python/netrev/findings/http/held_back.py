@@ -31,18 +31,18 @@ def held_back(index: Index, socket: int, position: int) -> list[str]:
     if has(stack, PROXY):
         where = "Perhaps its ReverseProxy holds back what it has read, as it does without a FlushInterval."
         return [where, *came_since(index, server, other, position)]
-    came = came_since(index, server, other, position)
+    unpassed = came_since(index, server, other, position)
     if (flush := flushed_in_vain(index.recording, stack)) and not has_written(index, server, other, position):
         return [
             f"{flush} should have flushed the answer, and nothing was written to socket {other} since its request: perhaps its "
             "ResponseWriter is no http.Flusher.",
         ]
-    writes = next((place for place, is_passed in unflushed(index.recording, stack) if is_passed or came), "")
+    writes = next((place for place, is_passed in unflushed(index.recording, stack) if is_passed or unpassed), "")
     if not writes or has_written(index, server, other, position):
         return []
     return [
         f"Perhaps what {writes} wrote is held back: net/http sends it when the handler returns, and nothing flushes it before.",
-        *came,
+        *unpassed,
     ]
 
 
@@ -57,7 +57,9 @@ def stack_of(index: Index, name: Name, position: int) -> Optional[Stack]:
 def has_written(index: Index, server: Name, socket: int, position: int) -> bool:
     """Whether a goroutine has written to a socket since it last read from that socket."""
     moved = (
-        one for one in back(index.by_goroutine.get(server.number, ()), position) if one.socket == socket and one.moved
+        call
+        for call in back(index.by_goroutine.get(server.number, ()), position)
+        if call.socket == socket and call.moved
     )
     last = next(moved, None)
     return last is not None and last.name == "Write"
@@ -66,11 +68,13 @@ def has_written(index: Index, server: Name, socket: int, position: int) -> bool:
 def came_since(index: Index, server: Name, socket: int, position: int) -> list[str]:
     """Sentences about a goroutine that, since it last read from a socket, has got bytes from another socket and has
     written nothing to the first."""
-    calls = [one for one in index.by_goroutine.get(server.number, []) if one.first <= position]
-    asked = next((one for one in reversed(calls) if one.socket == socket and one.name == "Read" and one.moved), None)
-    since = [one for one in calls if asked and one.first > asked.last and one.moved]
-    got = [one for one in since if one.name == "Read" and one.socket != socket]
-    if not asked or not got or any(one.name == "Write" and one.socket == socket for one in since):
+    calls = [call for call in index.by_goroutine.get(server.number, []) if call.first <= position]
+    request = next(
+        (call for call in reversed(calls) if call.socket == socket and call.name == "Read" and call.moved), None
+    )
+    since = [call for call in calls if request and call.first > request.last and call.moved]
+    got = [read for read in since if read.name == "Read" and read.socket != socket]
+    if not request or not got or any(call.name == "Write" and call.socket == socket for call in since):
         return []
     return [
         f"{told(index.recording, got[-1])} got {counted(got[-1].moved or 0, 'byte')} in step {got[-1].last}, and nothing was written to "
@@ -120,7 +124,7 @@ def writes_of(lines: Lines, call: LineCall, within: range, is_innermost: bool) -
     )
     numbers = [number for number in within if writes.search(code_at(lines, number))]
     before = [number for number in numbers if number <= call.line]
-    for number in [*reversed(before), *(one for one in numbers if one > call.line)]:
+    for number in [*reversed(before), *(later for later in numbers if later > call.line)]:
         is_in_loop = (
             number >= call.line and loop_round(lines, within, number) >= loop_round(lines, within, call.line) > 0
         )

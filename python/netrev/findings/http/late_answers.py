@@ -17,7 +17,7 @@ def is_of_write_timeout(index: Index, call: Call) -> bool:
         return False
     stack = index.recording.lines.of(call.cause)
     ahead = index.recording.step(call.cause).argument("time")
-    return ahead > 0 and any(one.function.startswith(READS_A_REQUEST) for one in stack.calls)
+    return ahead > 0 and any(frame.function.startswith(READS_A_REQUEST) for frame in stack.calls)
 
 
 def late_answers(index: Index) -> Iterator[Cause]:

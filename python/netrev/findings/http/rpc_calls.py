@@ -27,7 +27,7 @@ def dropped_by_rpc(recording: Recording, wait: Waiting) -> list[str]:
         return []
     if not all(has(lines.stacks[use.stack], DONE) for use in puts) or sum(use.often for use in puts) < known.room:
         return []
-    made, name = "", RECEIVE.search(text_at(recording, own[0])) if own and own[0].of == OF_THE_PROGRAM else None
+    origin, name = "", RECEIVE.search(text_at(recording, own[0])) if own and own[0].of == OF_THE_PROGRAM else None
     if own and name:
         makes = re.compile(rf"\b{re.escape(name[1].rpartition('.')[2])}\b.*make\(chan \*rpc\.Call")
         found = (
@@ -36,8 +36,8 @@ def dropped_by_rpc(recording: Recording, wait: Waiting) -> list[str]:
             for number, text in enumerate(lines_of, 1)
             if makes.search(text.partition("//")[0])
         )
-        made = next(found, "")
+        origin = next(found, "")
     return [
-        f"Perhaps calls were dropped: that channel{made} has room for {counted(known.room, 'value')}, and net/rpc drops a call that is done while it "
+        f"Perhaps calls were dropped: that channel{origin} has room for {counted(known.room, 'value')}, and net/rpc drops a call that is done while it "
         "is full."
     ]

@@ -46,8 +46,8 @@ class Unsent(NamedTuple):
         if own and reads:
             return [*says, f"Perhaps the body had been read before that: {own[0].file}:{reads} does so."]
         if own and self.before:
-            made = [number for number, _ in found_in(recording, own[0], MADE) if number < own[0].line]
-            which = f", made at {own[0].file}:{made[-1]}," if made else ""
+            numbers = [number for number, _ in found_in(recording, own[0], MADE) if number < own[0].line]
+            which = f", made at {own[0].file}:{numbers[-1]}," if numbers else ""
             return [
                 *says,
                 f"Perhaps it is the same request{which} as the one from there in step {self.before}, which read its body to the end.",
@@ -62,7 +62,7 @@ def reading_line(recording: Recording, call: LineCall) -> int:
 
 def unsent_requests(index: Index) -> Iterator[Unsent]:
     """The program's requests that were never written."""
-    lines, cancelled = index.recording.lines, {one.closed.first for one in cancelled_requests(index)}
+    lines, cancelled = index.recording.lines, {request.closed.first for request in cancelled_requests(index)}
     for calls in index.by_socket.values():
         for call in calls:
             if call.name == CLOSE and call.first not in cancelled and has(lines.of(call.first), WRITE_LOOP):
@@ -84,7 +84,7 @@ def request_of(index: Index, closed: Call) -> Optional[Use]:
 def has_written(index: Index, closed: Call, use: Use) -> bool:
     """Whether the goroutine that closed a connection had written to it since it took a request."""
     calls = index.by_goroutine[closed.goroutine]
-    return any(one.name == "Write" and use.last <= one.first <= closed.first for one in calls)
+    return any(call.name == "Write" and use.last <= call.first <= closed.first for call in calls)
 
 
 def is_of_program(recording: Recording, use: Use) -> bool:
@@ -112,10 +112,10 @@ def causes_of_unsent(index: Index) -> list[Cause]:
     """Causes for the requests that were never written."""
     return [
         Cause(
-            one.closed,
-            one.says(index.recording),
-            [one.use.last, one.closed.first],
-            [f"goto {one.closed.first}", f"calls sock {one.closed.socket}"],
+            request.closed,
+            request.says(index.recording),
+            [request.use.last, request.closed.first],
+            [f"goto {request.closed.first}", f"calls sock {request.closed.socket}"],
         )
-        for one in unsent_requests(index)
+        for request in unsent_requests(index)
     ]

@@ -38,19 +38,19 @@ class Waking(NamedTuple):
 def unsignalled(recording: Recording, wait: Waiting) -> list[str]:
     """Sentences about functions that change what a Wait's loop tests but call neither Signal nor Broadcast."""
     return [
-        f"Perhaps {one.file}:{one.changes} in {one.function} should have woken it: it changes {one.field}, which the loop around the Wait "
+        f"Perhaps {waking.file}:{waking.changes} in {waking.function} should have woken it: it changes {waking.field}, which the loop around the Wait "
         "tests, and that function calls neither Signal nor Broadcast."
-        for one in wakings_of(recording, wait)
-        if not one.signal and not one.is_waiting
+        for waking in wakings_of(recording, wait)
+        if not waking.signal and not waking.is_waiting
     ][:MOST]
 
 
 def one_alone(recording: Recording, wait: Waiting, waiting: int) -> list[str]:
     """Sentences about a function that sets a flag for which several goroutines wait, but wakes only one of them."""
     return [
-        f"Perhaps {one.file}:{one.signal} in {one.function} should wake all: Signal wakes only one goroutine, and {waiting} still wait."
-        for one in wakings_of(recording, wait)
-        if one.signal and not one.is_for_all and waiting > 1 and one.is_flag
+        f"Perhaps {waking.file}:{waking.signal} in {waking.function} should wake all: Signal wakes only one goroutine, and {waiting} still wait."
+        for waking in wakings_of(recording, wait)
+        if waking.signal and not waking.is_for_all and waiting > 1 and waking.is_flag
     ][:MOST] or mistaken_signal(recording, wait)
 
 
@@ -72,9 +72,9 @@ def mistaken_signal(recording: Recording, wait: Waiting) -> list[str]:
     else:
         return []
     return [
-        f"Perhaps {one.file}:{one.signal} in {one.function} woke another one: {why}and Signal wakes only one goroutine."
-        for one in wakings_of(recording, wait)
-        if one.signal and not one.is_for_all
+        f"Perhaps {waking.file}:{waking.signal} in {waking.function} woke another one: {why}and Signal wakes only one goroutine."
+        for waking in wakings_of(recording, wait)
+        if waking.signal and not waking.is_for_all
     ][:MOST]
 
 
@@ -93,16 +93,21 @@ def source_at(recording: Recording, wait: Waiting) -> Optional[tuple[Call, Lines
 
 def places_of_waits(recording: Recording, wait: Waiting) -> Iterator[str]:
     """The lines at which goroutines have waited on a condition."""
-    for some in waits_of(recording).of.values():
-        for one in some:
-            if one.objects == wait.objects and (own := one.stack.own()):
+    for waits in waits_of(recording).of.values():
+        for past_wait in waits:
+            if past_wait.objects == wait.objects and (own := past_wait.stack.own()):
                 yield own[0].place()
 
 
 def have_waited(recording: Recording, wait: Waiting) -> bool:
     """Whether several goroutines have waited on a condition."""
-    every = (one for some in waits_of(recording).of.values() for one in some if one.objects == wait.objects)
-    return len({one.name for one in every}) > 1
+    every = (
+        past_wait
+        for waits in waits_of(recording).of.values()
+        for past_wait in waits
+        if past_wait.objects == wait.objects
+    )
+    return len({past_wait.name for past_wait in every}) > 1
 
 
 def wakings_of(recording: Recording, wait: Waiting) -> list[Waking]:

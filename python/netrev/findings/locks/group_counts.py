@@ -77,9 +77,9 @@ def kinds_at(recording: Recording, count: Count) -> list[Kind]:
     goroutine did, the result has the `go` statement after the line that called Add."""
     found, goroutines = dict[Call, Kind](), recording.lines.goroutines
     for goid in sorted(started_by(recording, count)):
-        made = goroutines[goid].made
-        if made and made.of == OF_THE_PROGRAM:
-            kind = found.setdefault(made, Kind(made, [], [], []))
+        statement = goroutines[goid].made
+        if statement and statement.of == OF_THE_PROGRAM:
+            kind = found.setdefault(statement, Kind(statement, [], [], []))
             has_ended = goroutines[goid].last >= 0
             (kind.did if goid in count.done_by else kind.ended if has_ended else kind.alive).append(goid)
     did = [kind for kind in found.values() if kind.did]
@@ -100,10 +100,14 @@ def ended_says(recording: Recording, count: Count) -> list[str]:
     says = [kind_says(recording, count, kind) for kind in kinds if kind.ended][:MOST_KINDS]
     if says or not kinds or not count.is_once or any(kind.alive for kind in kinds):
         return says
-    number, made = sum(len(kind.did) for kind in kinds), " and ".join(kind.made.place() for kind in kinds[:MOST_KINDS])
+    number, places = sum(len(kind.did) for kind in kinds), " and ".join(
+        kind.made.place() for kind in kinds[:MOST_KINDS]
+    )
     if number != total(count.done):
         return []
-    every = f"The goroutine started at {made} has" if number == 1 else f"All {number} goroutines started at {made} have"
+    every = (
+        f"The goroutine started at {places} has" if number == 1 else f"All {number} goroutines started at {places} have"
+    )
     return [f"{every} called Done: more was added than that."]
 
 

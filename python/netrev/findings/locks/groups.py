@@ -57,7 +57,10 @@ class Groups:
         if calls not in self._members:
             self._members[calls] = [*self._by_source(waiter), *self._started(waiter)]
         count = self._count(waiter)
-        itself = next((one for one in self._members[calls] if one.name == waiter.name and one.number), None)
+        itself = next(
+            (candidate for candidate in self._members[calls] if candidate.name == waiter.name and candidate.number),
+            None,
+        )
         if itself and count and self._goid(itself) in started_by(self._recording, count):
             at = f"{itself.line.file}:{itself.number}"
             when = self._when(itself) or " after that"
@@ -67,9 +70,11 @@ class Groups:
         skipped = skipped_done(self._recording, self._waits, count, self._position) if count else []
         if skipped:
             return Need(skipped)
-        members = self._in_order([one for one in self._members[calls] if one.name != waiter.name], count)
+        members = self._in_order(
+            [candidate for candidate in self._members[calls] if candidate.name != waiter.name], count
+        )
         ended = self._without_done(count)
-        member = next((one for one in members if one.name in waiters), None)
+        member = next((candidate for candidate in members if candidate.name in waiters), None)
         names = ended_names(self._recording, count) if count else ()
         if member and not (ended and count and self._has_done(member, count)):
             how = f"perhaps for {{by}}, {self._how(waiter, member)}"
@@ -90,13 +95,13 @@ class Groups:
             return []
         for use in count.added:
             own, name = lines.stacks[use.stack].own(), name_of_goid(lines, use.goid)
-            done = sum(one.often for one in count.done if one.goid == use.goid)
+            done = sum(call.often for call in count.done if call.goid == use.goid)
             if not own or own[0].of != OF_THE_PROGRAM or done >= use.often or use.last > self._position:
                 continue
             added = ADD.search(text_at(self._recording, own[0]))
             found = [
-                (number, one) for number, one in found_in(self._recording, own[0], DONE)
-                if added and number > own[0].line and one[2] == added[1] and self._are_level(own[0], number)
+                (number, match) for number, match in found_in(self._recording, own[0], DONE)
+                if added and number > own[0].line and match[2] == added[1] and self._are_level(own[0], number)
             ]  # fmt: skip
             if len(found) != 1 or found[0][1][1] or not has_returned(self._index, name, own[0], self._position):
                 continue
@@ -131,10 +136,10 @@ class Groups:
         if count is None:
             return members
         started = started_by(self._recording, count)
-        mine = [one for one in members if self._goid(one) in started]
+        mine = [member for member in members if self._goid(member) in started]
         others = [] if count.done_by and count.done_by <= started else members
         done = count.done_by if count.is_once else set()
-        return sorted(mine or others, key=lambda one: self._goid(one) in done)
+        return sorted(mine or others, key=lambda member: self._goid(member) in done)
 
     def _goid(self, member: Member) -> int:
         return member.name.number if member.name.is_goid else self._recording.lines.goid_of(member.name.number)
@@ -170,9 +175,11 @@ class Groups:
         WaitGroup.Go or any literal in these functions started."""
         inside = {call.function for call in waiter.stack.calls if call.of == OF_THE_PROGRAM}
         outer = set(map(outermost, inside))
-        made = [(name, stack.made) for name, stack in self._stacks if stack.made]
-        near = [one for one in made if one[1].function in inside | outer]
-        others = [one for one in made if outermost(one[1].function) in outer or one[1].function == STARTED_BY_GROUP]
+        starts = [(name, stack.made) for name, stack in self._stacks if stack.made]
+        near = [start for start in starts if start[1].function in inside | outer]
+        others = [
+            start for start in starts if outermost(start[1].function) in outer or start[1].function == STARTED_BY_GROUP
+        ]
         return [Member(name, at) for name, at in near or others]
 
     def _how(self, waiter: Waiter, member: Member) -> str:
@@ -181,15 +188,17 @@ class Groups:
         if member.number:
             return f"which calls Done at {member.line.file}:{member.number}{self._when(member)}"
         lines = self._recording.lines
-        goid, starter = (one.number if one.is_goid else lines.goid_of(one.number) for one in (member.name, waiter.name))
+        goid, starter = (
+            name.number if name.is_goid else lines.goid_of(name.number) for name in (member.name, waiter.name)
+        )
         known = lines.goroutines.get(goid)
         return "which it started" if known and known.maker == starter > 0 else f"started at {member.line.place()}"
 
     def _when(self, member: Member) -> str:
         """`as it ends` if a goroutine calls Done in its last line or in a `defer` statement; else empty."""
-        done = [one for number, one in found_in(self._recording, member.line, DONE) if number == member.number]
+        done = [match for number, match in found_in(self._recording, member.line, DONE) if number == member.number]
         is_last = is_last_line(self._recording, member.line, member.number)
-        return " as it ends" if is_last or any(one[1] for one in done) else ""
+        return " as it ends" if is_last or any(match[1] for match in done) else ""
 
     def _of_ended(self, waiter: Waiter) -> list[str]:
         """Sentences about the goroutines that the waiter's functions started, if all of these have ended. The sentences
@@ -200,15 +209,15 @@ class Groups:
         for goid, known in lines.goroutines.items():
             if known.made and known.made.function in inside and 0 <= known.first <= waiter.since:
                 started.setdefault(known.made, []).append(goid)
-        for made, goids in reversed(started.items()):
+        for statement, goids in reversed(started.items()):
             if all(0 <= lines.goroutines[goid].last <= self._position for goid in goids):
-                return self._ended_words(made, goids)
+                return self._ended_words(statement, goids)
         return []
 
-    def _ended_words(self, made: Call, goids: list[int]) -> list[str]:
+    def _ended_words(self, statement: Call, goids: list[int]) -> list[str]:
         lines, failed = self._recording.lines, [goid for goid in goids if self._failed_dial(goid)]
         many = "The goroutine" if len(goids) == 1 else f"All {len(goids)} goroutines"
-        says = [f"{many} started at {made.place()} ha{'s' if len(goids) == 1 else 've'} ended."]
+        says = [f"{many} started at {statement.place()} ha{'s' if len(goids) == 1 else 've'} ended."]
         found = odd_ones(self._recording, goids)
         odd = found[0] if found else failed if len(failed) < len(goids) else goids[:1] if len(goids) == 1 else []
         if not odd:
@@ -216,7 +225,7 @@ class Groups:
         names = of_names(name_of_goid(lines, goid) for goid in odd)
         dials = [words for goid in odd[:1] if (words := self._failed_dial(goid))]
         differs = lines_words(self._recording, odd, [goid for goid in goids if goid not in odd])
-        return [*says, f"Perhaps {names} ended without Done{differs}{''.join(f'; {one}' for one in dials)}."]
+        return [*says, f"Perhaps {names} ended without Done{differs}{''.join(f'; {dial}' for dial in dials)}."]
 
     def _failed_dial(self, goid: int) -> str:
         """Words which say that a goroutine's Dial failed; empty if no Dial failed."""

@@ -65,24 +65,24 @@ class MutexHolders:
     def need(self, wait: Waiting) -> Need:
         """What a goroutine needs while it waits for a mutex."""
         holders = list(self._holders(wait))
-        mine = [one for one in holders if one.name == wait.name]
+        mine = [holder for holder in holders if holder.name == wait.name]
         if mine and not self._is_pending(wait, mine[0]):
             return self._of_itself(wait, mine[0])
-        others = [one for one in holders if one.name != wait.name]
+        others = [holder for holder in holders if holder.name != wait.name]
         return self._of_holder(wait, others[0], others[1:]) if others else self._of_nobody(wait)
 
     def _holders(self, wait: Waiting) -> Iterator[Holder]:
         """The holders for which a goroutine waits: the writer; or the readers, if the goroutine is itself a writer that
         already has the mutex. The goroutine itself is among the holders if it also holds the mutex."""
-        held = [one for at in wait.objects for one in (self._recording.lines.held or {}).get(at.object, ())]
-        writers = [self._holder(one) for one in held if one.how != READ]
-        readers = [self._holder(one) for one in held if one.how == READ]
-        is_writer_to_be = any(one.name == wait.name and self._is_pending(wait, one) for one in writers)
+        held = [entry for at in wait.objects for entry in (self._recording.lines.held or {}).get(at.object, ())]
+        writers = [self._holder(entry) for entry in held if entry.how != READ]
+        readers = [self._holder(entry) for entry in held if entry.how == READ]
+        is_writer_to_be = any(writer.name == wait.name and self._is_pending(wait, writer) for writer in writers)
         if is_writer_to_be or not writers:
             yield from readers
         else:
             yield from writers
-            yield from (one for one in readers if one.name == wait.name and not has(wait.stack, READS))
+            yield from (reader for reader in readers if reader.name == wait.name and not has(wait.stack, READS))
 
     def _holder(self, held: Held) -> Holder:
         lines = self._recording.lines
@@ -93,7 +93,7 @@ class MutexHolders:
         """Whether a goroutine in RWMutex.Lock has the mutex already and waits only for its readers."""
         inside = [call.function for call in wait.stack.calls if call.of != OF_THE_PROGRAM]
         is_in_mutex = any(MUTEX_OF_GO in function for function in inside)
-        return not holder.is_reader and not is_in_mutex and any(WRITES in one for one in inside)
+        return not holder.is_reader and not is_in_mutex and any(WRITES in function for function in inside)
 
     def _of_itself(self, wait: Waiting, holder: Holder) -> Need:
         """What a waiting goroutine needs if it has already locked the mutex itself."""
@@ -129,7 +129,7 @@ class MutexHolders:
         """What a waiting goroutine needs if the holder's stack shows that the holder has left the function that locked
         the mutex. On other paths, that function unlocks the mutex. Else None."""
         call = holder.call
-        if call is None or not now.calls or any(one.function == call.function for one in now.calls):
+        if call is None or not now.calls or any(frame.function == call.function for frame in now.calls):
             return None
         name = LOCK.search(text_at(self._recording, call))
         if name is None or name[1] not in [found[1] for _, found in found_in(self._recording, call, UNLOCK)]:

@@ -76,7 +76,7 @@ class NeedsOfMutexes:
         is_likely = first.name in self._last(wait)
         perhaps, certainty = ("", Certainty.LIKELY) if is_likely else ("perhaps ", Certainty.PERHAPS)
         if first.name in self._waiters:
-            alike = {one.name for one in holders if one.weight == first.weight} - {first.name}
+            alike = {holder.name for holder in holders if holder.weight == first.weight} - {first.name}
             others = f" (or {of_names(alike)})" if alike and not is_likely else ""
             how = f"{perhaps}{{by}}{others} holds it{first.locked}"
             return Need([], first.name, how, certainty, others=tuple(sorted(alike)) if others else ())
@@ -161,11 +161,11 @@ class NeedsOfMutexes:
         name = LOCK.search(text_at(self._recording, lock))
         for held in self._held(call):
             is_alike = owner(call.function) == owner(lock.function)
-            if any((one.file, one.line) == (call.file, held.line) for one in locks):
+            if any((place.file, place.line) == (call.file, held.line) for place in locks):
                 return held.line
             if name and is_alike and is_same_variable(name[1], held.name, True):
                 return held.line
             if name and not is_alike and self._is_same_field(call, held.name, lock, name[1]):
                 return held.line
-        is_behind = any(one.function == call.function and one.line < call.line for one in locks)
+        is_behind = any(place.function == call.function and place.line < call.line for place in locks)
         return 0 if is_behind and source_of(self._recording, call.file) is None else None

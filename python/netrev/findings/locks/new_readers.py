@@ -24,22 +24,26 @@ def thrown_away(index: Index, call: Call, other: int, position: int) -> list[str
     new reader in each call, and the other end has got an answer and waits for more."""
     lines = index.recording.lines
     own = lines.of(call.first).own()
-    made = maker_line(index, own[0]) if own else 0
-    if not own or not made:
+    line = maker_line(index, own[0]) if own else 0
+    if not own or not line:
         return []
-    calls = [one for one in index.by_goroutine[call.goroutine] if one.first < call.first and one.socket == call.socket]
-    reads = [one for one in calls if one.name == "Read" and one.moved]
+    calls = [
+        earlier
+        for earlier in index.by_goroutine[call.goroutine]
+        if earlier.first < call.first and earlier.socket == call.socket
+    ]
+    reads = [read for read in calls if read.name == "Read" and read.moved]
     before = reads[-1] if reads else None
     if before is None or own[0].function not in functions_of(index, before):
         return []
     answers = [
-        one for one in calls
-        if one.name == "Write" and one.moved and one.first > before.last and own[0].function not in functions_of(index, one)
+        write for write in calls
+        if write.name == "Write" and write.moved and write.first > before.last and own[0].function not in functions_of(index, write)
     ]  # fmt: skip
     if not answers or not waits_on(index, other, before, answers[-1], position):
         return []
     return [
-        f"Perhaps bytes that it had read before are lost: {own[0].file}:{made} makes a new reader with a buffer in each call. The other end has "
+        f"Perhaps bytes that it had read before are lost: {own[0].file}:{line} makes a new reader with a buffer in each call. The other end has "
         f"written nothing since step {before.last}, got an answer, and waits for more."
     ]
 
@@ -48,7 +52,7 @@ def left_reader(index: Index, call: Call, other: int, position: int) -> list[str
     """Sentences about a waiting Read, if a buffered reader made an earlier Read. The function that made that reader has
     dropped it, and the other end has written nothing more."""
     stacks, calls = index.recording.lines, index.by_socket[call.socket]
-    reads = [one for one in calls if one.name == "Read" and one.moved and 0 < one.last < call.first]
+    reads = [earlier for earlier in calls if earlier.name == "Read" and earlier.moved and 0 < earlier.last < call.first]
     wrote = index.last_use(other, position, ("Write",))
     if not reads or wrote is None or wrote.first > reads[-1].last:
         return []
@@ -60,9 +64,9 @@ def left_reader(index: Index, call: Call, other: int, position: int) -> list[str
         for frame in frames:
             if frame.of != OF_THE_PROGRAM:
                 continue
-            made = own_reader(index, frame) if frame.function not in inside else 0
-            if made:
-                return [lost_with(index, frame.file, made, read, reads[-1], "its function was left")]
+            line = own_reader(index, frame) if frame.function not in inside else 0
+            if line:
+                return [lost_with(index, frame.file, line, read, reads[-1], "its function was left")]
             is_over = frame not in lines_in(index, call) and read.goroutine == call.goroutine
             if is_over and may_have_more(index, read, other) and is_of_one_statement(index, frame):
                 return [lost_with(index, frame.file, frame.line, read, reads[-1], "no variable keeps it")]
@@ -80,10 +84,10 @@ def past_a_reader(index: Index, call: Call, other: int, read: Call, position: in
         return []
     inside = {outermost(frame.function) for frame in lines.of(call.first).calls if frame.of == OF_THE_PROGRAM}
     for frame in lines.of(read.first).calls:
-        made = maker_line(index, frame) if frame.of == OF_THE_PROGRAM and outermost(frame.function) in inside else 0
-        if made:
+        line = maker_line(index, frame) if frame.of == OF_THE_PROGRAM and outermost(frame.function) in inside else 0
+        if line:
             return [
-                lost_with(index, frame.file, made, read, read, f"{told(index.recording, call)} doesn't read from that")
+                lost_with(index, frame.file, line, read, read, f"{told(index.recording, call)} doesn't read from that")
             ]
     return []
 
@@ -95,8 +99,8 @@ def lines_in(index: Index, call: Call) -> tuple[LineCall, ...]:
 
 def since_an_answer(reads: list[Call], calls: list[Call]) -> list[Call]:
     """The last Read on a socket, followed by the earlier Reads after which nothing was written there, latest first."""
-    wrote = max((one.first for one in calls if one.name == "Write" and one.moved), default=0)
-    return [one for one in reversed(reads) if one is reads[-1] or one.last > wrote]
+    wrote = max((write.first for write in calls if write.name == "Write" and write.moved), default=0)
+    return [read for read in reversed(reads) if read is reads[-1] or read.last > wrote]
 
 
 def lost_with(index: Index, file: str, line: int, read: Call, last: Call, why: str) -> str:
@@ -115,10 +119,10 @@ def may_have_more(index: Index, read: Call, other: int) -> bool:
     if most is not None and moved >= most:
         return True
     begin, offset, writes = index.moved(read.socket, "Read", read.first), 0, 0
-    for one in index.by_socket.get(other, ()):
-        if one.name == "Write" and one.moved:
-            writes += offset < begin + moved and begin < offset + one.moved
-            offset += one.moved
+    for write in index.by_socket.get(other, ()):
+        if write.name == "Write" and write.moved:
+            writes += offset < begin + moved and begin < offset + write.moved
+            offset += write.moved
     return writes > 1
 
 
@@ -129,19 +133,19 @@ def is_of_one_statement(index: Index, frame: LineCall) -> bool:
 
 def is_buffered(stack: Stack) -> bool:
     """Whether a buffered reader makes a read."""
-    return any(one.function.startswith(BUFFERED) for one in stack.calls)
+    return any(frame.function.startswith(BUFFERED) for frame in stack.calls)
 
 
 def own_reader(index: Index, frame: LineCall) -> int:
     """The line at which a function makes a reader, if the function assigns the reader to a variable and doesn't pass it
     on; else 0."""
-    source, made = source_of(index.recording, frame.file), maker_line(index, frame)
+    source, line = source_of(index.recording, frame.file), maker_line(index, frame)
     within = range_of(source, frame) if source else None
-    if not source or not made or not within:
+    if not source or not line or not within:
         return 0
-    name = VARIABLE.search(source[made - 1])
-    rest = (source[number - 1].partition("//")[0] for number in within if number != made)
-    return made if name and not any(re.search(HANDED_ON.format(name=name[1]), text) for text in rest) else 0
+    name = VARIABLE.search(source[line - 1])
+    rest = (source[number - 1].partition("//")[0] for number in within if number != line)
+    return line if name and not any(re.search(HANDED_ON.format(name=name[1]), text) for text in rest) else 0
 
 
 def maker_line(index: Index, own: LineCall) -> int:
@@ -153,14 +157,14 @@ def maker_line(index: Index, own: LineCall) -> int:
 
 
 def functions_of(index: Index, call: Call) -> set[str]:
-    return {one.function for one in index.recording.lines.of(call.first).calls}
+    return {frame.function for frame in index.recording.lines.of(call.first).calls}
 
 
 def waits_on(index: Index, other: int, read: Call, answer: Call, position: int) -> bool:
     """Whether a goroutine at the other end got the answer, waits to read more, and has written nothing since the
     Read."""
     calls = list(back(index.by_socket.get(other, ()), position))
-    now: Optional[Call] = next((one for one in calls if one.name == "Read"), None)
-    wrote = next((one for one in calls if one.name == "Write" and one.moved), None)
-    got = any(one.name == "Read" and one.moved and one.last > answer.first for one in calls)
+    now: Optional[Call] = next((call for call in calls if call.name == "Read"), None)
+    wrote = next((call for call in calls if call.name == "Write" and call.moved), None)
+    got = any(call.name == "Read" and call.moved and call.last > answer.first for call in calls)
     return bool(now and not 0 < now.last <= position and wrote and wrote.first < read.last and got)

@@ -46,14 +46,14 @@ def skipped_done(recording: Recording, waits: Waits, count: Count, position: int
         every = sorted(of_loop, key=lambda rounds: rounds.line.line)
         done = [use for use in count.done if any(is_by(recording, use, rounds) for rounds in every)]
         for uses in lines.uses.values():
-            took = [use for use in uses if use.what == TOOK and is_at(recording, use, every[-1])]
-            missing = total(took) - total(done)
-            if not took or not all(is_free(recording, waits, use, position) for use in took):
+            takes = [use for use in uses if use.what == TOOK and is_at(recording, use, every[-1])]
+            missing = total(takes) - total(done)
+            if not takes or not all(is_free(recording, waits, use, position) for use in takes):
                 continue
             if missing == count.missing:
-                return [count_says(recording, count), *rounds_say(recording, every, took, done)]
+                return [count_says(recording, count), *rounds_say(recording, every, takes, done)]
             puts = [use for use in uses if use.what == PUT]
-            if not missing and total(done) == total(count.done) and total(puts) == total(took):
+            if not missing and total(done) == total(count.done) and total(puts) == total(takes):
                 return [count_says(recording, count), *unput_says(recording, count, puts)]
     return perhaps_skipped(recording, count, loops)
 
@@ -138,14 +138,14 @@ def has_ended(recording: Recording, use: Use) -> bool:
     return known is not None and known.last >= 0
 
 
-def rounds_say(recording: Recording, every: list[Rounds], took: list[Use], done: list[Use]) -> list[str]:
+def rounds_say(recording: Recording, every: list[Rounds], takes: list[Use], done: list[Use]) -> list[str]:
     """Sentences that say how often a loop took a value and how often it called Done, and name the paths that skip
     Done."""
     rounds = every[-1]
-    file, place = rounds.line.file, " and ".join(dict.fromkeys(one.done.place() for one in every))
-    many = f"{counted(total(took), 'value')} from a channel and called Done at {place} {counted(total(done), 'time')}"
+    file, place = rounds.line.file, " and ".join(dict.fromkeys(loop.done.place() for loop in every))
+    many = f"{counted(total(takes), 'value')} from a channel and called Done at {place} {counted(total(done), 'time')}"
     says = f"The loop at {file}:{rounds.head} took {many}"
-    ways = words_of_ways(recording, every, any(has_ended(recording, use) for use in took))
+    ways = words_of_ways(recording, every, any(has_ended(recording, use) for use in takes))
     return [f"{says}: {ways} without it." if ways else f"{says}."]
 
 
@@ -156,7 +156,7 @@ def words_of_ways(recording: Recording, every: list[Rounds], has_left: bool) -> 
     within = range_of(lines, rounds.line) if lines else None
     if not lines or not inner or not within:
         return ""
-    texts = {text_at(recording, one.line).strip().partition("(")[0] for one in every}
+    texts = {text_at(recording, loop.line).strip().partition("(")[0] for loop in every}
     ends = has(rf"(?:{'|'.join(map(re.escape, sorted(texts)))})\(")
     ways = skipped_ways(lines, within, is_text(code(lines, rounds.takes)), ends)
     words = [ways_words(rounds.line.file, ways if has_left else that_stay(ways))]

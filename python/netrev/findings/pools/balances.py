@@ -38,9 +38,9 @@ class Form(NamedTuple):
 
     def has_at(self, line: Call) -> bool:
         """Whether a call at this line has taken a value and gives it back at a later line or in a deferred function."""
-        deferred = any(one.function != self.function for one in self.giving)
-        is_behind = any(one.line < line.line for one in self.taking)
-        return is_behind and (deferred or any(line.line < one.line for one in self.giving))
+        deferred = any(giving.function != self.function for giving in self.giving)
+        is_behind = any(taking.line < line.line for taking in self.taking)
+        return is_behind and (deferred or any(line.line < giving.line for giving in self.giving))
 
 
 class Balance(NamedTuple):
@@ -98,12 +98,17 @@ def balances_of(recording: Recording, number: int, now: dict[Name, Stack]) -> li
         function = next((call.function for call in frames if call.function in functions), "")
         if place := place_in(function, frames):
             found[function][name_of_goid(lines, use.goid), place.path].append(use)
-    return [one for function, some in found.items() for one in of_function(recording, function, takes, some, now)]
+    return [
+        balance for function, users in found.items() for balance in of_function(recording, function, takes, users, now)
+    ]
 
 
 def give_back(balances: list[Balance]) -> bool:
     """Whether goroutines gave back at least half of what they took."""
-    given, taken = (sum(one.given.total() for one in balances), sum(one.taken.total() for one in balances))
+    given, taken = (
+        sum(balance.given.total() for balance in balances),
+        sum(balance.taken.total() for balance in balances),
+    )
     return 2 * given >= taken
 
 
@@ -111,14 +116,14 @@ def of_function(
     recording: Recording, function: str, takes: str, found: dict[tuple[Name, Path], list[Use]], now: dict[Name, Stack]
 ) -> list[Balance]:
     """The balances of a function that takes values and gives them back, one for each goroutine and caller."""
-    every = [use for some in found.values() for use in some]
+    every = [use for uses in found.values() for use in uses]
     form = Form(function, takes, *lines_of_form(recording, every, takes, function))
     often = Counter(name for name, _ in found)
-    made = (
-        balance_of(recording, name, path, some, form, now)._replace(called=called_at(path) if often[name] > 1 else "")
-        for (name, path), some in found.items()
+    balances = (
+        balance_of(recording, name, path, uses, form, now)._replace(called=called_at(path) if often[name] > 1 else "")
+        for (name, path), uses in found.items()
     )
-    return [one for one in made if one.taken]
+    return [balance for balance in balances if balance.taken]
 
 
 def called_at(path: Path) -> str:

@@ -14,17 +14,20 @@ MOST_BALANCES = 3  # the most sentences
 def kept_says(recording: Recording, balances: list[Balance]) -> list[str]:
     """Sentences about the goroutines whose calls took values and didn't give them back. The sentences also name the
     lines at which these goroutines differ from others that the same `go` statement started."""
-    kept = [one for one in balances if one.missing > 0]
+    kept = [balance for balance in balances if balance.missing > 0]
     if not kept:
         return []
     says = f"Calls that are over have kept what they took: {balances_words(kept)}."
-    goids = [one.name.number if one.name.is_goid else recording.lines.goid_of(one.name.number) for one in kept]
-    made = {goid: known.made for goid, known in recording.lines.goroutines.items()}
-    gave = {one.name for one in balances if one.missing == 0} - {one.name for one in kept}
+    goids = [
+        balance.name.number if balance.name.is_goid else recording.lines.goid_of(balance.name.number)
+        for balance in kept
+    ]
+    statements = {goid: known.made for goid, known in recording.lines.goroutines.items()}
+    gave = {balance.name for balance in balances if balance.missing == 0} - {balance.name for balance in kept}
     others = [
-        goid for name in gave if made.get(goid := name.number if name.is_goid else recording.lines.goid_of(name.number))
+        goid for name in gave if statements.get(goid := name.number if name.is_goid else recording.lines.goid_of(name.number))
     ]  # fmt: skip
-    others = [goid for goid in others if made[goid] in map(made.get, goids)]
+    others = [goid for goid in others if statements[goid] in map(statements.get, goids)]
     lines = lines_words(recording, goids, others)
     many = counted(len(others), "other")
     differ = [f"Of the goroutines of one go statement{lines.removeprefix(';')}; {many} kept nothing."] if lines else []
@@ -33,10 +36,12 @@ def kept_says(recording: Recording, balances: list[Balance]) -> list[str]:
 
 def excess_says(balances: list[Balance]) -> list[str]:
     """A sentence about the goroutines whose calls gave back more than they took; none if no call did."""
-    found = [one for one in balances if one.missing < 0]
+    found = [balance for balance in balances if balance.missing < 0]
     return [f"Calls gave back more than they took: {balances_words(found)}."] if found else []
 
 
 def balances_words(balances: list[Balance]) -> str:
     """The sentences about balances, worst first."""
-    return "; ".join(one.says for one in sorted(balances, key=lambda one: -abs(one.missing))[:MOST_BALANCES])
+    return "; ".join(
+        balance.says for balance in sorted(balances, key=lambda balance: -abs(balance.missing))[:MOST_BALANCES]
+    )

@@ -26,7 +26,7 @@ def given_up_waits(index: Index) -> Iterator[Cause]:
     every = [wait for some in waits_of(recording).of.values() for wait in some]
     for wait in sorted(every, key=attrgetter("first", "begin")):
         for at in wait.objects if is_given_up(recording, wait) else ():
-            calls = [one for one in index.book.calls if one.first <= max(wait.last or 0, 1)]
+            calls = [call for call in index.book.calls if call.first <= max(wait.last or 0, 1)]
             if at.object in seen or not is_stuck(recording, at) or not calls:
                 continue
             seen.add(at.object)
@@ -55,11 +55,13 @@ def is_stuck(recording: Recording, at: At) -> bool:
     """Whether a buffered channel is full at the end of the recording (for a wait for room) or empty (for a wait for a
     value)."""
     known, uses = recording.lines.objects.get(at.object), recording.lines.uses.get(at.object, ())
-    put, took = (sum(use.often for use in uses if use.what == what) for what in (PUT, TOOK))
-    if known is None or known.room <= 0 or not put or not recording.lines.made:
+    puts, takes = (sum(use.often for use in uses if use.what == what) for what in (PUT, TOOK))
+    if known is None or known.room <= 0 or not puts or not recording.lines.made:
         return False
     return (
-        put - took == known.room if at.use == FOR_ROOM else at.use == FOR_VALUE and put == took and took >= known.room
+        puts - takes == known.room
+        if at.use == FOR_ROOM
+        else at.use == FOR_VALUE and puts == takes and takes >= known.room
     )
 
 

@@ -37,13 +37,13 @@ TAKEN_AT, GIVEN_AT = attrgetter("taken"), attrgetter("given")
 
 def ways_that_keep(recording: Recording, balances: Iterable[Balance]) -> list[str]:
     """Sentences about the paths on which the calls of a function kept what they took."""
-    taken = {line for one in balances if one.missing > 0 for line in one.taken}
-    given = {line for one in balances for line in one.given}
+    taken = {line for balance in balances if balance.missing > 0 for line in balance.taken}
+    given = {line for balance in balances for line in balance.given}
     says = []
-    for line in sorted(taken, key=lambda one: (one.file, one.line))[:MOST_PLACES]:
+    for line in sorted(taken, key=lambda place: (place.file, place.line))[:MOST_PLACES]:
         ends, text = gives_back(recording, given), text_at(recording, line).strip()
         ways = ways_of(recording, line, text, ends, value_of(text, HANDS_ON)) if ends else []
-        back = sorted(one.line for one in given if one.file == line.file)
+        back = sorted(place.line for place in given if place.file == line.file)
         if ways and back:
             does = f"{ways_words(line.file, ways)} without {line.file}:{back[-1]}, which gives it back"
             says.append(f"Perhaps they kept it {ways_are(ways)}: {does}.")
@@ -58,8 +58,8 @@ def ways_with_an_error(recording: Recording, wait: Waiting) -> list[str]:
         return []
     line = case_of(recording, own[0], wait.objects[0].use)
     own, text = (line, own[1]), text_at(recording, line).strip()
-    put, took = SEND.match(text.removeprefix("case ")), RECEIVE.search(text)
-    back = rf"<-{re.escape(put[1])}(?![\w.])" if put else rf"{re.escape(took[1])} <- " if took else ""
+    send, receive = SEND.match(text.removeprefix("case ")), RECEIVE.search(text)
+    back = rf"<-{re.escape(send[1])}(?![\w.])" if send else rf"{re.escape(receive[1])} <- " if receive else ""
     found = (
         [number for number, _ in found_in(recording, own[0], re.compile(back)) if number > own[0].line] if back else []
     )
@@ -92,7 +92,7 @@ def case_of(recording: Recording, line: Call, use: str) -> Call:
 
 def gives_on_most_ways(recording: Recording, balances: Iterable[Balance]) -> bool:
     """Whether a function that takes values gives them back at several lines, and on more paths than it keeps them."""
-    taken, given = ({line for one in balances for line in some(one)} for some in (TAKEN_AT, GIVEN_AT))
+    taken, given = ({line for balance in balances for line in lines_at(balance)} for lines_at in (TAKEN_AT, GIVEN_AT))
     ends = gives_back(recording, given)
     for line in taken if ends else ():
         (lines, within), text = function_of(recording, line), text_at(recording, line).strip()

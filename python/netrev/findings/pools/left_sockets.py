@@ -24,7 +24,7 @@ TO_OTHERS = r"\breturn\b.*\b{name}\b|[=({{,:]\s*{name}\b\s*[,)}};]|[=:] *{name}$
 def left_socket(index: Index, socket: int, position: int) -> list[str]:
     """Sentences about a socket at whose other end a goroutine waits. The socket is open although the function that
     opened it has returned: the path that the function took doesn't close it. None if unknown."""
-    opened = next((one for one in index.by_socket.get(socket, ()) if one.name == OPEN), None)
+    opened = next((opening for opening in index.by_socket.get(socket, ()) if opening.name == OPEN), None)
     if opened is None or index.closing(socket, position, whole=True):
         return []
     now = stack_at(index, opened.goroutine, position)
@@ -77,7 +77,7 @@ def without_users(recording: Recording, file: str, name: str, statement: str) ->
     the package that doesn't close, keep or pass on the value."""
 
     def shortened(call: "re.Match[str]") -> str:
-        arguments = [one.strip() for one in call[2].split(",")]
+        arguments = [argument.strip() for argument in call[2].split(",")]
         is_used = name in arguments and only_uses(recording, file, call[1], arguments.index(name))
         return f"{call[1]}()" if is_used else call[0]
 
@@ -96,7 +96,7 @@ def only_uses(recording: Recording, file: str, function: str, place: int) -> boo
     if len(found) != 1:
         return False
     path, lines, number, head = found[0]
-    parameters = [one.strip().partition(" ")[0] for one in head[4].split(",")]
+    parameters = [parameter.strip().partition(" ")[0] for parameter in head[4].split(",")]
     within = range_of(lines, LineCall(function, path, number, OF_THE_PROGRAM))
     if within is None or place >= len(parameters) or "(" in head[4]:  # (a parameter is a function)
         return False

@@ -23,11 +23,11 @@ def without_receiver(index: Index, wait: Waiting, position: int) -> list[str]:
     """Sentences about a goroutine that waits for a receiver; none if the function that made the channel is still
     running or isn't known."""
     lines = index.recording.lines
-    made = lines.made.get(wait.objects[0].object) if len(wait.objects) == 1 else None
-    own = lines.stacks[made.stack].own() if made else None
-    if made is None or own is None or own[0].of != OF_THE_PROGRAM or wait.reason != A_RECEIVER:
+    creation = lines.made.get(wait.objects[0].object) if len(wait.objects) == 1 else None
+    own = lines.stacks[creation.stack].own() if creation else None
+    if creation is None or own is None or own[0].of != OF_THE_PROGRAM or wait.reason != A_RECEIVER:
         return []
-    if not is_local(index, own[0]) or not has_returned(index, name_of_goid(lines, made.goid), own[0], position):
+    if not is_local(index, own[0]) or not has_returned(index, name_of_goid(lines, creation.goid), own[0], position):
         return []
     return [
         f"{own[0].place()} in {short(own[0].function)} made that channel, without room for a value, and has returned{returns_says(index, own[0])}."
@@ -36,10 +36,10 @@ def without_receiver(index: Index, wait: Waiting, position: int) -> list[str]:
 
 def is_local(index: Index, line: Call) -> bool:
     """Whether a line makes a channel for a variable that its function neither returns nor stores elsewhere."""
-    made = MAKES.match(text_at(index.recording, line))
-    if made is None:
+    match = MAKES.match(text_at(index.recording, line))
+    if match is None:
         return False
-    name = re.escape(made[1])
+    name = re.escape(match[1])
     keeps = re.compile(rf"\breturn\b.*(?<!<-)\b{name}\b|[:=] *{name}\b *[,}}]?$|\w: *{name}\b|append\(.*\b{name}\b")
     return not found_in(index.recording, line, keeps)
 
@@ -64,7 +64,7 @@ def returns_says(index: Index, line: Call) -> str:
 def is_filled_by_maker(recording: Recording, at: At) -> bool:
     """Whether only the function that made a channel put values into it, as for a token bucket."""
     lines = recording.lines
-    made = lines.made.get(at.object)
-    own = lines.stacks[made.stack].own() if made else None
+    creation = lines.made.get(at.object)
+    own = lines.stacks[creation.stack].own() if creation else None
     puts = [lines.stacks[use.stack].own() for use in lines.uses.get(at.object, ()) if use.what == PUT]
     return own is not None and bool(puts) and all(put and put[0].function == own[0].function for put in puts)

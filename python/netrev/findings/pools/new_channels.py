@@ -27,10 +27,10 @@ def made_since(recording: Recording, wait: Waiting) -> int:
     if not name or "." in name[1] or not lines or not within:
         return 0
     makes = re.compile(rf"\b{re.escape(name[1])}\b(?:, \w+)? :?= (?:\w+, )?make\(chan\b")
-    made = next((number for number in within if number < own[0].line and makes.search(lines[number - 1])), 0)
+    maker = next((number for number in within if number < own[0].line and makes.search(lines[number - 1])), 0)
     calls = index_of(recording).by_goroutine.get(wait.name.number, [])
     wrote = [call for call in calls if call.name == "Write" and call.first <= wait.first]
-    frames = recording.lines.of(wrote[-1].first).calls if made and wrote else ()
+    frames = recording.lines.of(wrote[-1].first).calls if maker and wrote else ()
     line = next((call.line for call in frames if call.function == own[0].function), 0)
-    is_once = made < line < own[0].line and max(loop_round(lines, within, at) for at in (line, own[0].line)) <= made
-    return wrote[-1].first if made and is_once else 0
+    is_once = maker < line < own[0].line and max(loop_round(lines, within, at) for at in (line, own[0].line)) <= maker
+    return wrote[-1].first if maker and is_once else 0

@@ -35,7 +35,9 @@ def given_at_siblings(recording: Recording, wait: Waiting) -> list[Use]:
     own = lines.stacks[lines.made[at.object].stack].own()
     wanted = (GIVES.get(at.use, ""), CLOSED if at.use == FOR_VALUE else "")
     siblings = (
-        number for number, made in lines.made.items() if number != at.object and lines.stacks[made.stack].own() == own
+        number
+        for number, creation in lines.made.items()
+        if number != at.object and lines.stacks[creation.stack].own() == own
     )
     found = [use for number in siblings if own for use in lines.uses.get(number, ()) if use.what in wanted]
     return sorted(found, key=END, reverse=True)

@@ -70,7 +70,7 @@ def slots_in(recording: Recording, name: Name, use: Use, stack: Stack, leavings:
 
 def is_behind(taken: Stack, call: Call) -> bool:
     """Whether a call is in a function that took a slot, after the line that took it."""
-    return any(one.function == call.function and one.line < call.line for one in taken.calls)
+    return any(frame.function == call.function and frame.line < call.line for frame in taken.calls)
 
 
 def leaving_line(lines: Lines, call: Call, leavings: list[Giving]) -> int:
@@ -79,12 +79,12 @@ def leaving_line(lines: Lines, call: Call, leavings: list[Giving]) -> int:
     within = range_of(lines, call)
     helpers = {
         named[1]
-        for one in leavings
-        if call.line not in one.within and (named := FUNCTION.match(lines[one.within.start - 1]))
+        for leaving in leavings
+        if call.line not in leaving.within and (named := FUNCTION.match(lines[leaving.within.start - 1]))
     }
     for number in within or ():
         text = lines[number - 1].partition("//")[0]
-        gives = any(one.number == number for one in leavings) or any(
+        gives = any(leaving.number == number for leaving in leavings) or any(
             re.search(rf"\b{helper}\(", text) for helper in helpers
         )
         if gives and (number > call.line or is_deferred(lines, number)) and not FUNCTION.match(text):
@@ -102,6 +102,6 @@ def of_slots(
         return None
     put, takes = WORDS[ENTERS[wait.objects[0].use]]
     how = f"{{by}} {put} at {slot.taken.place()} in {short(slot.taken.function)}, and {takes} later, at {slot.back}"
-    if any(one.name not in waiters for one in slots):
+    if any(holder.name not in waiters for holder in slots):
         return Need([], slot.name, f"perhaps {how}", Certainty.PERHAPS)
     return Need([], slot.name, how, Certainty.LIKELY)

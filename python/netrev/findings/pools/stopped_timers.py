@@ -48,9 +48,9 @@ def silent_at(recording: Recording, number: int, begin: int = 0) -> Optional[Sil
         settings = [timer for timer in timers if not timer.is_stopped]
         was_due = name == "timer" and bool(settings) and settings[-1].due <= last.time
         return Silent(name, first, last, was_due) if not first.is_stopped else None
-    took = [use for use in lines.uses.get(number, ()) if use.what == TOOK]
+    takes = [use for use in lines.uses.get(number, ()) if use.what == TOOK]
     has_gone_off = is_by(lines.stacks[last.stack], ONCE) and last.due < last_time_of(recording)
-    is_taken = any(use.end >= last.due for use in took) or last.due + LATE < begin
+    is_taken = any(use.end >= last.due for use in takes) or last.due + LATE < begin
     return Silent(name, last, None) if has_gone_off and is_taken else None
 
 
@@ -81,8 +81,8 @@ def of_timers(recording: Recording, wait: Waiting) -> Optional[Need]:
 
 def timers_of_select(recording: Recording, wait: Waiting) -> list[str]:
     """Sentences about stopped timers in a select, which will never send."""
-    some = (silent_at(recording, at.object, wait.begin) for at in wait.objects) if len(wait.objects) > 1 else ()
-    silent = next((one for one in some if one), None)
+    candidates = (silent_at(recording, at.object, wait.begin) for at in wait.objects) if len(wait.objects) > 1 else ()
+    silent = next((candidate for candidate in candidates if candidate), None)
     if silent is None:
         return []
     ways = "" if silent.stopped else ways_past_reset(recording, wait)

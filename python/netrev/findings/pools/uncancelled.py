@@ -64,19 +64,24 @@ def cancels_of(source: Lines, call: Call, context: str) -> list[Cancelling]:
     head = source[whole.start - 1] if whole else ""
     is_local = "." not in context and re.search(rf"\b{re.escape(context)}\b", head) is None
     makes = [
-        made
+        match
         for number, text in enumerate(source, 1)
-        if (made := MAKES.search(text.partition("//")[0]))
-        and (not is_local or (number in whole and made[1] == context))
+        if (match := MAKES.search(text.partition("//")[0]))
+        and (not is_local or (number in whole and match[1] == context))
     ]
-    names = {made[2] for made in makes}
+    names = {match[2] for match in makes}
     found = []
     for number, text in enumerate(source, 1):
         if is_local and number not in whole:
             continue
         code = text.partition("//")[0]
         called = next(
-            (one for one in CALLED.finditer(code) if any(is_same_variable(name, one[1], True) for name in names)), None
+            (
+                call_match
+                for call_match in CALLED.finditer(code)
+                if any(is_same_variable(name, call_match[1], True) for name in names)
+            ),
+            None,
         )
         if called:
             of_literal = Call(f"{owner(call.function)}.func1", call.file, number, call.of)

@@ -22,16 +22,16 @@ def contextless_says(recording: Recording, wait: Waiting) -> list[str]:
         if not lines or not within:
             continue
         texts = [(number, lines[number - 1].partition("//")[0]) for number in within]
-        made = [number for number, text in texts if number <= call.line and MADE.search(text)]
+        numbers = [number for number, text in texts if number <= call.line and MADE.search(text)]
         given = GIVEN.search(texts[0][1])
         if (
-            made
+            numbers
             and given
-            and not any("WithContext(" in text for number, text in texts if made[-1] < number <= call.line)
+            and not any("WithContext(" in text for number, text in texts if numbers[-1] < number <= call.line)
         ):
             context = f"{given[1]}.Context()" if "http.Request" in given[0] else given[1]
             return [
-                f"Its request, made at {call.file}:{made[-1]}, has no context: it doesn't end when {context}, which "
+                f"Its request, made at {call.file}:{numbers[-1]}, has no context: it doesn't end when {context}, which "
                 f"{call.file}:{texts[0][0]} was given, is done."
             ]
     return []

@@ -115,8 +115,8 @@ def text_at(recording: Recording, call: Call) -> str:
     return lines[call.line - 1].partition("//")[0] if lines and 0 < call.line <= len(lines) else ""
 
 
-def is_same_variable(one: str, other: str, is_near: bool) -> bool:
+def is_same_variable(name: str, other_name: str, is_near: bool) -> bool:
     """Whether two expressions may name the same variable. They may if they differ only before the first dot, like
     `r.sessions` and `s.sessions`. Two equal expressions may too, if they are in the same function or its literals."""
-    dot, other_dot = one.partition(".")[1:], other.partition(".")[1:]
-    return bool(dot[1]) and dot == other_dot or (is_near and one == other)
+    dot, other_dot = name.partition(".")[1:], other_name.partition(".")[1:]
+    return bool(dot[1]) and dot == other_dot or (is_near and name == other_name)

@@ -43,15 +43,15 @@ def left_locked(recording: Recording, lock: Call) -> list[str]:
     if not lines or not name:
         return []
     every = list(functions_of(lines, lock))
-    own = next((one for one in every if lock.line in one.within), None)
+    own = next((function for function in every if lock.line in function.within), None)
     field = own and field_of(own, name[1])
     if not own or not field:
         return []
-    leaks = leaks_of(lines, [one for one in every if one.owner == own.owner], field)
+    leaks = leaks_of(lines, [function for function in every if function.owner == own.owner], field)
     return [
-        f"Perhaps nobody unlocked it: {one.function} locks it at {lock.file}:{one.locked}, and "
-        + (f"returns at {lock.file}:{one.returns} without an Unlock." if one.returns else "never unlocks it.")
-        for one in leaks[:MOST]
+        f"Perhaps nobody unlocked it: {leak.function} locks it at {lock.file}:{leak.locked}, and "
+        + (f"returns at {lock.file}:{leak.returns} without an Unlock." if leak.returns else "never unlocks it.")
+        for leak in leaks[:MOST]
     ]
 
 
@@ -59,7 +59,11 @@ def returns_locked(recording: Recording, lock: Call) -> list[str]:
     """Sentences about the function that locked a mutex in a call and left it locked. The sentences name the line that
     returns without an Unlock, or say that the function has no Unlock."""
     lines, name = source_of(recording, lock.file), LOCK.search(text_at(recording, lock))
-    own = next((one for one in functions_of(lines, lock) if lock.line in one.within), None) if lines else None
+    own = (
+        next((function for function in functions_of(lines, lock) if lock.line in function.within), None)
+        if lines
+        else None
+    )
     field = field_of(own, name[1]) if own and name else None
     leak = leak_of(lines, own, field) if lines and own and field else None
     if leak is None:
@@ -94,12 +98,12 @@ def field_of(function: Function, name: str) -> Optional[str]:
 def leaks_of(lines: Lines, functions: list[Function], field: str) -> list[Leak]:
     """The functions that return with the mutex locked. A function that never unlocks the mutex is assumed to lock it
     for its callers if another function only unlocks it."""
-    helps = any(has(UNLOCK, lines, one, field) and not has(LOCK, lines, one, field) for one in functions)
+    helps = any(has(UNLOCK, lines, function, field) and not has(LOCK, lines, function, field) for function in functions)
     return [
         leak
-        for one in functions
-        if not KEEPS.search(one.name)
-        if (leak := leak_of(lines, one, field)) and (not helps or has(UNLOCK, lines, one, field))
+        for function in functions
+        if not KEEPS.search(function.name)
+        if (leak := leak_of(lines, function, field)) and (not helps or has(UNLOCK, lines, function, field))
     ]
 
 

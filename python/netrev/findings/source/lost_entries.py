@@ -39,8 +39,8 @@ def entry_says(recording: Recording, line: Call) -> list[str]:
     takes = places_of(recording, line.file, rf"\bdelete\([\w.]*\b{re.escape(table)}, ([^)]+)\)")
     if not puts:
         return []
-    put = " and ".join(f"{one.place} under {one.key}" for one in puts[:MOST])
-    taken = f", and {' and '.join(one.place for one in takes[:MOST])} takes them out" if takes else ""
+    put = " and ".join(f"{place.place} under {place.key}" for place in puts[:MOST])
+    taken = f", and {' and '.join(place.place for place in takes[:MOST])} takes them out" if takes else ""
     return [
         f"It looks up for whom an answer is at {line.file}:{number}, in {looks[1]} under {looks[2]}; {put} puts entries there{taken}. Perhaps "
         "two had the same key, or an answer has another key than its request."

@@ -46,11 +46,11 @@ def places_with(recording: Recording, file: str, pattern: "re.Pattern[str]") -> 
 def others_in(folder: str, name: str) -> tuple[str, ...]:
     """The other Go files of a folder."""
     try:
-        found = sorted(one for one in os.listdir(folder) if one.endswith(".go") and one != name)
+        found = sorted(file for file in os.listdir(folder) if file.endswith(".go") and file != name)
     except OSError:
         return ()
     is_test = name.endswith("_test.go")
-    return tuple(one for one in found if is_test or not one.endswith("_test.go"))[:MOST_FILES]
+    return tuple(file for file in found if is_test or not file.endswith("_test.go"))[:MOST_FILES]
 
 
 def field_type(recording: Recording, file: str, of_type: str, field: str) -> Optional[str]:
@@ -90,8 +90,8 @@ def variables_of(recording: Recording, lines: Lines, call: Call) -> dict[str, st
     found = {name: kind for names, kind in PARAMETER.findall(head[4]) for name in names.split(", ")}
     found |= {head[1]: head[2]} if head[1] else {}
     for text in (line.partition("//")[0].rstrip() for line in lines[begin : call.line - 1]):
-        if made := MADE.match(text):
-            found[made[1]] = made[2]
+        if match := MADE.match(text):
+            found[match[1]] = match[2]
         elif (alias := ALIAS.match(text)) and (kind := type_of(recording, call.file, found, alias[2].split("."))):
             found[alias[1]] = kind
     return found

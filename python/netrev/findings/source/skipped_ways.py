@@ -82,20 +82,20 @@ class Walk(NamedTuple):
         """The state after some statements (None if no path passes all of them), and the exits. `got` is the variable
         that says whether something was taken; empty if no variable does."""
         exits, now = list[Exit](), state
-        for one in statements:
-            after, left = self.block(one, now, got) if one.kind else self.simple(one, now)
+        for statement in statements:
+            after, left = self.block(statement, now, got) if statement.kind else self.simple(statement, now)
             exits += left
             if after is None:
                 return None, exits
-            now, got = after, self.got_by(one, got)
+            now, got = after, self.got_by(statement, got)
         return now, exits
 
-    def got_by(self, one: Statement, got: str) -> str:
+    def got_by(self, statement: Statement, got: str) -> str:
         """The variable that says, after a statement, whether something was taken."""
-        if one.kind:
+        if statement.kind:
             return got
-        name = name_of(one.text)
-        return name if self.does_begin(one.text) else "" if name == got else got
+        name = name_of(statement.text)
+        return name if self.does_begin(statement.text) else "" if name == got else got
 
     def does_begin(self, text: str) -> bool:
         return "func(" not in text and self.begins(text)
@@ -111,40 +111,40 @@ class Walk(NamedTuple):
             return OPEN
         return DONE if now.is_open and self.keeps(text) else now
 
-    def simple(self, one: Statement, now: State) -> Result:
+    def simple(self, statement: Statement, now: State) -> Result:
         """The same as `body`, for a statement that isn't a block."""
-        now = self.of_text(one.text, now)
-        if DIES.match(one.text):
+        now = self.of_text(statement.text, now)
+        if DIES.match(statement.text):
             return None, []
-        if found := LEAVES.match(one.text):
-            return None, [Exit(found[1], one.number, now)]
+        if found := LEAVES.match(statement.text):
+            return None, [Exit(found[1], statement.number, now)]
         return now, []
 
-    def block(self, one: Statement, now: State, got: str) -> Result:
+    def block(self, statement: Statement, now: State, got: str) -> Result:
         """The same as `body`, for a block."""
-        if one.kind == "for":
-            return self.loop(one, now, got)
-        now, exits = self.of_text(one.text, now), list[Exit]()
-        is_taken = self.is_taken(one, got)
-        afters = [] if one.is_whole or is_missing(one.text, now) else [BEFORE if is_taken else now]
-        for branch in one.branches:
-            begin = now if branch.number == one.number else self.of_text(branch.text, now)
-            begin = BEFORE if branch.number == one.number and is_taken is False else begin
+        if statement.kind == "for":
+            return self.loop(statement, now, got)
+        now, exits = self.of_text(statement.text, now), list[Exit]()
+        is_taken = self.is_taken(statement, got)
+        afters = [] if statement.is_whole or is_missing(statement.text, now) else [BEFORE if is_taken else now]
+        for branch in statement.branches:
+            begin = now if branch.number == statement.number else self.of_text(branch.text, now)
+            begin = BEFORE if branch.number == statement.number and is_taken is False else begin
             mine = name_of(branch.text) if self.does_begin(branch.text) else got
             after, left = self.body(branch.body, begin, mine)
             afters += [after] if after is not None else []
-            if one.kind != "if":
+            if statement.kind != "if":
                 afters += [exit.state for exit in left if exit.kind == "break"]
                 left = [exit for exit in left if exit.kind != "break"]
             exits += left
-        return joined(afters, one.number), exits
+        return joined(afters, statement.number), exits
 
-    def is_taken(self, one: Statement, got: str) -> Optional[bool]:
+    def is_taken(self, statement: Statement, got: str) -> Optional[bool]:
         """True if the first branch of a block runs exactly when something was taken, False if it runs exactly when
         nothing was; else None."""
-        head, _, condition = one.text.removesuffix(" {").removeprefix("if ").rpartition("; ")
-        begins = self.does_begin(one.text)
-        if one.kind != "if" or (head and not begins and name_of(head) == got):
+        head, _, condition = statement.text.removesuffix(" {").removeprefix("if ").rpartition("; ")
+        begins = self.does_begin(statement.text)
+        if statement.kind != "if" or (head and not begins and name_of(head) == got):
             return None
         if begins and not head:
             return not condition.startswith("!")
@@ -154,19 +154,19 @@ class Walk(NamedTuple):
             return None
         return (condition in (name, f"{name} != nil")) is not is_error
 
-    def loop(self, one: Statement, now: State, got: str) -> Result:
+    def loop(self, statement: Statement, now: State, got: str) -> Result:
         """The same as `body`, for a loop. In each iteration, a loop should give back what it took in that iteration."""
-        begins = self.does_begin(one.text) and not now.is_deferred
-        after, left = self.body(one.branches[-1].body, OPEN if begins else now, got)
-        left += [Exit("end", one.number, after)] if after is not None else []
+        begins = self.does_begin(statement.text) and not now.is_deferred
+        after, left = self.body(statement.branches[-1].body, OPEN if begins else now, got)
+        left += [Exit("end", statement.number, after)] if after is not None else []
         exits = [exit for exit in left if exit.kind not in ("continue", "break", "end")]
         rounds = [exit for exit in left if exit.kind in ("continue", "end")]
         behind = [exit.state for exit in left if exit.kind == "break"]
-        if not ENDLESS.match(one.text):
+        if not ENDLESS.match(statement.text):
             behind += [now, *(exit.state for exit in rounds if now.is_open)]
         for exit in rounds if not now.is_open else ():
             self.leave(exit)
-        return joined(behind, one.number), exits
+        return joined(behind, statement.number), exits
 
     def leave(self, exit: Exit) -> None:
         """Records a path if it exits without giving back what it took."""
@@ -192,10 +192,10 @@ def joined(states: list[State], number: int) -> Optional[State]:
     """The possible states after the branches of a block."""
     if not states:
         return None
-    is_open, is_done = any(one.is_open for one in states), any(one.is_done for one in states)
-    block = next((one.block for one in states if one.block), 0)
+    is_open, is_done = any(state.is_open for state in states), any(state.is_done for state in states)
+    block = next((state.block for state in states if state.block), 0)
     if not is_open:
-        return states[0]._replace(is_deferred=all(one.is_deferred for one in states))
+        return states[0]._replace(is_deferred=all(state.is_deferred for state in states))
     return State(is_open, is_done, block or (number if is_done else 0))
 
 
@@ -214,7 +214,7 @@ def skipped_ways(lines: Lines, within: range, begins: Optional[Test], ends: Test
 
 def that_stay(ways: list[Way]) -> list[Way]:
     """The paths on which a goroutine continues in a function instead of leaving the function."""
-    return [one for one in ways if one.does not in (DOES["return"], DOES["end"])]
+    return [way for way in ways if way.does not in (DOES["return"], DOES["end"])]
 
 
 def ways_are(ways: list[Way]) -> str:
@@ -225,8 +225,8 @@ def ways_are(ways: list[Way]) -> str:
 def ways_words(file: str, ways: list[Way]) -> str:
     """Paths as text: `a.go:3 returns`, `a.go:3 and a.go:7 return`, `the way past a.go:3 goes on`."""
     by_kind: dict[str, list[str]] = {}
-    for one in ways[:MOST_WAYS]:
-        by_kind.setdefault(one.does, []).append(f"{file}:{one.number}")
+    for way in ways[:MOST_WAYS]:
+        by_kind.setdefault(way.does, []).append(f"{file}:{way.number}")
     return " and ".join(kind_words(does, places) for does, places in by_kind.items())
 
 

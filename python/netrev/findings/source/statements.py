@@ -86,5 +86,5 @@ def block(lines: Lines, kind: str, within: range) -> Statement:
         for at, end in zip(heads, [*heads[1:], within[-1]])
     ]
     last = branches[-1].text if branches else ""
-    whole = kind == "select" or last == "} else {" or any(one.text == "default:" for one in branches)
+    whole = kind == "select" or last == "} else {" or any(branch.text == "default:" for branch in branches)
     return Statement(number, code_at(lines, number), kind, branches, whole and kind != "for")

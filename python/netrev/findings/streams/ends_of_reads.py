@@ -28,7 +28,7 @@ def end_says(index: Index, call: Call, other: int, position: int) -> list[str]:
     """Sentences about what a Read looks for; none if only Go's own code made the Read."""
     if call.name != "Read" or is_of_go(index.recording, call):
         return []
-    functions = {one.function for one in index.recording.lines.of(call.first).calls}
+    functions = {frame.function for frame in index.recording.lines.of(call.first).calls}
     if functions.intersection(OF_A_BODY) and is_served(index, other, position):
         return []
     if says := bound_says(functions, other):
@@ -79,5 +79,5 @@ def bound_says(functions: set[str], other: int) -> str:
 
 def line_reader_of(index: Index, call: Call) -> Optional[str]:
     """The function in which a Read looks for the end of a line."""
-    functions = (one.function for one in index.recording.lines.of(call.first).calls)
+    functions = (frame.function for frame in index.recording.lines.of(call.first).calls)
     return next((OF_A_LINE[name] for name in functions if name in OF_A_LINE), None)

@@ -70,10 +70,10 @@ def unasked(index: Index, call: Call) -> list[str]:
     *before, last = found or [Exchange([], [])]
     if not is_client(index, call.goroutine, call.socket):
         return []
-    if len(before) < FEWEST or not last.reads or any(not one.reads for one in before):
+    if len(before) < FEWEST or not last.reads or any(not exchange.reads for exchange in before):
         return []
-    firsts = {index.recording.lines.of(one.reads[0].first).own() for one in found}
-    if len(last.reads) < max(len(one.reads) for one in before):
+    firsts = {index.recording.lines.of(exchange.reads[0].first).own() for exchange in found}
+    if len(last.reads) < max(len(exchange.reads) for exchange in before):
         return []
     if index.recording.lines and index.recording.lines.of(call.first).own() not in firsts:
         return []  # the goroutine is in the middle of an answer
@@ -96,13 +96,17 @@ def unanswered(index: Index, call: Call, other: int, position: int) -> list[str]
     if read is None:
         return []
     written = [
-        one for one in index.by_goroutine[read.goroutine] if one.name == "Write" and read.first < one.first <= position
+        write
+        for write in index.by_goroutine[read.goroutine]
+        if write.name == "Write" and read.first < write.first <= position
     ]
     answers = [
-        one for one in index.by_socket[other] if one.goroutine == read.goroutine and one.name == "Write" and one.moved
+        write
+        for write in index.by_socket[other]
+        if write.goroutine == read.goroutine and write.name == "Write" and write.moved
     ]
     now = index.inside(read.goroutine, position)
-    if any(one.socket == other for one in written):
+    if any(write.socket == other for write in written):
         return []
     if now is None or now.name != "Read" or now.socket != other or now.first <= read.first:
         return []
@@ -122,8 +126,8 @@ def unended(index: Index, wrote: Call, read: Call, now: Call) -> list[str]:
     line = line_reader_of(index, now)
     if not line or line_reader_of(index, read) != line:
         return []
-    recording, made = index.recording, never_flushed(index.recording, now)
-    kept = f"the answer is in the buffer that {made} makes, and no line flushes it; or " if made else ""
+    recording, maker = index.recording, never_flushed(index.recording, now)
+    kept = f"the answer is in the buffer that {maker} makes, and no line flushes it; or " if maker else ""
     return [
         f"The request, {told(recording, wrote)} in {wrote.steps()}, was read by {told(recording, read)} in step {read.last}, and nothing has been "
         f"written there yet. That goroutine reads on since step {now.first}: {line} looks for the end of a line. Perhaps {kept}the request lacks "
@@ -144,13 +148,13 @@ def perhaps_why(index: Index, call: Call, now: Call) -> str:
     stack = index.recording.lines.of(now.first)
     is_buffered = writes_through_a_buffer(index.recording, stack)
     if is_buffered is None:
-        is_buffered = any(one.reads and len(one.writes) == len(last.writes) for one in before)
+        is_buffered = any(exchange.reads and len(exchange.writes) == len(last.writes) for exchange in before)
     lacks = f"the request lacks what ends it, for which {line} reads on"
     ways = ways_round_a_flush(index.recording, stack)
     kept = f"the answer is in a buffer that wasn't flushed{ways}"
     skips = "" if ways else skips_an_answer(index, now)
     if ways or skips:
-        is_whole = any(one.reads and are_alike(index, one.writes, last.writes) for one in before)
+        is_whole = any(exchange.reads and are_alike(index, exchange.writes, last.writes) for exchange in before)
         return f" Perhaps {skips or kept}." if is_whole else f" Perhaps {skips or kept}; or {lacks}."
     return f" Perhaps {kept}; or {lacks}." if is_buffered else f" Perhaps {lacks}; or {kept}."
 
@@ -158,22 +162,26 @@ def perhaps_why(index: Index, call: Call, now: Call) -> str:
 def skips_an_answer(index: Index, now: Call) -> str:
     """Text for a path on which a goroutine perhaps reads on without an answer; empty if the source has no such
     path."""
-    calls = (one for one in index.by_socket[now.socket] if one.goroutine == now.goroutine and one.name == "Write")
-    stacks = {index.recording.lines.of(one.first) for one in calls}
+    calls = (
+        write for write in index.by_socket[now.socket] if write.goroutine == now.goroutine and write.name == "Write"
+    )
+    stacks = {index.recording.lines.of(write.first) for write in calls}
     ways = ways_without_an_answer(index.recording, index.recording.lines.of(now.first), stacks)
     return f"it gives no answer there: {ways}" if ways else ""
 
 
 def are_alike(index: Index, writes: list[Call], others: list[Call]) -> bool:
     """Whether the same lines wrote two requests."""
-    places = [[index.recording.lines.of(one.first).own() for one in some] for some in (writes, others)]
+    places = [[index.recording.lines.of(write.first).own() for write in some] for some in (writes, others)]
     return places[0] == places[1]
 
 
 def reader_of(index: Index, other: int, wrote: Call, position: int) -> Optional[Call]:
     """The last Read at the other end that got bytes from a Write."""
-    reads = (one for one in back(index.by_socket.get(other, ()), position) if one.name == "Read")
-    read = next((one for one in reads if one.moved and one.last and one.last > wrote.first), None)
+    reads = (call for call in back(index.by_socket.get(other, ()), position) if call.name == "Read")
+    read = next(
+        (candidate for candidate in reads if candidate.moved and candidate.last and candidate.last > wrote.first), None
+    )
     return read if read and read.goroutine != wrote.goroutine else None
 
 
@@ -182,11 +190,11 @@ def lacking(index: Index, call: Call, other: int) -> list[str]:
     many bytes came, and that the other end wrote no more."""
     recording = index.recording
     stack = recording.lines.of(call.first)
-    if call.name != "Read" or not any(one.function == READ_FULL for one in stack.calls):
+    if call.name != "Read" or not any(frame.function == READ_FULL for frame in stack.calls):
         return []
-    asked, wrote = asked_of(recording), index.last_use(other, recording.length, ("Write",))
-    rest, begin = asked.of(call), begin_of_full(index, asked, call)
-    whole = asked.of(begin)
+    sizes, wrote = asked_of(recording), index.last_use(other, recording.length, ("Write",))
+    rest, begin = sizes.of(call), begin_of_full(index, sizes, call)
+    whole = sizes.of(begin)
     if (
         not rest
         or not whole
@@ -195,7 +203,7 @@ def lacking(index: Index, call: Call, other: int) -> list[str]:
         or (begin is call and rest < MOST_ASKED and rest <= size_of(index, wrote))
     ):
         return []
-    is_of_a_buffer = rest & (rest - 1) == 0 and any(one.function.startswith("bufio.") for one in stack.calls)
+    is_of_a_buffer = rest & (rest - 1) == 0 and any(frame.function.startswith("bufio.") for frame in stack.calls)
     if begin is call and is_of_a_buffer and is_of_a_body(recording, call):
         return [
             f"It waits for the rest of a message: {told(recording, wrote)} was the last there.",
@@ -228,17 +236,17 @@ def lacking(index: Index, call: Call, other: int) -> list[str]:
     ]
 
 
-def begin_of_full(index: Index, asked: Asked, call: Call) -> Call:
+def begin_of_full(index: Index, sizes: Asked, call: Call) -> Call:
     """The first Read of the io.ReadFull that a Read belongs to. If a Read's bytes are counted only in part, the next
     Read shows how many bytes came, because it asks for the rest."""
     lines, most = index.recording.lines, index.recording.lines.bytes
-    begin = asked.begin_of(call)
-    while (before := asked.before(begin)) and lines.of(before.first) == lines.of(begin.first):
-        whole, rest = asked.of(before), asked.of(begin)
+    begin = sizes.begin_of(call)
+    while (before := sizes.before(begin)) and lines.of(before.first) == lines.of(begin.first):
+        whole, rest = sizes.of(before), sizes.of(begin)
         is_part = most is not None and (before.moved or 0) >= most and whole and rest and whole - rest >= most
         if not is_part:
             break
-        begin = asked.begin_of(before)
+        begin = sizes.begin_of(before)
     return begin
 
 

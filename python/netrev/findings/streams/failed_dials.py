@@ -29,12 +29,12 @@ def failed_dial(index: Index, goroutine: int) -> Optional[UnconnectedSocket]:
     """The last Dial of a goroutine, if that Dial failed; None if a later Dial succeeded."""
     lines, calls = index.recording.lines, index.by_goroutine.get(goroutine, ())
     failed = [
-        one for one in calls
-        if one.name == CLOSE and any(call.function == FAILED for call in lines.of(one.first).calls) and is_dialed(index, one.socket)
+        closing for closing in calls
+        if closing.name == CLOSE and any(call.function == FAILED for call in lines.of(closing.first).calls) and is_dialed(index, closing.socket)
     ]  # fmt: skip
     if not failed:
         return None
-    is_later = any(one.first > failed[-1].first for one in connected_by(index, goroutine))
+    is_later = any(opening.first > failed[-1].first for opening in connected_by(index, goroutine))
     return None if is_later else UnconnectedSocket(failed[-1])
 
 
@@ -52,7 +52,9 @@ def refused(recording: Recording, goid: int) -> Optional[FailedDial]:
 def connected_by(index: Index, goroutine: int) -> Iterator[Call]:
     """The Opens of the sockets that a goroutine connected."""
     for call in index.by_goroutine.get(goroutine, ()):
-        if call.name == OPEN and any(CONNECTS in one.function for one in index.recording.lines.of(call.first).calls):
+        if call.name == OPEN and any(
+            CONNECTS in frame.function for frame in index.recording.lines.of(call.first).calls
+        ):
             yield call
 
 
@@ -107,7 +109,11 @@ def failed_dials(index: Index) -> Iterator[Cause]:
         says = [
             f"Dial{place_of_step(recording, dial.close.first, goroutine)} failed: socket {dial.close.socket} was never connected{why}."
         ]
-        listeners = [one for one in index.by_socket if is_listener(index, one) and closed(index, one, dial.close.first)]
+        listeners = [
+            socket
+            for socket in index.by_socket
+            if is_listener(index, socket) and closed(index, socket, dial.close.first)
+        ]
         if len(listeners) == 1:
             by = index.closing(listeners[0], dial.close.first, whole=True)
             says += (

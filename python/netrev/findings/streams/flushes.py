@@ -76,7 +76,9 @@ def ways_without_an_answer(recording: Recording, stack: Stack, writes: Iterable[
     within = range_of(lines, own[0]) if lines and own else None
     if not own or not lines or not within:
         return ""
-    found = {call for one in writes for call in one.calls if call.function == own[0].function and call.line in within}
+    found = {
+        call for write in writes for call in write.calls if call.function == own[0].function and call.line in within
+    }
     names = {re.escape(called[0]) for call in found if (called := CALLED.search(code(lines, call.line)))}
     if not names:
         return ""
@@ -89,8 +91,8 @@ def ways_without_an_answer(recording: Recording, stack: Stack, writes: Iterable[
 def writes_to(writer: str, function: str) -> Test:
     """A test of whether a statement writes into a buffer, directly or through an encoder on top of the buffer."""
     name = re.escape(writer)
-    made = re.findall(rf"\b(\w+) :?= \w+\.NewEncoder\({name}\)", function)
-    encoders = "|".join([rf"NewEncoder\({name}\)", *made])
+    variables = re.findall(rf"\b(\w+) :?= \w+\.NewEncoder\({name}\)", function)
+    encoders = "|".join([rf"NewEncoder\({name}\)", *variables])
     return has(rf"\bFprint\w*\({name},|(?<![\w.]){name}\.Write\w*\(|\b(?:{encoders})\.Encode\(")
 
 

@@ -62,7 +62,7 @@ def length_line(recording: Recording, wrote: Call) -> Optional[Line]:
     own = recording.lines.of(wrote.first).own()
     lines = source_of(recording, own[0].file) if own and own[0].of == OF_THE_PROGRAM else None
     within = range_of(lines, own[0]) if lines and own else None
-    names = {made[1] for number in within or () if lines and (made := IS_LENGTH.search(code_at(lines, number)))}
+    names = {match[1] for number in within or () if lines and (match := IS_LENGTH.search(code_at(lines, number)))}
     if not names:
         return None
     return line_of(recording, wrote, re.compile(rf"(?:Uint\d*\(|\bbyte\().*\b(?:{'|'.join(sorted(names))})\b"))
@@ -71,14 +71,14 @@ def length_line(recording: Recording, wrote: Call) -> Optional[Line]:
 def line_of(recording: Recording, call: Call, pattern: "re.Pattern[str]") -> Optional[Line]:
     """The line that matches a pattern, in the innermost function of the program that has such a line: the last match up
     to the call's line, else the last match in the function."""
-    for one in recording.lines.of(call.first).calls:
-        lines = source_of(recording, one.file) if one.of == OF_THE_PROGRAM else None
-        within = range_of(lines, one) if lines else None
+    for frame in recording.lines.of(call.first).calls:
+        lines = source_of(recording, frame.file) if frame.of == OF_THE_PROGRAM else None
+        within = range_of(lines, frame) if lines else None
         found = [number for number in within or () if lines and pattern.search(code_at(lines, number))]
-        upto = [number for number in found if number <= one.line]
+        upto = [number for number in found if number <= frame.line]
         if lines and found:
             number = (upto or found)[-1]
-            return Line(one.file, number, code_at(lines, number))
+            return Line(frame.file, number, code_at(lines, number))
     return None
 
 
@@ -90,9 +90,9 @@ def bodies_of(recording: Recording, wrote: Call) -> set[str]:
     within = range_of(lines, own[0]) if lines and own else None
     texts = [code_at(lines, number) for number in within or () if lines]
     found = {next(filter(None, match.groups())) for text in texts for match in BODY.finditer(text)}
-    made = {
+    assembled = {
         name
         for name in found
         if any(re.search(rf"\b{re.escape(name)} :?= append\(|\bcopy\({re.escape(name)}\b", text) for text in texts)
     }
-    return {name for name in found - made if not HEADERS.search(name)}
+    return {name for name in found - assembled if not HEADERS.search(name)}

@@ -45,15 +45,15 @@ def gone_reader(index: Index, socket: int, position: int) -> Optional[GoneReader
     other = index.recording.lines.peers.get(socket)
     if other is None:
         return None
-    calls = [one for one in index.by_socket.get(socket, ()) if one.first <= position]
-    reads = [one for one in calls if one.name == "Read"]
-    if not reads or len({one.goroutine for one in reads}) > 1 or any(one.name == CLOSE for one in calls):
+    calls = [call for call in index.by_socket.get(socket, ()) if call.first <= position]
+    reads = [call for call in calls if call.name == "Read"]
+    if not reads or len({read.goroutine for read in reads}) > 1 or any(call.name == CLOSE for call in calls):
         return None
     last, ended = reads[-1], ended_behind(index, reads[-1], position)
     if ended is None or is_of_go(index.recording, last):
         return None
-    writes = (one for one in index.by_socket.get(other, ()) if one.name == "Write" and one.moved and one.last)
-    return GoneReader(last, ended, next((one for one in writes if ended < one.first <= position), None))
+    writes = (call for call in index.by_socket.get(other, ()) if call.name == "Write" and call.moved and call.last)
+    return GoneReader(last, ended, next((write for write in writes if ended < write.first <= position), None))
 
 
 def ended_behind(index: Index, call: Call, position: int) -> Optional[int]:
@@ -67,11 +67,11 @@ def ended_behind(index: Index, call: Call, position: int) -> Optional[int]:
 def without_reader(index: Index) -> Iterator[Cause]:
     """Possible causes at the end of the recording: readers that ended before more bytes came, although their last Read
     neither failed nor reached the end of the stream."""
-    for one in gone_readers(index, index.recording.length):
-        if not one.wrote or not one.read.moved or one.read.outcome is not Outcome.DONE:
+    for reader in gone_readers(index, index.recording.length):
+        if not reader.wrote or not reader.read.moved or reader.read.outcome is not Outcome.DONE:
             continue
-        looks = [f"goto {one.read.last}", f"calls sock {one.read.socket}"]
-        yield Cause(one.read, one.says(index), [one.read.first, one.wrote.first], looks, one.read.last)
+        looks = [f"goto {reader.read.last}", f"calls sock {reader.read.socket}"]
+        yield Cause(reader.read, reader.says(index), [reader.read.first, reader.wrote.first], looks, reader.read.last)
 
 
 def ended_reader(index: Index, call: Call, other: int, position: int) -> list[str]:

@@ -23,13 +23,13 @@ def idle_listeners(index: Index, position: int) -> list[str]:
     ]
     idle = [socket for socket in listeners if not accepts_at(index, socket)]
     for socket in listeners if idle else ():
-        for made, names in makers_at(index, socket).items():
+        for statement, names in makers_at(index, socket).items():
             if len(names) > 1:
                 sockets = f"socket{'s' if idle[1:] else ''} {', '.join(map(str, idle))}"
                 return [
-                    f"Nobody has called Accept at the listener{'s' if idle[1:] else ''}, {sockets}. {capital(of_names(names))}, started at {made.place()}, "
+                    f"Nobody has called Accept at the listener{'s' if idle[1:] else ''}, {sockets}. {capital(of_names(names))}, started at {statement.place()}, "
                     f"all accept at the same one, socket {socket}.",
-                    *shared_variables(index.recording, made.file),
+                    *shared_variables(index.recording, statement.file),
                 ]
     return []
 

@@ -33,7 +33,11 @@ class Named(NamedTuple):
 def left_in_buffer(index: Index, call: Call) -> list[str]:
     """Sentences about a Read that waits; none if something was written since the last answer, or if no buffer is
     known."""
-    moved = [one for one in index.by_socket[call.socket] if one.name in MOVING and one.moved and one.first < call.first]
+    moved = [
+        transfer
+        for transfer in index.by_socket[call.socket]
+        if transfer.name in MOVING and transfer.moved and transfer.first < call.first
+    ]
     if moved and moved[-1].name == "Write":
         return []
     for frame in index.recording.lines.of(call.first).calls:
@@ -66,8 +70,8 @@ def never_flushed(recording: Recording, call: Call) -> str:
     own = recording.lines.of(call.first).own()
     if own is None or own[0].of != OF_THE_PROGRAM:
         return ""
-    made, named = places_with(recording, own[0].file, MAKES), names_near(recording, own[0].file)
-    return made[0] if made and not named.flushed & named.buffers else ""
+    places, named = places_with(recording, own[0].file, MAKES), names_near(recording, own[0].file)
+    return places[0] if places and not named.flushed & named.buffers else ""
 
 
 @lru_cache(maxsize=64)

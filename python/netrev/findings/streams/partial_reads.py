@@ -27,22 +27,22 @@ def partial_reads(index: Index, call: Call) -> list[str]:
     stack. Such a line has read from the socket before, or it reads into a slice whose length the line names or the
     program computed."""
     passed = {
-        (one.function, one.line)
+        (frame.function, frame.line)
         for read in index.by_socket[call.socket]
         if read.name == "Read" and read.moved
-        for one in index.recording.lines.of(read.first).calls
-        if one.of == OF_THE_PROGRAM
+        for frame in index.recording.lines.of(read.first).calls
+        if frame.of == OF_THE_PROGRAM
     }
-    for one in index.recording.lines.of(call.first).calls:
-        lines = source_of(index.recording, one.file) if one.of == OF_THE_PROGRAM else None
-        within = range_of(lines, one) if lines else None
+    for frame in index.recording.lines.of(call.first).calls:
+        lines = source_of(index.recording, frame.file) if frame.of == OF_THE_PROGRAM else None
+        within = range_of(lines, frame) if lines else None
         found = [
             number
             for number in (partial_lines(lines, within) if lines and within else [])
-            if (one.function, number) in passed or is_of_a_length(lines, within, number)
+            if (frame.function, number) in passed or is_of_a_length(lines, within, number)
         ]
         if found:
-            places = " and ".join(f"{one.file}:{number}" for number in found[:MOST])
+            places = " and ".join(f"{frame.file}:{number}" for number in found[:MOST])
             reads = "read" if found[1:] else "reads"
             return [
                 f"Perhaps a part was taken for the whole: {places} {reads} once, and a Read returns what has arrived."
@@ -54,16 +54,16 @@ def part_taken(index: Index, call: Call) -> list[str]:
     """Sentences about a waiting Read, if the previous Read on the socket got fewer bytes than it asked for. The list is
     empty unless the line of the previous Read calls Read only once, with a slice whose length isn't a constant."""
     for read in reversed(
-        [one for one in index.by_socket[call.socket] if one.name == "Read" and one.first < call.first]
+        [earlier for earlier in index.by_socket[call.socket] if earlier.name == "Read" and earlier.first < call.first]
     ):
         own = index.recording.lines.of(read.first).own()
         lines = source_of(index.recording, own[0].file) if own and own[0].of == OF_THE_PROGRAM else None
         within = range_of(lines, own[0]) if own and lines else None
         is_once = own and lines and within and own[0].line in partial_lines(lines, within)
         if is_once and is_of_a_body(index.recording, read):
-            asked, got = asked_of(index.recording).of(read) or 0, size_of(index, read)
-            says = f"{told(index.recording, read)} asked for {counted(asked, 'byte')} and got {got}: a Read returns what has arrived."
-            return [says] if are_known(index) and 0 < got < asked else []
+            size, count = asked_of(index.recording).of(read) or 0, size_of(index, read)
+            says = f"{told(index.recording, read)} asked for {counted(size, 'byte')} and got {count}: a Read returns what has arrived."
+            return [says] if are_known(index) and 0 < count < size else []
     return []
 
 
@@ -72,17 +72,17 @@ def is_of_a_length(lines: Optional[Lines], within: Optional[range], number: int)
     made."""
     text = lines[number - 1].partition("//")[0] if lines else ""
     read = READ.search(text)
-    made = re.compile(rf"\b{re.escape(read[1])} :?= make\(\[\]byte, [\w.]*\(") if read else None
-    is_computed = made and any(made.search(lines[at - 1]) for at in within or () if lines)
+    pattern = re.compile(rf"\b{re.escape(read[1])} :?= make\(\[\]byte, [\w.]*\(") if read else None
+    is_computed = pattern and any(pattern.search(lines[at - 1]) for at in within or () if lines)
     return WHOLE.search(text) is not None or bool(is_computed)
 
 
 def partial_lines(lines: Lines, within: range) -> list[int]:
     """The lines of a function that call Read once, with a slice whose length isn't a constant."""
     texts = {number: lines[number - 1].partition("//")[0] for number in within}
-    made = {match[1] for text in texts.values() if (match := MADE.search(text))}
+    slices = {match[1] for text in texts.values() if (match := MADE.search(text))}
     return [
         number
         for number, text in texts.items()
-        if WHOLE.search(text) or ((match := READ.search(text)) and match[1] in made)
+        if WHOLE.search(text) or ((match := READ.search(text)) and match[1] in slices)
     ]

@@ -63,8 +63,8 @@ def is_datagram(index: Index, socket: int) -> bool:
 
 def has_opened(index: Index, socket: int, part: str) -> bool:
     """Whether a function with `part` in its name opened a socket."""
-    opened = next((one for one in index.by_socket.get(socket, ()) if one.name == OPEN), None)
-    return opened is not None and any(part in one.function for one in index.recording.lines.of(opened.first).calls)
+    opened = next((call for call in index.by_socket.get(socket, ()) if call.name == OPEN), None)
+    return opened is not None and any(part in frame.function for frame in index.recording.lines.of(opened.first).calls)
 
 
 def listener_of(index: Index, socket: int, position: int) -> Optional[Listener]:
@@ -78,25 +78,25 @@ def listener_of(index: Index, socket: int, position: int) -> Optional[Listener]:
             return None
         for listener, calls in found.items():
             accepted = list(accepted_at(index, calls))
-            if any(ends.get(one, (0, 0))[0] == other for one in accepted):
-                return Listener(listener, calls[-1], all(one in ends for one in accepted))
-    listening = [one for one in found if not closed(index, one, position)]
+            if any(ends.get(connection, (0, 0))[0] == other for connection in accepted):
+                return Listener(listener, calls[-1], all(connection in ends for connection in accepted))
+    listening = [candidate for candidate in found if not closed(index, candidate, position)]
     return Listener(listening[0], found[listening[0]][-1], False) if len(listening) == 1 else None
 
 
 def accepts_at(index: Index, socket: int) -> list[Call]:
     """The Accepts on a socket."""
     calls = index.by_socket[socket]
-    return [one for one in calls if one.name == "Read" and index.is_listening(one)] if calls[0].name == OPEN else []
+    return [call for call in calls if call.name == "Read" and index.is_listening(call)] if calls[0].name == OPEN else []
 
 
 def accepted_at(index: Index, accepts: list[Call]) -> Iterator[int]:
     """The sockets that the Accepts returned."""
     for accept in accepts:
         opened = (
-            one for one in index.by_goroutine[accept.goroutine]
-            if one.name == OPEN and accept.last and one.first > accept.last
-            and any(call.function in ACCEPTS or call.function.endswith(".accept") for call in index.recording.lines.of(one.first).calls)
+            opening for opening in index.by_goroutine[accept.goroutine]
+            if opening.name == OPEN and accept.last and opening.first > accept.last
+            and any(call.function in ACCEPTS or call.function.endswith(".accept") for call in index.recording.lines.of(opening.first).calls)
         )  # fmt: skip
         first = next(opened, None)
         if first:
@@ -104,4 +104,4 @@ def accepted_at(index: Index, accepts: list[Call]) -> Iterator[int]:
 
 
 def closed(index: Index, socket: int, position: int) -> bool:
-    return any(one.name == CLOSE for one in back(index.by_socket[socket], position))
+    return any(call.name == CLOSE for call in back(index.by_socket[socket], position))

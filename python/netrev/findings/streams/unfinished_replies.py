@@ -32,16 +32,16 @@ class Part(NamedTuple):
 
 def unfinished_reply(index: Index, call: Call, other: int, position: int) -> list[str]:
     """Sentences about a waiting Read whose reply is perhaps incomplete; none if that is unknown."""
-    wrote, asked = (index.last_use(socket, position, ("Write",)) for socket in (other, call.socket))
+    wrote, request = (index.last_use(socket, position, ("Write",)) for socket in (other, call.socket))
     if (
         not wrote
         or not wrote.moved
-        or not asked
-        or asked.goroutine != call.goroutine
+        or not request
+        or request.goroutine != call.goroutine
         or not has_part(index, call, wrote)
     ):
         return []
-    read, now = reader_of(index, other, asked, position), index.inside(wrote.goroutine, position)
+    read, now = reader_of(index, other, request, position), index.inside(wrote.goroutine, position)
     if not read or read.goroutine != wrote.goroutine or not read.last < wrote.first:
         return []
     if not now or now.name != "Read" or now.socket != other or now.first < wrote.last:
@@ -59,7 +59,7 @@ def unfinished_reply(index: Index, call: Call, other: int, position: int) -> lis
 def has_part(index: Index, call: Call, wrote: Call) -> bool:
     """Whether a waiting goroutine has already read part of another goroutine's last Write. It must have made that Read
     at the line at which it now waits."""
-    reads = [one for one in index.by_socket[call.socket] if one.name == "Read" and one.moved and one.last]
+    reads = [read for read in index.by_socket[call.socket] if read.name == "Read" and read.moved and read.last]
     last = reads[-1] if reads else None
     if last is None or last.goroutine != call.goroutine or not wrote.first < last.last < call.first:
         return False

@@ -50,13 +50,13 @@ def last_write_of_relay(index: Index, met: Call) -> Optional[Call]:
     """A relay's last Write, if it came after the relay's last Read that got something. The relay's Reads are all on one
     socket, its Writes are all on another, and its last call is this Read. The result is None if the goroutine isn't
     such a relay."""
-    calls = [one for one in index.by_goroutine[met.goroutine] if one.name in MOVING]
-    reads, writes = ([one for one in calls if one.name == name] for name in MOVING)
-    if not writes or calls[-1] is not met or len({one.socket for one in reads}) > 1 or not is_over(index, met):
+    calls = [call for call in index.by_goroutine[met.goroutine] if call.name in MOVING]
+    reads, writes = ([call for call in calls if call.name == name] for name in MOVING)
+    if not writes or calls[-1] is not met or len({read.socket for read in reads}) > 1 or not is_over(index, met):
         return None
-    if len({one.socket for one in writes}) > 1 or writes[-1].socket == met.socket:
+    if len({write.socket for write in writes}) > 1 or writes[-1].socket == met.socket:
         return None
-    got = [one for one in reads if one.moved]
+    got = [read for read in reads if read.moved]
     return writes[-1] if not got or got[-1].first < writes[-1].first else None
 
 
@@ -70,4 +70,4 @@ def reader_of(index: Index, socket: int) -> Optional[Call]:
     """The Read at the other end of a socket, if it waits at the end of the recording."""
     other = index.other_end(socket)
     calls = () if other is None else index.by_socket.get(other, ())
-    return next((one for one in calls if one.name == "Read" and not one.last and is_waiting(index, one)), None)
+    return next((call for call in calls if call.name == "Read" and not call.last and is_waiting(index, call)), None)

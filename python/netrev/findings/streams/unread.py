@@ -28,10 +28,12 @@ def unread(index: Index, position: int) -> Iterator[Unread]:
         count = moved_at(index, socket, "Write", position) - moved_at(index, other, "Read", position)
         wrote = index.last_use(socket, position, ("Write",))
         calls = [
-            one for one in (*index.by_socket.get(socket, ()), *index.by_socket.get(other, ())) if one.first <= position
+            call
+            for call in (*index.by_socket.get(socket, ()), *index.by_socket.get(other, ()))
+            if call.first <= position
         ]
-        is_read = any(one.socket == other and one.name == "Read" and not 0 < one.last <= position for one in calls)
-        if count > 0 and wrote and not is_read and not any(one.name == CLOSE for one in calls):
+        is_read = any(call.socket == other and call.name == "Read" and not 0 < call.last <= position for call in calls)
+        if count > 0 and wrote and not is_read and not any(call.name == CLOSE for call in calls):
             if (
                 wrote.last
                 and not is_of_go(index.recording, wrote)
@@ -56,7 +58,7 @@ def unread_answers(index: Index, call: Call, other: int, position: int) -> list[
     """Sentences about a Write that waits for room: its own goroutine hasn't read what was written at the other end."""
     count = moved_at(index, other, "Write", position) - moved_at(index, call.socket, "Read", position)
     wrote, calls = index.last_use(other, position, ("Write",)), index.by_socket.get(call.socket, ())
-    readers = {one.goroutine for one in calls if one.name == "Read"}
+    readers = {read.goroutine for read in calls if read.name == "Read"}
     if count <= 0 or wrote is None or readers - {call.goroutine}:
         return []
     if not are_known(index) and is_cut(index.recording, index, (call.socket, other)):

@@ -20,9 +20,14 @@ def unused_since(index: Index, call: Call, step: int) -> list[str]:
     """Sentences about a call that failed on a connection whose other end was closed, if the call's goroutine has dialed
     since and never used the new connections."""
     opened: dict[str, list[int]] = defaultdict(list)
-    for one in index.by_goroutine[call.goroutine]:
-        if one.name == OPEN and one.first > step and is_dialed(index, one.socket) and not is_used(index, one.socket):
-            opened[place_in(index.recording.lines.of(one.first))].append(one.socket)
+    for opening in index.by_goroutine[call.goroutine]:
+        if (
+            opening.name == OPEN
+            and opening.first > step
+            and is_dialed(index, opening.socket)
+            and not is_used(index, opening.socket)
+        ):
+            opened[place_in(index.recording.lines.of(opening.first))].append(opening.socket)
     return [
         f"Goroutine {call.goroutine} has dialed since{place}, and never used socket{'s' if sockets[1:] else ''} {listed(sockets)}."
         for place, sockets in opened.items()
@@ -32,25 +37,25 @@ def unused_since(index: Index, call: Call, step: int) -> list[str]:
 
 def is_used(index: Index, socket: int) -> bool:
     """Whether a goroutine has read from, written to or closed a socket."""
-    return any(one.name in MOVING or one.name == CLOSE for one in index.by_socket[socket])
+    return any(call.name in MOVING or call.name == CLOSE for call in index.by_socket[socket])
 
 
 def untaken_results(index: Index) -> Iterator[Cause]:
     """Possible causes: channels with values that no goroutine took. The goroutines that put the values there left
     sockets open, and the function that made the channel has returned."""
     lines, found = index.recording.lines, dict[LineCall, list[Call]]()
-    for number, made in lines.made.items():
-        own = lines.stacks[made.stack].own()
+    for number, creation in lines.made.items():
+        own = lines.stacks[creation.stack].own()
         uses = lines.uses.get(number, ())
         puts, taken = [use for use in uses if use.what == PUT], sum(use.often for use in uses if use.what == TOOK)
         if not own or own[0].of != OF_THE_PROGRAM or not puts or sum(use.often for use in puts) <= taken:
             continue
-        maker = name_of_goid(lines, made.goid)
-        opened = [one for use in puts for one in opened_by(index, use.goid)]
+        maker = name_of_goid(lines, creation.goid)
+        opened = [opening for use in puts for opening in opened_by(index, use.goid)]
         if opened and is_local(index, own[0]) and has_returned(index, maker, own[0], index.recording.length):
             found.setdefault(own[0], []).extend(opened)
     for line, calls in found.items():
-        sockets = listed(sorted({one.socket for one in calls}))
+        sockets = listed(sorted({call.socket for call in calls}))
         many = counted(len(calls), "goroutine")
         says = [
             f"{many} put a result into a channel that {line.place()} in {short(line.function)} made, and nobody took it: {short(line.function)} had "
@@ -62,5 +67,5 @@ def untaken_results(index: Index) -> Iterator[Cause]:
 
 def opened_by(index: Index, goid: int) -> list[Call]:
     """A goroutine's Opens of dialed sockets that no goroutine has closed."""
-    opened = [one for one in index.by_goid(goid) if one.name == OPEN and is_dialed(index, one.socket)]
-    return [one for one in opened if not any(other.name == CLOSE for other in index.by_socket[one.socket])]
+    opened = [opening for opening in index.by_goid(goid) if opening.name == OPEN and is_dialed(index, opening.socket)]
+    return [opening for opening in opened if not any(call.name == CLOSE for call in index.by_socket[opening.socket])]
