@@ -18,9 +18,9 @@ def requests_that_ended(recording: Recording, is_late: bool) -> list[Cause]:
     """The requests of net/http's client that ended because a deadline of their context passed or a goroutine cancelled
     the context. Requests with the same lines are merged."""
     alike: dict[Hashable, list[CancelledRequest]] = defaultdict(list)
-    for one in cancelled_requests(index_of(recording)):
-        if one.is_late is is_late:
-            alike[one.places(recording)].append(one)
+    for request in cancelled_requests(index_of(recording)):
+        if request.is_late is is_late:
+            alike[request.places(recording)].append(request)
     return [with_others(of_request(recording, first), len(others)) for first, *others in alike.values()]
 
 
@@ -37,7 +37,7 @@ def unserved_says(index: Index, ended: CancelledRequest) -> list[str]:
     """Sentences about a request on a connection that no goroutine had accepted. The sentences say what the goroutine
     that should have accepted the connection did instead."""
     step = ended.closed.first
-    reads = (one for one in index.by_socket[ended.request.socket] if one.name == "Read" and one.first < step)
-    read = next((one for one in reads if not 0 < one.last < step), None)
+    reads = (call for call in index.by_socket[ended.request.socket] if call.name == "Read" and call.first < step)
+    read = next((candidate for candidate in reads if not 0 < candidate.last < step), None)
     need = unaccepted(index, read, step) if read else None
     return [in_the_past(line) for line in [*need.says, *chain_says(index, read, need, step)]] if read and need else []

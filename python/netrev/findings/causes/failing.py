@@ -44,7 +44,7 @@ def causes_of(recording: Recording, position: int) -> list[Cause]:
 
 def failed_at(index: Index, position: int) -> list[Call]:
     """The calls that had failed at a position, in the order in which they ended."""
-    return sorted(index.failed(position), key=lambda one: one.last)
+    return sorted(index.failed(position), key=lambda call: call.last)
 
 
 def cause_of(index: Index, call: Call, deep: int = 0) -> Cause:
@@ -70,8 +70,8 @@ def of_timeout(index: Index, call: Call, begins: str) -> Cause:
     at = place_of_step(recording, call.cause, step.argument("g"))
     time = step.argument("time")
     before = index.under_its_deadline(call)
-    well = [one for one in before if went_well(one)]
-    late = [one for one in before if one.outcome is Outcome.TIMED_OUT]
+    well = [earlier for earlier in before if went_well(earlier)]
+    late = [earlier for earlier in before if earlier.outcome is Outcome.TIMED_OUT]
     says = [f"{begins}."]
     if time < 0:
         when = "while it waited" if call.first < call.cause else "before it began"
@@ -104,7 +104,7 @@ def is_of_a_server(stack: Stack) -> bool:
     """Whether net/http's own server code set a deadline: the innermost function outside the connection's methods is the
     server's. A handler may set a deadline too, through its http.ResponseController; in that case the handler is inside
     the server's function."""
-    outside = (one.function for one in stack.calls if not one.function.startswith(OF_CONNECTIONS))
+    outside = (frame.function for frame in stack.calls if not frame.function.startswith(OF_CONNECTIONS))
     return next(outside, "").startswith(OF_A_SERVER)
 
 
@@ -139,8 +139,8 @@ def of_close(index: Index, call: Call, begins: str, deep: int) -> Cause:
     ended, after = context_says(index, call, by), after_says(index, call.cause, goroutine)
     says += ended or after
     others = [
-        one for one in index.under_way(call.socket, call.cause)
-        if one is not call and one.name != CLOSE and one.goroutine != goroutine
+        other for other in index.under_way(call.socket, call.cause)
+        if other is not call and other.name != CLOSE and other.goroutine != goroutine
     ]  # fmt: skip
     if others:
         says.append(f"{told(recording, others[0])} was inside too.")
@@ -154,7 +154,9 @@ def context_says(index: Index, call: Call, by: Optional[Call]) -> list[str]:
     """Sentences about a descriptor that was closed because a request's context had ended or because a channel was
     closed. The sentences name the goroutine that cancelled the context or closed the channel, or the timeout that had
     passed. The sentences also say what the goroutine that served the request did."""
-    request = next((one for one in cancelled_requests(index) if by and one.closed.first == by.first), None)
+    request = next(
+        (candidate for candidate in cancelled_requests(index) if by and candidate.closed.first == by.first), None
+    )
     cancel = None if request else cancel_before(index, call.cause)
     if request is None and cancel is None:
         return []
@@ -205,16 +207,16 @@ def part_says(index: Index, call: Call, last: Call) -> list[str]:
     """Sentences about a connection whose other end was closed before all bytes were read: the last Read got fewer bytes
     than it asked for. The list is empty unless the program itself called Read."""
     recording, own = index.recording, index.recording.lines.of(last.first).own()
-    functions = [one.function for one in recording.lines.of(last.first).calls]
+    functions = [frame.function for frame in recording.lines.of(last.first).calls]
     is_direct = own is not None and (CONN_READ, own[0].function) in zip(functions, functions[1:])
-    asked, got = asked_of(recording).of(last) or 0, size_of(index, last)
+    size, count = asked_of(recording).of(last) or 0, size_of(index, last)
     unread = moved_at(index, call.socket, "Write", call.last) - moved_at(index, last.socket, "Read", call.last)
-    if not are_known(index) or not is_direct or not got or unread <= 0 or not (got < asked or asked == MOST_ASKED):
+    if not are_known(index) or not is_direct or not count or unread <= 0 or not (count < size or size == MOST_ASKED):
         return []
-    many = f"{'at least ' if asked == MOST_ASKED else ''}{asked}"
+    many = f"{'at least ' if size == MOST_ASKED else ''}{size}"
     return [
         f"{counted(unread, 'byte')} that had been written there were never read: {told(recording, last)}, the last Read, asked for {many} and got "
-        f"{got}. A Read returns what has arrived."
+        f"{count}. A Read returns what has arrived."
     ]
 
 
@@ -259,4 +261,4 @@ def why(index: Index, by: Optional[Call], deep: int) -> Before:
 
 def is_of_a_file(index: Index, call: Call) -> bool:
     """Whether a call is on a file rather than on a connection."""
-    return any(one.function.startswith(OF_A_FILE) for one in index.recording.lines.of(call.first).calls)
+    return any(frame.function.startswith(OF_A_FILE) for frame in index.recording.lines.of(call.first).calls)

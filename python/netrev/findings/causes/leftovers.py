@@ -46,7 +46,7 @@ def leftovers_of(recording: Recording) -> list[Cause]:
         *early_ends(index),
         *mixed_writes(index),
     ]
-    return [one._replace(says=[f"Perhaps: {one.says[0]}", *one.says[1:]]) for one in found]
+    return [cause._replace(says=[f"Perhaps: {cause.says[0]}", *cause.says[1:]]) for cause in found]
 
 
 def ends_of(index: Index) -> Iterator[tuple[int, int]]:
@@ -72,7 +72,7 @@ def never_read(index: Index) -> Iterator[Cause]:
             or missing <= 0
             or is_of_go(recording, last)
             or is_of_go(recording, wrote)
-            or any(one.function == FAREWELL for one in recording.lines.of(wrote.first).calls)
+            or any(frame.function == FAREWELL for frame in recording.lines.of(wrote.first).calls)
         ):
             continue
         says = [
@@ -99,7 +99,7 @@ def left_open(index: Index) -> Iterator[Cause]:
     recording, length = index.recording, index.recording.length
     for socket, other in ends_of(index):
         by, last = index.closing(other, length, whole=True), index.last_use(socket, length)
-        is_used = any(not one.last for one in index.by_socket[socket])
+        is_used = any(not call.last for call in index.by_socket[socket])
         if by is None or last is None or is_used or index.closing(socket, length, whole=True):
             continue
         if is_of_go(recording, last) or last.last > by.first:
@@ -138,7 +138,11 @@ def early_ends(index: Index) -> Iterator[Cause]:
 
 def is_asking(index: Index, call: Call) -> bool:
     """Whether a Read waits for an answer: its goroutine has written to the socket, and no bytes have come since."""
-    moved = [one for one in index.by_socket[call.socket] if one.name in MOVING and one.moved and one.first < call.first]
+    moved = [
+        transfer
+        for transfer in index.by_socket[call.socket]
+        if transfer.name in MOVING and transfer.moved and transfer.first < call.first
+    ]
     return (
         bool(moved) and moved[-1].name == "Write" and moved[-1].goroutine == call.goroutine and moved[0].name == "Write"
     )
@@ -150,13 +154,15 @@ def mixed_writes(index: Index) -> Iterator[Cause]:
     message."""
     recording = index.recording
     for calls in index.by_socket.values():
-        writes = [(one, place_of_function(recording, one)) for one in calls if one.name == "Write" and went_well(one)]
+        writes = [
+            (call, place_of_function(recording, call)) for call in calls if call.name == "Write" and went_well(call)
+        ]
         latest: dict[int, int] = {}  # the latest Write of each goroutine
         for at, (last, place) in enumerate(writes):
             before = latest.get(last.goroutine, at)
             latest[last.goroutine] = at
             first, earlier = writes[before]
-            others = [one for one, its in writes[before + 1 : at] if its.function == place.function]
+            others = [write for write, its in writes[before + 1 : at] if its.function == place.function]
             if not others or earlier.function != place.function or not 0 < earlier.line < place.line:
                 continue
             says = [

@@ -95,8 +95,8 @@ def requests_table(recording: Recording) -> Table:
     for request in requests_of(index):
         alike[request.name, request.socket, place_in(request.stack)].append(request)
     ended: dict[tuple[Name, int, str], list[CancelledRequest]] = defaultdict(list)
-    for one in cancelled_requests(index):
-        ended[one.request.name, one.request.socket, place_in(one.request.stack)].append(one)
+    for cancelled in cancelled_requests(index):
+        ended[cancelled.request.name, cancelled.request.socket, place_in(cancelled.request.stack)].append(cancelled)
     rows = [row for key, some in alike.items() for row in request_rows(recording, some, ended[key])]
     rest = (
         ""
@@ -112,7 +112,7 @@ def request_rows(recording: Recording, some: list[Request], ended: list[Cancelle
     place = place_in(last.stack).strip()
     steps = f"after step {last.last}" if many == 1 else f"the last after step {last.last}"
     text = f"socket {last.socket:<4} {counted(many, 'request')} {place} ({last.name}), {steps}"
-    says = [" ".join(one.says(recording)) for one in ended]
+    says = [" ".join(cancelled.says(recording)) for cancelled in ended]
     values = {
         **last.name.values,
         "socket": last.socket,

@@ -19,7 +19,7 @@ class Asked:
         self._asked: dict[int, int] = {}  # keyed by the first step of the Read
         self._before: dict[int, Call] = {}
         begun: dict[int, int] = {}  # the number of calls that each goroutine had begun
-        by_goroutine, asked = index.by_goroutine, self._asked
+        by_goroutine, sizes = index.by_goroutine, self._asked
         for number, values in index.recording.arrays_like((SYSREAD,), index.recording.length):
             if values[0] != SYSREAD:
                 continue
@@ -30,7 +30,7 @@ class Asked:
             begun[g] = after
             call = calls[after - 1] if after else None
             if call is not None and call.name == "Read" and (not call.last or call.last >= number):
-                asked.setdefault(call.first, count)
+                sizes.setdefault(call.first, count)
         latest: dict[tuple[int, int], Call] = {}
         for call in index.book.calls:
             if call.name == "Read":
@@ -56,8 +56,8 @@ class Asked:
 
     def is_next(self, before: Call, call: Call) -> bool:
         """Whether a Read asks for exactly the bytes that the previous Read left."""
-        asked, rest = self.of(before), self.of(call)
-        return asked is not None and rest is not None and bool(before.moved) and rest == asked - (before.moved or 0) > 0
+        size, rest = self.of(before), self.of(call)
+        return size is not None and rest is not None and bool(before.moved) and rest == size - (before.moved or 0) > 0
 
 
 @lru_cache(maxsize=2)

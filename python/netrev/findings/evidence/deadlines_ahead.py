@@ -37,9 +37,9 @@ def deadline_ahead(index: Index, call: Call, position: int) -> Optional[Setting]
     """The deadline of a call that waits at a position; None if the call has no deadline."""
     side, begin = "r" if call.name in READING else "w", index.by_socket[call.socket][0].first
     settings = (
-        one
-        for one in reversed(settings_of(index.recording).get(call.descriptor, []))
-        if begin <= one.step <= position and side in one.sides
+        setting
+        for setting in reversed(settings_of(index.recording).get(call.descriptor, []))
+        if begin <= setting.step <= position and side in setting.sides
     )
     last = next(settings, None)
     return last if last and last.time > 0 else None

@@ -35,7 +35,7 @@ def goid_of(recording: Recording, name: Name) -> int:
 @lru_cache(maxsize=1024)
 def last_stack(index: Index, name: Name) -> Optional[Stack]:
     """The last known stack of a goroutine that isn't in a deferred function."""
-    last = max(passed_by(index, name), key=lambda one: (one.step, one.time), default=None)
+    last = max(passed_by(index, name), key=lambda passage: (passage.step, passage.time), default=None)
     return last.stack if last else None
 
 
@@ -45,7 +45,7 @@ def passed_by(index: Index, name: Name) -> Iterator[Passed]:
     lines, calls = recording.lines, index.by_goroutine.get(name.number, []) if not name.is_goid else []
     found = [Passed(call.first, time_of(recording, call.first), lines.of(call.first)) for call in calls[-3:]]
     found += [Passed(park.last, park.end, lines.stacks[park.stack]) for park in lines.parks.get(goid, ())[-3:]]
-    found += [Passed(one.step, one.time, lines.stacks[one.stack]) for one in lines.failed_dials.get(goid, ())[-3:]]
+    found += [Passed(dial.step, dial.time, lines.stacks[dial.stack]) for dial in lines.failed_dials.get(goid, ())[-3:]]
     for uses in lines.uses.values():
         found += [Passed(use.last, use.end, lines.stacks[use.stack]) for use in uses if use.goid == goid]
     for passed in found:
@@ -105,9 +105,11 @@ def left_by(index: Index, call: OneCall) -> str:
     leaves = every_leave(index.recording, own[0]) if own and own[0].of == OF_THE_PROGRAM else []
     if not own or not leaves:
         return ""
-    passed = sorted(passed_by(index, Name(call.goroutine)), key=lambda one: (one.step, one.time))
-    inside = (one for passage in passed for one in passage.stack.calls if one.function == own[0].function)
-    last = max((one.line for one in inside if one.line in range(own[0].line, leaves[-1] + 1)), default=own[0].line)
+    passed = sorted(passed_by(index, Name(call.goroutine)), key=lambda passage: (passage.step, passage.time))
+    inside = (frame for passage in passed for frame in passage.stack.calls if frame.function == own[0].function)
+    last = max(
+        (frame.line for frame in inside if frame.line in range(own[0].line, leaves[-1] + 1)), default=own[0].line
+    )
     later = [number for number in leaves if number >= last] if last > own[0].line else []
     found = later[:1] or leaves
     ways = " and ".join(f"{own[0].file}:{number}" for number in found)

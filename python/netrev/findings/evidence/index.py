@@ -68,14 +68,16 @@ class Index:
     def at(self, step: int) -> Optional[Call]:
         """The innermost call that a step belongs to."""
         begun = back(self.by_goroutine.get(self.recording.step(step).argument("g"), ()), step)
-        return next((one for one in begun if not one.last or one.last >= step), None)
+        return next((call for call in begun if not call.last or call.last >= step), None)
 
     def closing(self, socket: int, until: int, whole: bool = False) -> Optional[Call]:
         """The first call, up to a step, that closed a socket; if not `whole`, a call that closed only the write side
         counts too."""
         if (socket, whole) not in self._closing:
             names = (CLOSE,) if whole else (CLOSE, CLOSE_WRITE)
-            closing = (one for one in self.by_socket.get(socket, ()) if one.name in names and not one.outcome.is_error)
+            closing = (
+                call for call in self.by_socket.get(socket, ()) if call.name in names and not call.outcome.is_error
+            )
             self._closing[socket, whole] = next(closing, None)
         found = self._closing[socket, whole]
         return found if found and found.first <= until else None
@@ -83,18 +85,18 @@ class Index:
     def under_way(self, socket: int, step: int) -> list[Call]:
         """The calls on a socket that began before a step and ended after it."""
         if (socket, step) not in self._under_way:
-            begun = (one for one in self.by_socket.get(socket, ()) if one.first < step < one.last)
+            begun = (call for call in self.by_socket.get(socket, ()) if call.first < step < call.last)
             self._under_way[socket, step] = list(begun)
         return self._under_way[socket, step]
 
     def last_use(self, socket: int, until: int, names: Iterable[str] = MOVING) -> Optional[Call]:
         """The last call on a socket that has one of these names and began no later than a step."""
-        return next((one for one in back(self.by_socket.get(socket, ()), until) if one.name in names), None)
+        return next((call for call in back(self.by_socket.get(socket, ()), until) if call.name in names), None)
 
     def before(self, call: Call) -> Optional[Call]:
         """The goroutine's last call before this one that read, wrote or waited."""
         begun = back(self.by_goroutine[call.goroutine], call.first - 1)
-        return next((one for one in begun if one.name in READING + WRITING), None)
+        return next((earlier for earlier in begun if earlier.name in READING + WRITING), None)
 
     def next_of(self, call: Call) -> Optional[Call]:
         """The next call of the same name by the same goroutine."""
@@ -105,16 +107,16 @@ class Index:
     def inside(self, goroutine: int, position: int) -> Optional[Call]:
         """The innermost call that a goroutine is in at a position."""
         begun = back(self.by_goroutine.get(goroutine, ()), position)
-        return next((one for one in begun if not one.last or one.last > position), None)
+        return next((call for call in begun if not call.last or call.last > position), None)
 
     def is_listening(self, call: Call) -> bool:
         """Whether a call accepts connections. Such a call may wait for a connection that never comes."""
-        return any(one.function in ACCEPTS for one in self.recording.lines.of(call.first).calls)
+        return any(frame.function in ACCEPTS for frame in self.recording.lines.of(call.first).calls)
 
     def moved(self, socket: int, name: str, until: int) -> int:
         """The number of bytes that calls with a name moved on a socket. Only calls that ended by step `until` count."""
         calls = self.by_socket.get(socket, ())
-        return sum(one.moved or 0 for one in calls if one.name == name and 0 < one.last <= until)
+        return sum(call.moved or 0 for call in calls if call.name == name and 0 < call.last <= until)
 
     def under_its_deadline(self, call: Call) -> list[Call]:
         """The calls on the same side of the socket that ended after this call's deadline was set and before this call
@@ -122,7 +124,7 @@ class Index:
         timeouts as calls."""
         side = call.socket, call.name
         if side not in self._ended:
-            calls = (one for one in self.by_socket[call.socket] if one.name == call.name and one.last)
+            calls = (other for other in self.by_socket[call.socket] if other.name == call.name and other.last)
             self._ended[side] = sorted(calls, key=END)
         ended = self._ended[side]
         begin, end = (bisect_right(ended, step, key=END) for step in (call.cause, call.first))
@@ -130,7 +132,7 @@ class Index:
 
     def failed(self, position: int) -> list[Call]:
         """The calls that had failed at a position."""
-        return [one for one in self.book.calls if 0 < one.last <= position and one.outcome.is_error]
+        return [call for call in self.book.calls if 0 < call.last <= position and call.outcome.is_error]
 
 
 def back(calls: Sequence[Call], step: int) -> Iterator[Call]:

@@ -23,25 +23,27 @@ def shared_variables(recording: Recording, file: str) -> list[str]:
     minor = language_of(os.path.dirname(os.path.abspath(file)))
     if minor is None or minor >= FIRST:
         return []
-    made = {
+    statements = {
         known.made for known in recording.lines.goroutines.values() if known.made and known.made.of == OF_THE_PROGRAM
     }
     says = dict[str, None]()
-    for at in sorted((one for one in made if one.file == file), key=lambda one: one.line):
-        lines = source_of(recording, at.file)
-        for head, name in shared_at(lines, at) if lines else ():
+    for statement in sorted(
+        (candidate for candidate in statements if candidate.file == file), key=lambda candidate: candidate.line
+    ):
+        lines = source_of(recording, statement.file)
+        for head, name in shared_at(lines, statement) if lines else ():
             says[
-                f"Perhaps all goroutines started at {at.place()} use the last {name} of the loop at {at.file}:{head}: the module's language is Go "
+                f"Perhaps all goroutines started at {statement.place()} use the last {name} of the loop at {statement.file}:{head}: the module's language is Go "
                 f"1.{minor}, in which they share it."
             ] = None
     return list(says)
 
 
-def shared_at(lines: Lines, made: Call) -> Iterator[tuple[int, str]]:
+def shared_at(lines: Lines, statement: Call) -> Iterator[tuple[int, str]]:
     """The loop around a `go` statement, and the loop's variables that the statement's function literal uses."""
-    text = lines[made.line - 1]
-    within = range_of(lines, made._replace(function=LITERAL.sub("", made.function)))
-    begin = made.line if "go func()" in text else begin_of_literal(lines, made.line)
+    text = lines[statement.line - 1]
+    within = range_of(lines, statement._replace(function=LITERAL.sub("", statement.function)))
+    begin = statement.line if "go func()" in text else begin_of_literal(lines, statement.line)
     if not within or not begin or "go func()" not in lines[begin - 1]:
         return
     head = loop_round(lines, within, begin)

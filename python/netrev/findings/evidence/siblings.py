@@ -83,7 +83,7 @@ def odd_ones(recording: Recording, goids: list[int]) -> Optional[tuple[list[int]
     most = {line: count for line, count in often.items() if len(goids) <= 2 * count < 2 * len(goids)}
     if not most:
         return None
-    line = max(most, key=lambda one: (most[one], -one.line))
+    line = max(most, key=lambda place: (most[place], -place.line))
     return [goid for goid in goids if line not in passed.of(goid)], line
 
 

@@ -41,9 +41,9 @@ def name_of(recording: Recording, call: Call) -> str:
     """The program's name for a call."""
     if call.name in ("WaitWrite", "WaitRead"):
         return "a connect" if call.name == "WaitWrite" and is_connecting(recording.lines.of(call.first)) else call.name
-    for one in recording.lines.of(call.first).calls:
-        if one.function.startswith(POLL):
-            return NAMES.get(one.function.removeprefix(POLL), call.name)
+    for frame in recording.lines.of(call.first).calls:
+        if frame.function.startswith(POLL):
+            return NAMES.get(frame.function.removeprefix(POLL), call.name)
     return call.name
 
 
@@ -99,7 +99,7 @@ def is_of_the_program(stack: Stack) -> bool:
 def is_of_go(recording: Recording, call: Call) -> bool:
     """Whether a call is known to come only from Go's own code, as net/http's read between two requests does."""
     stack = recording.lines.of(call.first)
-    return bool(stack.calls) and all(one.of == OF_GO for one in stack.calls)
+    return bool(stack.calls) and all(frame.of == OF_GO for frame in stack.calls)
 
 
 def is_by_go(recording: Recording, call: Call) -> bool:

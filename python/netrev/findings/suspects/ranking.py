@@ -52,7 +52,7 @@ def found(rules: Iterable[Rule], run: Run) -> list[Suspect]:
 def one_of_each(suspects: list[Suspect]) -> list[Suspect]:
     """The worst suspect of each subject, with the number of the subject's other suspects; worst first."""
     kept: dict[tuple[object, ...], list[Suspect]] = {}
-    for suspect in sorted(suspects, key=lambda one: (-one.weight, one.step)):
+    for suspect in sorted(suspects, key=lambda candidate: (-candidate.weight, candidate.step)):
         kept.setdefault(suspect.subject, []).append(suspect)
     for first, *others in kept.values():
         if others:

@@ -14,8 +14,10 @@ def by_the_notes(notes: Notes) -> Listed:
     facts = Listed()
     facts.lost_wake_ups += lost_wake_ups(notes)
     facts.passed_deadlines += passed_deadlines(notes)
-    for one in notes.timeouts:
-        facts.timeouts[one.step] = of_deadline(one.step, one.goroutine, one.descriptor, one.side, one.due)
+    for timeout in notes.timeouts:
+        facts.timeouts[timeout.step] = of_deadline(
+            timeout.step, timeout.goroutine, timeout.descriptor, timeout.side, timeout.due
+        )
     return facts
 
 

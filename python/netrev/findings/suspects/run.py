@@ -65,7 +65,7 @@ class Run:
 
     def statuses(self, place: str) -> list[tuple[int, list[str]]]:
         """The goroutines whose status at the end begins with this place, each with the rest of its status."""
-        found = ((g, one.status.split()) for g, one in self.notes.goroutines.items())
+        found = ((g, goroutine.status.split()) for g, goroutine in self.notes.goroutines.items())
         return [(g, words) for g, (at, *words) in found if at == place]
 
     def since(self, g: int) -> int:
@@ -74,7 +74,7 @@ class Run:
 
     def inside(self, use: Use, side: str, position: int) -> Optional[int]:
         """The goroutine that is inside the wait of a side; None if no goroutine waits there."""
-        wait = next((one for one in reversed(use.waits[AT[side]]) if one.step <= position), None)
+        wait = next((candidate for candidate in reversed(use.waits[AT[side]]) if candidate.step <= position), None)
         if wait is None:
             return None
         place, *at = self.status(wait.goroutine, position)

@@ -20,7 +20,7 @@ def suspects_table(scout: Scout, recording: Recording, ranked: Optional[Ranked] 
     ranked = ranked or all_suspects_of(recording)
     shown = shown_of(ranked)
     rows = [row for at, suspect in enumerate(shown, 1) for row in _rows(scout, recording, at, suspect)]
-    timeouts = [one for one in ranked.timeouts if not is_by_go(recording, one)]
+    timeouts = [timeout for timeout in ranked.timeouts if not is_by_go(recording, timeout)]
     return Table("suspects", rows, _rest(len(shown), len(ranked.suspects) - len(shown), timeouts))
 
 
@@ -72,11 +72,11 @@ def _evidence(scout: Scout, suspect: Suspect) -> tuple[list[str], list[str]]:
 
 def _lines(recording: Recording, suspect: Suspect) -> list[str]:
     """The program's lines at the suspect's steps, if known."""
-    told = []
+    lines = []
     for number in dict.fromkeys(suspect.steps):
         if words := recording.lines.words(number):
-            told.append(f"step {number}, {recording.step(number).kind}: {words}")
-    return told
+            lines.append(f"step {number}, {recording.step(number).kind}: {words}")
+    return lines
 
 
 def _rest(shown: int, others: int, timeouts: list[Timeout]) -> str:

@@ -41,15 +41,15 @@ def is_in_a_system_call(run: Run, suspect: Suspect) -> bool:
     if not recording.lines:
         return is_about_to_try(run, suspect.step, g)
     holding = {"rwlock": OF_GO, "incref": CONTROLS}.get(recording.step(suspect.step).kind, frozenset[str]())
-    took, last = (call_of_poll(recording, step) for step in (suspect.step, run.notes.goroutines[g].last))
-    return took == last and took in holding
+    entry, last = (call_of_poll(recording, step) for step in (suspect.step, run.notes.goroutines[g].last))
+    return entry == last and entry in holding
 
 
-def is_about_to_try(run: Run, took: int, g: int) -> bool:
+def is_about_to_try(run: Run, step: int, g: int) -> bool:
     """Whether a goroutine's last step is the `pollreset` of the call that took a lock at an earlier step."""
     holds = (hold for holds in run.notes.holds.values() for hold in holds)
     locks = (hold.step for hold in holds if hold.goroutine == g and hold.side)
-    return run.notes.goroutines[g].last == run.notes.goroutines[g].reset and max(locks, default=0) == took
+    return run.notes.goroutines[g].last == run.notes.goroutines[g].reset and max(locks, default=0) == step
 
 
 def is_accepting(recording: Recording, suspect: Suspect) -> bool:

@@ -12,7 +12,7 @@ from netrev.findings.suspects.run import Run
 
 
 def rule(run: Run) -> Iterator[Suspect]:
-    for one in kept(run):
-        if one.is_unevicted(run):
-            how = f"and hasn't evicted its descriptor: {one.pause or one.age}"
-            yield one.suspect(run, how, (Weight.LIKELY, Weight.STRONG))
+    for reference in kept(run):
+        if reference.is_unevicted(run):
+            how = f"and hasn't evicted its descriptor: {reference.pause or reference.age}"
+            yield reference.suspect(run, how, (Weight.LIKELY, Weight.STRONG))

@@ -34,8 +34,10 @@ def left_behind(run: Run, passed: OfDeadline, moved: By) -> Optional[Suspect]:
         return suspect_of(run, passed, use.socket, Weight.POSSIBLE, story, moved.step)
     if set_at <= run.recording.lines.prelude:
         return before_the_recording(run, passed, use)
-    settings = [one for one in use.settings if one.goroutine == g and one.step < passed.step]
-    count, own = sum(one.mode == side for one in settings), [one.step for one in settings if one.mode == other]
+    settings = [setting for setting in use.settings if setting.goroutine == g and setting.step < passed.step]
+    count, own = sum(setting.mode == side for setting in settings), [
+        setting.step for setting in settings if setting.mode == other
+    ]
     if count >= HABIT and own and own[0] > set_at:
         story = (
             f"was set {count} times by goroutine {g}, the last time at step {set_at}; from step {own[0]} on it "
@@ -49,8 +51,8 @@ def before_the_recording(run: Run, passed: OfDeadline, use: Use) -> Optional[Sus
     """The suspect for a deadline that was set before the recording begins. Since then, the other side's deadline must
     have been set alone, and more than once."""
     prelude, other = run.recording.lines.prelude, "w" if passed.side == "r" else "r"
-    since = [one for one in use.settings if prelude < one.step < passed.step]
-    if len(since) < HABIT or any(one.mode != other for one in since):
+    since = [setting for setting in use.settings if prelude < setting.step < passed.step]
+    if len(since) < HABIT or any(setting.mode != other for setting in since):
         return None
     story = (
         f"was set before the recording begins; from step {since[0].step} on the {NAMES[other]} deadline alone was set "

@@ -13,16 +13,16 @@ from netrev.findings.suspects.weighing import of_a_holder
 
 
 def rule(run: Run) -> Iterator[Suspect]:
-    for one in kept(run):
+    for reference in kept(run):
         weights = (Weight.LIKELY, Weight.STRONG)
-        if one.is_gone:
+        if reference.is_gone:
             weights, how = (Weight.STRONG, Weight.CERTAIN), "and is gone"
-        elif one.is_unevicted(run):
+        elif reference.is_unevicted(run):
             continue
-        elif one.pause:
-            how = f"and has done nothing since step {run.notes.goroutines[one.hold.goroutine].last}: {one.pause}"
-        elif one.age and not one.hold.side:
-            weights, how = (Weight.POSSIBLE, Weight.STRONG), f"and has gone on since: {one.age}"
+        elif reference.pause:
+            how = f"and has done nothing since step {run.notes.goroutines[reference.hold.goroutine].last}: {reference.pause}"
+        elif reference.age and not reference.hold.side:
+            weights, how = (Weight.POSSIBLE, Weight.STRONG), f"and has gone on since: {reference.age}"
         else:
             continue
-        yield of_a_holder(run, one.suspect(run, how, weights))
+        yield of_a_holder(run, reference.suspect(run, how, weights))

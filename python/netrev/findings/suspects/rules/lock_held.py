@@ -15,7 +15,7 @@ def rule(run: Run) -> Iterator[Suspect]:
     for g, (s, side) in run.statuses("queued"):
         holder = next((hold for hold in reversed(run.notes.holds.get(int(s), [])) if hold.side == side), None)
         if holder and (how := how_it_is_held(run, holder.goroutine)):
-            cells = [f"gor {one}" for one in (holder.goroutine, g)]
+            cells = [f"gor {goroutine}" for goroutine in (holder.goroutine, g)]
             suspect = Suspect(
                 holder.step,
                 Weight.CERTAIN,

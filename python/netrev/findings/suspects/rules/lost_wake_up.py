@@ -22,7 +22,8 @@ def rule(run: Run) -> Iterator[Suspect]:
     for suspect in (thrown_away(run, use, *both) for use in throwing for both in waits_behind_a_throw(use)):
         throws.setdefault((suspect.goroutine, suspect.descriptor, suspect.step, "r"), []).append(suspect)
     lost: dict[Taken, LostWakeUp] = {
-        (one.goroutine, one.descriptor, one.taken, one.side): one for one in run.facts.lost_wake_ups
+        (wake_up.goroutine, wake_up.descriptor, wake_up.taken, wake_up.side): wake_up
+        for wake_up in run.facts.lost_wake_ups
     }
     for throw, suspects in throws.items():
         about = lost.pop(throw, None)

@@ -10,13 +10,13 @@ from netrev.text.plurals import counted
 
 
 def rule(run: Run) -> Iterator[Suspect]:
-    queued = sorted(run.statuses("queued"), key=lambda one: run.since(one[0]))
+    queued = sorted(run.statuses("queued"), key=lambda status: run.since(status[0]))
     for g, (s, reads, writes) in run.statuses("owing"):
         pause, since = run.stalled(g), run.since(g)
         if not pause:
             continue
         sides = [side for side, owed in (("r", reads), ("w", writes)) if owed != "0"]
-        asleep = [str(one) for side in sides for one, at in queued if at == [s, side]]
+        asleep = [str(goroutine) for side in sides for goroutine, at in queued if at == [s, side]]
         owed = counted(int(reads) + int(writes), "release")
         says = [f"goroutine {g} owes {owed} on socket {s} since step {since}, {pause}"]
         if asleep:

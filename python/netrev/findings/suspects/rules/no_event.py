@@ -13,12 +13,12 @@ def rule(run: Run) -> Iterator[Suspect]:
     for waits in waiting_for_what_came(run):
         if waits.has_event or waits.has_stale_event(run):
             continue
-        d, came, event = waits.use.descriptor, waits.came, waits.use.last_event("r")
+        d, arrival, event = waits.use.descriptor, waits.came, waits.use.last_event("r")
         last = f" (the last at step {event})" if event else ""
-        weight = Weight.LIKELY if run.end - came > JUST_NOW else Weight.SHOWN
-        says = [f"{waits.begins} since step {came}", f"no event came for descriptor {d} after it{last}"]
-        suspect = waits.suspect(run, came, weight, says)
+        weight = Weight.LIKELY if run.end - arrival > JUST_NOW else Weight.SHOWN
+        says = [f"{waits.begins} since step {arrival}", f"no event came for descriptor {d} after it{last}"]
+        suspect = waits.suspect(run, arrival, weight, says)
         cell = f"in {waits.use.socket}"
         suspect.evidence.append(Evidence(run.end, cell, run.notes.now[cell]))
-        suspect.looks, suspect.steps = [f"goto {came}", f"history rg {d}"], [came, waits.since]
+        suspect.looks, suspect.steps = [f"goto {arrival}", f"history rg {d}"], [arrival, waits.since]
         yield suspect

@@ -12,11 +12,11 @@ def rule(run: Run) -> Iterator[Suspect]:
     for waits in waiting_for_what_came(run):
         if not waits.has_stale_event(run):
             continue
-        d, came = waits.use.descriptor, waits.came
+        d, arrival = waits.use.descriptor, waits.came
         step, tag = run.notes.stale[d]
         own = run.notes.now[f"fdseq {d}"]
         dropped = f"the event of step {step} was dropped: its tag is {tag}, and descriptor {d}'s is {own}"
-        suspect = waits.suspect(run, step, Weight.CERTAIN, [f"{waits.begins} since step {came}", dropped])
+        suspect = waits.suspect(run, step, Weight.CERTAIN, [f"{waits.begins} since step {arrival}", dropped])
         suspect.evidence.append(Evidence(run.end, f"fdseq {d}", own))
-        suspect.looks, suspect.steps = [f"goto {step}", f"history fdseq {d}"], [came, step]
+        suspect.looks, suspect.steps = [f"goto {step}", f"history fdseq {d}"], [arrival, step]
         yield suspect

@@ -15,16 +15,16 @@ def rule(run: Run) -> Iterator[Suspect]:
     for hang in graph_at(recording, length).hangs:
         if not (calls := writing_first(hang)):
             continue
-        says = [f"{told(recording, one)} waits on socket {one.socket} since step {one.first}" for one in calls]
+        says = [f"{told(recording, call)} waits on socket {call.socket} since step {call.first}" for call in calls]
         yield Suspect(
-            max(one.first for one in calls),
+            max(call.first for call in calls),
             Weight.STRONG,
             [*says, "each for what the next would do"],
             goroutine=calls[0].goroutine,
             socket=calls[0].socket,
-            evidence=[Evidence(length, f"gor {one.goroutine}") for one in calls],
+            evidence=[Evidence(length, f"gor {call.goroutine}") for call in calls],
             looks=[f"goto {length}", "info hangs"],
-            steps=[one.first for one in calls],
+            steps=[call.first for call in calls],
         )
 
 

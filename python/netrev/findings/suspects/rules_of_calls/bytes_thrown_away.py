@@ -15,18 +15,18 @@ def rule(run: Run) -> Iterator[Suspect]:
     index = run.calls
     if not any(call.name == "Read" and call.outcome is Outcome.TIMED_OUT for call in index.book.calls):
         return
-    asked = asked_of(run.recording)
+    sizes = asked_of(run.recording)
     for call in index.book.calls:
-        late = asked.before(call)
+        late = sizes.before(call)
         if late is None or late.outcome is not Outcome.TIMED_OUT or is_of_go(run.recording, call):
             continue
-        begin = asked.begin_of(late)
-        if begin is not late and asked.of(call) == asked.of(begin):
-            yield suspect_of(run, asked, begin, late, call)
+        begin = sizes.begin_of(late)
+        if begin is not late and sizes.of(call) == sizes.of(begin):
+            yield suspect_of(run, sizes, begin, late, call)
 
 
-def suspect_of(run: Run, asked: Asked, begin: Call, late: Call, call: Call) -> Suspect:
-    whole, rest = asked.of(begin) or 0, asked.of(late) or 0
+def suspect_of(run: Run, sizes: Asked, begin: Call, late: Call, call: Call) -> Suspect:
+    whole, rest = sizes.of(begin) or 0, sizes.of(late) or 0
     says = [
         f"{told(run.recording, call)} asks socket {call.socket} for {counted(whole, 'byte')} anew at step {call.first}",
         f"{counted(whole - rest, 'byte')} that had come since step {begin.first} were thrown away when the Read for the other {rest} timed out "

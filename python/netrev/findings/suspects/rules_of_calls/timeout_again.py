@@ -17,7 +17,7 @@ def rule(run: Run) -> Iterator[Suspect]:
     for calls in index.by_socket.values():
         for name in SIDES:
             row: list[Call] = []
-            for call in (one for one in calls if one.name == name and one.last):
+            for call in (candidate for candidate in calls if candidate.name == name and candidate.last):
                 if not row or not is_next(row[-1], call):
                     row = []
                 row.append(call)

@@ -15,7 +15,7 @@ def rule(run: Run) -> Iterator[Suspect]:
     for socket, calls in index.by_socket.items():
         if index.other_end(socket) is None:
             continue
-        reads = [one for one in calls if one.name == "Read" and went_well(one)]
+        reads = [call for call in calls if call.name == "Read" and went_well(call)]
         for first, second in zip(reads, reads[1:]):
             overlap = first.goroutine != second.goroutine and second.first < first.last
             if overlap and not is_of_go(index.recording, first) and not is_of_go(index.recording, second):
