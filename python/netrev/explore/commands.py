@@ -113,12 +113,12 @@ class Keeping:
         recording, played = self.telling.recording, finding.played
         file = f"{Path(self.session.path).stem}-other-{at}.jsonl"
         data = text_of(played.world, played.world.limits.buf, played.pairs(), recording.has_answers)
-        status, said = answered_by(self.session.program, "check", data)
+        status, output = answered_by(self.session.program, "check", data)
         if status:
-            fault = said.decode("utf-8", "replace").strip()
+            fault = output.decode("utf-8", "replace").strip()
             return [messages.SCHEDULE_REFUSED.format(finding=at, fault=fault)]
-        write_recording(file, self.session.path, data, recording.lines, [made.number for made in played.steps])
-        accepted = said.decode("utf-8", "replace").strip()
+        write_recording(file, self.session.path, data, recording.lines, [step.number for step in played.steps])
+        accepted = output.decode("utf-8", "replace").strip()
         *lines, unless = self.telling.finding(at, finding, times, file)
         lines.append(f"   netrev: {accepted}")
         lines.append(f"   short:  {self._shortened(file, finding)}")
@@ -138,8 +138,8 @@ class Keeping:
         """The target of the reduced recording. The target is the finding's suspect, or the goroutine that hangs after
         both settings of its deadline, or the call that fails, with its cause."""
         if finding.suspect:
-            shown = [one for one in suspects_of(whole).suspects if one.is_shown]
-            subjects = [one.subject for one in shown]
+            shown = [suspect for suspect in suspects_of(whole).suspects if suspect.is_shown]
+            subjects = [suspect.subject for suspect in shown]
             number = subjects.index(finding.suspect.subject) + 1 if finding.suspect.subject in subjects else 1
             return Wanted(number, "", "", whole.length)
         played = finding.played

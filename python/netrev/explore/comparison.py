@@ -36,32 +36,32 @@ class Numbered(NamedTuple):
         return timer.when, use, timer.side, timer.function, timer.sequence == own
 
 
-def are_alike(one: Numbered, other: Numbered) -> bool:
+def are_alike(state: Numbered, other: Numbered) -> bool:
     """Whether two states continue in the same way."""
-    board, its = one.board, other.board
+    board, its = state.board, other.board
     if board.clock != its.clock or len(board.goroutines) != len(its.goroutines):
         return False
-    if one.numbers.use_of != other.numbers.use_of or one.numbers.sockets.keys() != other.numbers.sockets.keys():
+    if state.numbers.use_of != other.numbers.use_of or state.numbers.sockets.keys() != other.numbers.sockets.keys():
         return False
-    are_same = one.are_the_same(other)
+    are_same = state.are_the_same(other)
     return (
-        ((are_same and board.goroutines == its.goroutines) or _have_alike_statuses(one, other, are_same))
-        and ((are_same and board.sockets == its.sockets) or _have_alike_sockets(one, other))
-        and ((are_same and board.descs == its.descs) or _have_alike_descriptors(one, other))
-        and [one.timer(timer) for timer in board.timers] == [other.timer(timer) for timer in its.timers]
-        and [one.timer(timer) for timer in board.firings] == [other.timer(timer) for timer in its.firings]
+        ((are_same and board.goroutines == its.goroutines) or _have_alike_statuses(state, other, are_same))
+        and ((are_same and board.sockets == its.sockets) or _have_alike_sockets(state, other))
+        and ((are_same and board.descs == its.descs) or _have_alike_descriptors(state, other))
+        and [state.timer(timer) for timer in board.timers] == [other.timer(timer) for timer in its.timers]
+        and [state.timer(timer) for timer in board.firings] == [other.timer(timer) for timer in its.firings]
     )
 
 
-def _have_alike_statuses(one: Numbered, other: Numbered, are_same: bool) -> bool:
-    pairs = zip(one.board.goroutines, other.board.goroutines)
-    return all(one.status(status) == other.status(its) for status, its in pairs if status is not its or not are_same)
+def _have_alike_statuses(state: Numbered, other: Numbered, are_same: bool) -> bool:
+    pairs = zip(state.board.goroutines, other.board.goroutines)
+    return all(state.status(status) == other.status(its) for status, its in pairs if status is not its or not are_same)
 
 
-def _have_alike_sockets(one: Numbered, other: Numbered) -> bool:
+def _have_alike_sockets(state: Numbered, other: Numbered) -> bool:
     """Whether all sockets are the same, except sockets that are dead in both states."""
-    sockets, its_sockets = one.board.sockets, other.board.sockets
-    for which, number in one.numbers.sockets.items():
+    sockets, its_sockets = state.board.sockets, other.board.sockets
+    for which, number in state.numbers.sockets.items():
         socket, its = sockets[number], its_sockets[other.numbers.sockets[which]]
         if socket is not its and socket != its and not (_is_dead(socket) and _is_dead(its)):
             return False
@@ -73,10 +73,10 @@ def _is_dead(socket: Socket) -> bool:
     return socket.lock.closed and not socket.lock.references and not any(socket.queues)
 
 
-def _have_alike_descriptors(one: Numbered, other: Numbered) -> bool:
-    descs, its_descs = one.board.descs, other.board.descs
-    for use in one.numbers.use_of.values():
-        desc, its = descs[one.numbers.descriptors[use]], its_descs[other.numbers.descriptors[use]]
+def _have_alike_descriptors(state: Numbered, other: Numbered) -> bool:
+    descs, its_descs = state.board.descs, other.board.descs
+    for use in state.numbers.use_of.values():
+        desc, its = descs[state.numbers.descriptors[use]], its_descs[other.numbers.descriptors[use]]
         if desc is not its and _desc(desc) != _desc(its):
             return False
     return True

@@ -7,7 +7,7 @@ from typing import Any, Iterator, NamedTuple, Optional
 
 from netrev.run.flow import Sort
 
-from .scripts.runs import Delay, Made
+from .scripts.runs import AnsweredStep, Delay
 from .scripts.scripts import Operation, Script
 
 FAILS = "a call that fails"
@@ -52,9 +52,9 @@ class Reason(NamedTuple):
     served: int
 
 
-def fault_of(made: Made) -> Optional[Why]:
+def fault_of(step: AnsweredStep) -> Optional[Why]:
     """Why a call fails at this step."""
-    return FAULTS.get(made.step[0], {}).get(made.answer)
+    return FAULTS.get(step.step[0], {}).get(step.answer)
 
 
 def watched(script: Script) -> Watched:
@@ -85,20 +85,26 @@ def failing_delays(script: Script) -> list[Delay]:
     for (g, at), begins in script.watched.items():
         operation = script.goroutines[g][at]
         if at == begins:
-            later = (one.steps[0] for who, one in closes.get(operation.socket, []) if who != g)
+            later = (close.steps[0] for goroutine, close in closes.get(operation.socket, []) if goroutine != g)
             found += _until(operation.steps[0], later)
         elif operation.sort is Sort.RESET:
             number = operation.steps[0]
-            own = [(who, one) for who, one in sets.get(operation.socket, []) if operation.side in one.side]
-            found += _until(number, (one.steps[0] for who, one in own if who != g and one.values[0] < 0))
+            own = [
+                (goroutine, setting)
+                for goroutine, setting in sets.get(operation.socket, [])
+                if operation.side in setting.side
+            ]
+            found += _until(
+                number, (setting.steps[0] for goroutine, setting in own if goroutine != g and setting.values[0] < 0)
+            )
             before = ends.get((operation.socket, operation.side), set())
-            if _is_of_an_earlier_call(number, [one for _, one in own], before):
+            if _is_of_an_earlier_call(number, [setting for _, setting in own], before):
                 found.append(Delay(number, script.length + 1))
     return sorted(found, key=lambda delay: delay.until - delay.before)
 
 
 def _until(before: int, later: Iterator[int]) -> list[Delay]:
-    return [Delay(before, number) for number in sorted(one for one in later if one > before)[:1]]
+    return [Delay(before, number) for number in sorted(number for number in later if number > before)[:1]]
 
 
 def _of_socket(script: Script, sort: Sort) -> dict[int, list[tuple[int, Operation]]]:
@@ -114,7 +120,7 @@ def _of_socket(script: Script, sort: Sort) -> dict[int, list[tuple[int, Operatio
 def _is_of_an_earlier_call(number: int, sets: list[Operation], ends: set[int]) -> bool:
     """Whether a call had already succeeded under the last deadline that was set before a step. The result is False if
     that setting removed the deadline or set it in the past."""
-    last = bisect_left([one.steps[0] for one in sets], number) - 1
+    last = bisect_left([setting.steps[0] for setting in sets], number) - 1
     if last < 0 or sets[last].values[0] <= 0:
         return False
     since = sets[last].steps[0]
@@ -130,7 +136,7 @@ def ends_of(script: Script) -> dict[tuple[int, str], set[int]]:
     return found
 
 
-def reason_of(script: Script, failed: Failed, steps: list[Made]) -> Optional[Reason]:
+def reason_of(script: Script, failed: Failed, steps: list[AnsweredStep]) -> Optional[Reason]:
     """The reason why a call failed in a schedule. The result is None if no step explains the failure, or if the
     failure isn't worth reporting because a future deadline was set for this call alone. Such a deadline would pass in
     the recorded order too if the bytes came late."""
@@ -144,11 +150,11 @@ def reason_of(script: Script, failed: Failed, steps: list[Made]) -> Optional[Rea
     if steps[at - 1].step[4] <= 0:
         return Reason(at, 0)
     ends = ends_of(script).get((call.socket, call.side), set())
-    served = sum(made.number in ends for made in steps[at : failed.step])
+    served = sum(step.number in ends for step in steps[at : failed.step])
     return Reason(at, served) if served else None
 
 
-def stays_of(script: Script, failed: Failed, reason: Reason, steps: list[Made]) -> tuple[int, ...]:
+def stays_of(script: Script, failed: Failed, reason: Reason, steps: list[AnsweredStep]) -> tuple[int, ...]:
     """The steps of a schedule that explain a failed call: the cause, the end of the last call that succeeded under
     that deadline, and the failure."""
     call = script.goroutines[failed.goroutine][failed.begins]
@@ -171,8 +177,8 @@ def faults_of(script: Script) -> Iterator[tuple[int, int, Why]]:
     for g, operations in enumerate(script.goroutines):
         for begins, operation in enumerate(operations):
             if operation.sort is Sort.LOCK and operation.steps:
-                for one in operations[begins : operation.on_failure]:
-                    yield from ((g, begins, why) for why in _faults(script, one))
+                for part in operations[begins : operation.on_failure]:
+                    yield from ((g, begins, why) for why in _faults(script, part))
 
 
 def _faults(script: Script, operation: Operation) -> Iterator[Why]:

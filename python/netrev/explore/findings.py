@@ -19,7 +19,7 @@ from .player import Player
 from .schedules import Schedule, schedules, single_delays
 from .scripts.arrivals import with_events
 from .scripts.control import Place
-from .scripts.runs import Delay, ImpossibleScheduleError, Made
+from .scripts.runs import AnsweredStep, Delay, ImpossibleScheduleError
 from .scripts.scripts import Script
 
 COPIES, MOST_COPIES = 200, 2_000  # the number of copies of the recorded run from which schedules continue
@@ -34,7 +34,7 @@ Key = tuple[Any, ...]
 class Played(NamedTuple):
     """A schedule that was run, with its steps and the numbers of its objects."""
 
-    steps: list[Made]
+    steps: list[AnsweredStep]
     world: World
     places: list[Place]
     sockets: dict[int, int]  # the numbers of sockets, keyed by their numbers in the recording
@@ -42,7 +42,7 @@ class Played(NamedTuple):
     failed: Optional[Failed] = None
 
     def pairs(self) -> list[tuple[Step, Answer]]:
-        return [(made.step, made.answer) for made in self.steps]
+        return [(step.step, step.answer) for step in self.steps]
 
 
 class Finding(NamedTuple):
@@ -154,7 +154,7 @@ class Exploring:
             if not player.has_news:
                 if player.is_as(copy):
                     return None
-            elif player.made() <= copy.made() + self.script.length and player.is_the_same_as(copy):
+            elif player.step_count() <= copy.step_count() + self.script.length and player.is_the_same_as(copy):
                 return self._with_the_rest(player, copy)
         player.end(self._most)
         return self._all_of(player)
@@ -177,8 +177,8 @@ class Exploring:
         if self.script.watched:
             yield from self._failure(schedule, played)
             return
-        ranked = suspects_of(PlayedSteps(made.step for made in played.steps))
-        suspects = [one for one in ranked.suspects if self._counts(one, played)]
+        ranked = suspects_of(PlayedSteps(step.step for step in played.steps))
+        suspects = [suspect for suspect in ranked.suspects if self._counts(suspect, played)]
         for suspect in suspects:
             yield Finding(self._key(suspect, played), suspect, -1, schedule, played)
         named = {suspect.goroutine for suspect in suspects}

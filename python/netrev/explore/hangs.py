@@ -8,7 +8,7 @@ from netrev.machine.machine import SIDES, Status, World
 from netrev.run.flow import Sort
 
 from .scripts.control import Place
-from .scripts.runs import Made
+from .scripts.runs import AnsweredStep
 from .scripts.scripts import Operation, Script
 
 TIMED_OUT = ("code", 2)
@@ -19,13 +19,13 @@ def waits_for_ever(status: Status, world: World) -> bool:
     return not world.descs[status[1]].deadlines[SIDES.index(status[2])]
 
 
-def hangs(script: Script, g: int, place: Place, world: World, steps: list[Made]) -> bool:
+def hangs(script: Script, g: int, place: Place, world: World, steps: list[AnsweredStep]) -> bool:
     """Whether a goroutine hangs at its place after these steps."""
     status = world.goroutines[g]
     if status[0] != "parked" or not waits_for_ever(status, world):
         return False
     ended = ended_by(script, g, place)
-    return ended is not None and any(made.number == ended for made in steps)
+    return ended is not None and any(step.number == ended for step in steps)
 
 
 def ended_by(script: Script, g: int, place: Place) -> Optional[int]:
@@ -33,7 +33,7 @@ def ended_by(script: Script, g: int, place: Place) -> Optional[int]:
     way."""
     operations = script.goroutines[g]
     operation = operations[place.operation]
-    last = next((one.steps[-1] for one in reversed(operations[: place.operation + 1]) if one.steps), 0)
+    last = next((part.steps[-1] for part in reversed(operations[: place.operation + 1]) if part.steps), 0)
     if not last or script.answers[last - 1] != TIMED_OUT:
         return None
     return max((number for number in _sets(script, operation) if number < last), default=None)
@@ -42,16 +42,19 @@ def ended_by(script: Script, g: int, place: Place) -> Optional[int]:
 def _sets(script: Script, operation: Operation) -> list[int]:
     """The steps that set a deadline for the side on which an operation waits."""
     return [
-        one.steps[0]
+        setting.steps[0]
         for operations in script.goroutines
-        for one in operations
-        if one.sort is Sort.SET and one.steps and one.use == operation.use and operation.side in one.side
+        for setting in operations
+        if setting.sort is Sort.SET
+        and setting.steps
+        and setting.use == operation.use
+        and operation.side in setting.side
     ]
 
 
-def moved_by(script: Script, g: int, place: Place, steps: list[Made]) -> tuple[int, int]:
+def moved_by(script: Script, g: int, place: Place, steps: list[AnsweredStep]) -> tuple[int, int]:
     """Two of the steps before a goroutine hangs: the step that set the deadline which ended its call in the recording,
     and the step that moved this deadline."""
     ended, sets = ended_by(script, g, place), set(_sets(script, script.goroutines[g][place.operation]))
-    set_at = next(at for at, made in enumerate(steps, 1) if made.number == ended)
-    return set_at, max(at for at, made in enumerate(steps, 1) if made.number in sets)
+    set_at = next(at for at, step in enumerate(steps, 1) if step.number == ended)
+    return set_at, max(at for at, step in enumerate(steps, 1) if step.number in sets)

@@ -12,7 +12,7 @@ from netrev.text.contents import Answer, Step
 
 from .scripts.control import (
     GOROUTINE,
-    MADE,
+    UNKNOWN,
     NETWORK,
     NEVER,
     MissingObjectError,
@@ -61,7 +61,7 @@ class Player(Standing):
         while True:
             self.run(NEVER, most)
             step = next(self.others.left(self.board, self.numbers), None)
-            if step is None or self.made() >= most or self.is_over:
+            if step is None or self.step_count() >= most or self.is_over:
                 return
             self._apply(step, 0)
 
@@ -77,7 +77,7 @@ class Player(Standing):
             d = self.numbers.descriptors.get(operation.use)
             if d is not None and self.board.descs[d].words["rw".index(operation.side)] == "ready":
                 return False
-        elif operation.cause is None or operation.cause not in self.others.told:
+        elif operation.cause is None or operation.cause not in self.others.events:
             return False
         self.places[g] = Place(place.operation + 1)
         self._passes(g)
@@ -148,7 +148,7 @@ class Player(Standing):
             place = place._replace(destroys=self.numbers.use_of[operation.socket])
         status = self.board.goroutines[g][0]
         self.places[g] = behind(place, operation, step[0], answer, status, self._stream(g, place.operation))
-        if self.places[g].operation != place.operation and place.made < len(operation.steps):
+        if self.places[g].operation != place.operation and place.step_index < len(operation.steps):
             self.off.add(g)
         self.numbers.see(step, answer, operation, self.board)
         if step[0] in MAKING:
@@ -248,11 +248,11 @@ class Player(Standing):
     def _apply(self, step: Step, number: int) -> Answer:
         """Makes a step, and schedules the goroutines that it wakes."""
         try:
-            made = self.board.make(step, number)
+            result = self.board.make(step, number)
         except StepRefusedError as refused:
             raise ImpossibleScheduleError(f"{step}: reason {refused.reason}") from None
-        self.steps.append(made)
-        kind, answer = step[0], made.answer
+        self.steps.append(result)
+        kind, answer = step[0], result.answer
         if answer in NEWS and (not number or self.script.answers[number - 1] != answer):
             self.has_news = True
         if kind in SEEN:
@@ -299,7 +299,7 @@ class Player(Standing):
             if (cause := self.passing.has_still_to_cause(event.number)) is not None:
                 self.passing.wait(cause, actor, which, (self.now, self._at))
                 return True
-        elif actor == MADE and (event.kind != "spawn" or self.script.orders is None):
+        elif actor == UNKNOWN and (event.kind != "spawn" or self.script.orders is None):
             pausing = [(next_number(self.script.goroutines[g], self.places[g]), due) for g, due in self.held.items()]
             until = max((due for first, due in pausing if first < event.number), default=0.0)
             if until:

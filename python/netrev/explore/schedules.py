@@ -52,12 +52,12 @@ class Touched(NamedTuple):
     """A recorded step on a part of a socket, and the step's goroutine (-1: the network or a timer)."""
 
     number: int
-    who: int
+    actor: int
     kind: str
 
     def matters_to(self, other: "Touched") -> bool:
         """Whether the two steps are by different actors and their order may matter."""
-        if self.who == other.who:
+        if self.actor == other.actor:
             return False
         return THING_OF[self.kind] != WAIT or self.kind in TO_OTHERS or other.kind in TO_OTHERS
 
@@ -88,11 +88,11 @@ def single_delays(script: Script) -> list[Delay]:
     """All delays that make a step wait for a later step of another actor, nearest first."""
     by_distance: list[set[Delay]] = [set() for _ in range(NEAR)]
     for steps in touched(script).values():
-        for at, one in enumerate(steps):
-            if one.who >= 0:
-                others = (other.number for other in steps[at + 1 :] if other.matters_to(one))
+        for at, step in enumerate(steps):
+            if step.actor >= 0:
+                others = (other.number for other in steps[at + 1 :] if other.matters_to(step))
                 for distance, number in enumerate(islice(others, NEAR)):
-                    by_distance[distance].add(Delay(one.number, number))
+                    by_distance[distance].add(Delay(step.number, number))
     return list(dict.fromkeys([*(delay for delays in by_distance for delay in sorted(delays)), *_late_delays(script)]))
 
 
@@ -101,8 +101,8 @@ def _late_delays(script: Script) -> Iterator[Delay]:
     deadline was then moved alone."""
     sets = sorted(_of_sort(script, Sort.SET))
     for number, reset in sorted(_of_sort(script, Sort.RESET)):
-        before = [(at, one) for at, one in sets if at < number and one.use == reset.use]
-        own = [(at, one) for at, one in before if reset.side in one.side]
+        before = [(at, setting) for at, setting in sets if at < number and setting.use == reset.use]
+        own = [(at, setting) for at, setting in before if reset.side in setting.side]
         if own and own[-1][1].side == "rw" and own[-1][1].values[0] > 0 and own[-1][0] < before[-1][0]:
             yield Delay(number, script.length + 1)
 

@@ -75,8 +75,8 @@ class Telling:
         """The lines about a finding that was written to a file, except netrev's answer."""
         lines = [f"{at}. {self._head(finding, file)}"]
         delays = finding.schedule.delays
-        for one in delays:
-            lines.append(f"   {'and ' if one != delays[0] else ''}{self.delay(one)}")
+        for delay in delays:
+            lines.append(f"   {'and ' if delay != delays[0] else ''}{self.delay(delay)}")
         for number in dict.fromkeys(number for delay in delays for number in delay):
             if words := self.recording.lines.words(number):
                 lines.append(f"   Go:     step {number}, {self.recording.step(number).kind}: {words}")
@@ -92,7 +92,7 @@ class Telling:
             return f"{finding.suspect.rule}, in {file}: {finding.suspect.sentence()}"
         g = finding.hangs
         operation = self.script.goroutines[g][finding.played.places[g].operation]
-        before = [one for one in self.script.goroutines[g][: finding.played.places[g].operation + 1] if one.steps]
+        before = [part for part in self.script.goroutines[g][: finding.played.places[g].operation + 1] if part.steps]
         call = self.call_of(g, before[-1].steps[0]) if before else None
         named = self._named(call) if call else f"a call on socket {operation.socket}"
         ended = f", which ended with {call.outcome.value!r} in the recording," if call else ""
@@ -106,8 +106,8 @@ class Telling:
         call = self.call_of(failed.goroutine, first.steps[0])
         named = self._named(call) if call else f"a call on socket {first.socket}"
         steps = f"steps {call.first} to {call.last}" if call else f"from step {first.steps[0]} on"
-        said = f"goroutine {failed.goroutine}'s {named}, which went well in the recording ({steps}), fails at step {failed.step}"
-        return f"{said}: {self._why(failed.why, reason, finding)}"
+        sentence = f"goroutine {failed.goroutine}'s {named}, which went well in the recording ({steps}), fails at step {failed.step}"
+        return f"{sentence}: {self._why(failed.why, reason, finding)}"
 
     def _why(self, why: Why, reason: Reason, finding: Finding) -> str:
         if why is Why.BROKEN:
@@ -127,9 +127,11 @@ def summary(exploring: Exploring, seconds: float, is_stopped: bool) -> str:
     if exploring.seed:
         how += f"; two and three: seeds 1 to {exploring.seed}"
     stopped = "stopped: " if is_stopped else ""
-    said = f"{stopped}{counted(exploring.played, 'schedule')} near the recorded one in {seconds:.1f} s ({how})"
+    sentence = f"{stopped}{counted(exploring.played, 'schedule')} near the recorded one in {seconds:.1f} s ({how})"
     if exploring.taken_over:
-        said += f"; {exploring.taken_over} of the processes that played them ended early, and nrdb played the rest"
+        sentence += f"; {exploring.taken_over} of the processes that played them ended early, and nrdb played the rest"
     if exploring.left:
-        said += f"; in {exploring.left} of them a step didn't apply"
-    return f"{said}; {counted(len(exploring.found), 'finding')}" if exploring.found else f"{said}; nothing found"
+        sentence += f"; in {exploring.left} of them a step didn't apply"
+    return (
+        f"{sentence}; {counted(len(exploring.found), 'finding')}" if exploring.found else f"{sentence}; nothing found"
+    )

@@ -14,7 +14,7 @@ from .scripts.actors import Others
 from .scripts.board import Board
 from .scripts.control import GOROUTINE, Numbers, Place, Stream, next_step
 from .scripts.orders import Passing
-from .scripts.runs import Delay, Made
+from .scripts.runs import AnsweredStep, Delay
 from .scripts.scripts import Script
 
 Due = tuple[float, int, int, int]  # a time, the order among the actions at that time, the actor, and the actor's number
@@ -46,7 +46,7 @@ class Standing:
         self.turns: dict[int, Turn] = {}  # turns of the recorded run, by the numbers of their steps
         self.numbers = Numbers()
         self.before = 0  # the number of steps that the copied player had made
-        self.steps: list[Made] = []  # the steps after those of the copied player
+        self.steps: list[AnsweredStep] = []  # the steps after those of the copied player
         self.places = [Place() for _ in script.goroutines]
         self.passing = Passing(script.orders, script.causes, self.places)
         self.following: dict[int, Step] = {}  # the next step of each goroutine that is scheduled
@@ -68,17 +68,17 @@ class Standing:
 
     def copy(self: Itself, delays: tuple[Delay, ...]) -> Itself:
         """A copy of the state, from which a run continues under other delays."""
-        made = object.__new__(type(self))
-        made.__dict__.update(self.__dict__)
-        made.until = {delay.before: delay.until + 0.5 for delay in delays}
-        made.board, made.numbers, made.others = self.board.copy(), self.numbers.copy(), self.others.copy()
-        made.before, made.steps, made.places = self.made(), [], list(self.places)
-        made.held, made.asleep, made.lacking = dict(self.held), set(self.asleep), list(self.lacking)
-        made.off, made.following, made.coming = set(self.off), dict(self.following), list(self.coming)
-        made.passing = self.passing.copy(made.places)
-        made._heap = list(self._heap)
-        made._hold()
-        return made
+        copy = object.__new__(type(self))
+        copy.__dict__.update(self.__dict__)
+        copy.until = {delay.before: delay.until + 0.5 for delay in delays}
+        copy.board, copy.numbers, copy.others = self.board.copy(), self.numbers.copy(), self.others.copy()
+        copy.before, copy.steps, copy.places = self.step_count(), [], list(self.places)
+        copy.held, copy.asleep, copy.lacking = dict(self.held), set(self.asleep), list(self.lacking)
+        copy.off, copy.following, copy.coming = set(self.off), dict(self.following), list(self.coming)
+        copy.passing = self.passing.copy(copy.places)
+        copy._heap = list(self._heap)
+        copy._hold()
+        return copy
 
     def _hold(self) -> None:
         """Delays the next step of each goroutine that has a delay before that step."""
@@ -110,21 +110,21 @@ class Standing:
             and self.others.is_the_same_as(other.others)
             and (self.asleep, self.lacking) == (other.asleep, other.lacking)
             and self.passing.is_as(other.passing)
-            and [one[2:] for one in sorted(self._heap)] == [one[2:] for one in sorted(other._heap)]
+            and [due[2:] for due in sorted(self._heap)] == [due[2:] for due in sorted(other._heap)]
             and self.following == other.following
             and all(self.coming[g] == other.coming[g] for g in self.following)
         )
 
     def _watch(self, g: int, place: Place) -> None:
         """Records the first watched call that fails, and the end of that call."""
-        made = self.steps[-1]
+        step = self.steps[-1]
         begins = self.script.watched.get((g, place.operation))
-        if self.failed is None and begins is not None and (why := fault_of(made)):
-            self.failed, self.has_news = Failed(g, begins, self.made(), why), True
+        if self.failed is None and begins is not None and (why := fault_of(step)):
+            self.failed, self.has_news = Failed(g, begins, self.step_count(), why), True
         if self.failed and self.failed.goroutine == g:
-            self.is_over = made.step[0] in OVER or made.answer == ("no",)
+            self.is_over = step.step[0] in OVER or step.answer == ("no",)
 
-    def made(self) -> int:
+    def step_count(self) -> int:
         """The number of steps made."""
         return self.before + len(self.steps)
 

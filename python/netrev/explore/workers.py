@@ -38,7 +38,7 @@ class Best(NamedTuple):
         return min(self, other)._replace(first=min(self.first, other.first))
 
 
-class Told(NamedTuple):
+class Report(NamedTuple):
     """The findings of a process since its last report, and whether this is its final report."""
 
     is_all: bool
@@ -64,8 +64,8 @@ class Share(NamedTuple):
         mine = islice(enumerate(schedules(exploring.delays, self.most)), self.which + behind * self.of, None, self.of)
         for at, schedule in mine:
             for key in exploring.play(schedule):
-                one = Best(schedule.measure(), at, at, schedule)
-                best[key] = one.with_other(best.get(key, one))
+                candidate = Best(schedule.measure(), at, at, schedule)
+                best[key] = candidate.with_other(best.get(key, candidate))
             yield
 
 
@@ -86,14 +86,14 @@ def play_all(exploring: Exploring, share: Share, tell: Callable[[], None]) -> No
         workings = [stack.enter_context(Working()) for _ in range(share.of)]
         for which, working in enumerate(workings):
             working.give(share._replace(which=which))
-            selector.register(working.told, EVENT_READ, working)
+            selector.register(working.output, EVENT_READ, working)
         while selector.get_map():
             for key, _ in selector.select(SECONDS):
                 if not key.data.hear(exploring, best):
                     selector.unregister(key.fileobj)
             tell()
         for working in workings:
-            if not working.has_told_all:
+            if not working.has_reported_all:
                 exploring.taken_over += 1
                 for _ in working.share.play(exploring, best, working.played):
                     tell()
@@ -102,8 +102,8 @@ def play_all(exploring: Exploring, share: Share, tell: Callable[[], None]) -> No
 def _keep(exploring: Exploring, best: dict[Key, Best]) -> None:
     """Runs the simplest schedule of each finding again."""
     exploring.found.clear()
-    for key, one in sorted(best.items(), key=lambda item: item[1].first):
-        exploring.keep(key, one.schedule)
+    for key, simplest in sorted(best.items(), key=lambda item: item[1].first):
+        exploring.keep(key, simplest.schedule)
 
 
 class Working:
@@ -113,9 +113,9 @@ class Working:
         words = [sys.executable, "-c", CODE]
         self.process = subprocess.Popen(words, stdin=subprocess.PIPE, stdout=subprocess.PIPE, start_new_session=True)
         assert self.process.stdin and self.process.stdout
-        self.given, self.told = self.process.stdin, self.process.stdout
+        self.given, self.output = self.process.stdin, self.process.stdout
         self.played = 0
-        self.has_told_all = False
+        self.has_reported_all = False
 
     def give(self, share: Share) -> None:
         """Sends the process its share. By then all processes have been started."""
@@ -125,20 +125,20 @@ class Working:
 
     def hear(self, exploring: Exploring, best: dict[Key, Best]) -> bool:
         """Reads a report. Returns False if the process has ended, perhaps in the middle of a report."""
-        head = self.told.read(LENGTH)
+        head = self.output.read(LENGTH)
         size = int.from_bytes(head, "big")
-        data = self.told.read(size) if len(head) == LENGTH else b""
+        data = self.output.read(size) if len(head) == LENGTH else b""
         if not size or len(data) < size:
             return False
-        told: Told = pickle.loads(data)
-        self.has_told_all = told.is_all
-        self.played += told.played
-        exploring.played += told.played
-        exploring.left += told.left
-        exploring.seed = max(exploring.seed, told.seed)
-        exploring.times.update(told.times)
-        for key, one in told.best.items():
-            best[key] = one.with_other(best.get(key, one))
+        report: Report = pickle.loads(data)
+        self.has_reported_all = report.is_all
+        self.played += report.played
+        exploring.played += report.played
+        exploring.left += report.left
+        exploring.seed = max(exploring.seed, report.seed)
+        exploring.times.update(report.times)
+        for key, candidate in report.best.items():
+            best[key] = candidate.with_other(best.get(key, candidate))
         return True
 
     def __enter__(self) -> "Working":
@@ -146,7 +146,7 @@ class Working:
 
     def __exit__(self, *_: object) -> None:
         self.process.kill()
-        self.told.close()
+        self.output.close()
         self.given.close()
         self.process.wait()
 
@@ -178,8 +178,8 @@ def tell_of(share: Share, to: IO[bytes]) -> None:
 
 def _say(to: IO[bytes], exploring: Exploring, best: dict[Key, Best], is_all: bool) -> None:
     """Reports the findings since the last report."""
-    told = Told(is_all, exploring.played, exploring.left, exploring.seed, dict(exploring.times), dict(best))
-    data = pickle.dumps(told)
+    report = Report(is_all, exploring.played, exploring.left, exploring.seed, dict(exploring.times), dict(best))
+    data = pickle.dumps(report)
     to.write(len(data).to_bytes(LENGTH, "big") + data)
     to.flush()
     exploring.played = exploring.left = 0

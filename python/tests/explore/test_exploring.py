@@ -136,7 +136,7 @@ class Scripts(unittest.TestCase):
 class Delays(unittest.TestCase):
     def test_who_stands_still_does_so_until_a_step_of_others_about_the_same_thing(self) -> None:
         script = script_at("real/hijacked")
-        who = {step.number: step.who for steps in touched(script).values() for step in steps}
+        who = {step.number: step.actor for steps in touched(script).values() for step in steps}
         things: dict[int, set[Any]] = {}
         for thing, steps in touched(script).items():
             for step in steps:

@@ -14,7 +14,7 @@ from netrev.explore.schedules import Schedule, schedules
 from netrev.explore.scripts.board import Board
 from netrev.explore.scripts.control import GOROUTINE, Place
 from netrev.explore.scripts.making import script_of
-from netrev.explore.scripts.runs import Delay, ImpossibleScheduleError, Made
+from netrev.explore.scripts.runs import AnsweredStep, Delay, ImpossibleScheduleError
 from netrev.machine.machine import Status
 from netrev.machine.steps import apply
 from netrev.recording.recording import Recording
@@ -32,9 +32,9 @@ TRAFFIC, LENGTH = (720, 726), 400  # seeds, and the length of their recordings
 class PlainBoard(Board):
     """A board whose machine makes each step. Each answer and state is compared with the model's."""
 
-    def make(self, step: Step, number: int) -> Made:
+    def make(self, step: Step, number: int) -> AnsweredStep:
         behind = apply(self.world(), step)
-        made = Made(step, self.step(step), number)
+        made = AnsweredStep(step, self.step(step), number)
         assert (self.world(), made.answer) == behind
         return made
 

@@ -58,7 +58,7 @@ class Workers(unittest.TestCase):
             with patch.object(workers, "Working", begun), patch.object(workers, "SECONDS", 0.01):
                 several = self.played(3, kill)
             with self.subTest(which):
-                self.assertFalse(made[which].has_told_all)
+                self.assertFalse(made[which].has_reported_all)
                 self.assertEqual((several.played, several.left, several.seed), (MOST, one.left, one.seed))
                 self.assertEqual((several.times, list(several.found)), (one.times, list(one.found)))
                 self.assertIn("1 of the processes that played them ended early", summary(several, 1.0, False))

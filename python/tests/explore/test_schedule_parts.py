@@ -17,9 +17,9 @@ from netrev.explore.scripts.board import Board
 from netrev.explore.scripts.control import CLOCK, GOROUTINE, NETWORK, NEVER, MissingObjectError, Numbers, Place
 from netrev.explore.scripts.making import script_of
 from netrev.explore.scripts.orders import Passing, Waiting, causes_of, orders_of
-from netrev.explore.scripts.runs import Delay, Made
+from netrev.explore.scripts.runs import AnsweredStep, Delay
 from netrev.explore.scripts.scripts import Cause, Item, Operation, Order, Script
-from netrev.explore.workers import LENGTH, Best, Share, Told, tell_of
+from netrev.explore.workers import LENGTH, Best, Share, Report, tell_of
 from netrev.reduce.events import Event
 from netrev.run.flow import Sort
 from netrev.text.contents import Limits, Step
@@ -382,9 +382,11 @@ def test_the_delays_in_which_a_call_may_fail(steps: Steps, delays: list[Delay]) 
     assert failing_delays(script) == delays
 
 
-def made_of(numbers: list[int], time: int) -> list[Made]:
+def made_of(numbers: list[int], time: int) -> list[AnsweredStep]:
     """The steps of a schedule, by their numbers in the recording: step 5 sets a deadline at this time."""
-    return [Made(("setdeadline", 0, 0, "r", time) if one == 5 else ("tick", one), ("done",), one) for one in numbers]
+    return [
+        AnsweredStep(("setdeadline", 0, 0, "r", time) if one == 5 else ("tick", one), ("done",), one) for one in numbers
+    ]
 
 
 @pytest.mark.parametrize(
@@ -441,7 +443,7 @@ def test_a_process_reports_all_that_it_found() -> None:
     whole.run(30, lambda: None)
     out = io.BytesIO()
     tell_of(Share(script, recording.lines, 30, 0, 1), out)
-    data, told = out.getvalue(), list[Told]()
+    data, told = out.getvalue(), list[Report]()
     while data:
         size = int.from_bytes(data[:LENGTH], "big")
         told.append(pickle.loads(data[LENGTH : LENGTH + size]))
@@ -477,7 +479,7 @@ def test_an_actor_that_has_done_everything_has_no_next_action() -> None:
         assert action and action.event.kind == kind
         others.done(NETWORK, 0, action)
     assert others.next(NETWORK, 0) is None
-    assert others.told == {5} and others.next(CLOCK, 0) is not None
+    assert others.events == {5} and others.next(CLOCK, 0) is not None
 
 
 def test_goroutines_that_are_not_known_make_sockets() -> None:
@@ -486,7 +488,7 @@ def test_goroutines_that_are_not_known_make_sockets() -> None:
     script = script_of(
         recording_of(OPEN + opens + [["arrive", 1, "61"], ["pollevent", 1, 1, "r", 0], ["drain", 2, 0]][:2])
     )
-    assert [(item.due, item.event.kind) for item in script.made] == [(1, "spawn"), (4, "sockopen")]
+    assert [(item.due, item.event.kind) for item in script.creations] == [(1, "spawn"), (4, "sockopen")]
     assert [(one.sort, one.socket) for one in script.goroutines[0]] == [(Sort.MAKE, 0), (Sort.OPEN, 0)]
     assert [(one.sort, one.socket) for one in script.goroutines[1][:2]] == [(Sort.MAKE, 2), (Sort.OPEN, 2)]
     assert {s: [item.event.kind for item in row] for s, row in script.network.items()} == {

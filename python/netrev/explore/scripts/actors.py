@@ -7,7 +7,7 @@ from typing import Iterator, Optional
 from netrev.text.contents import Step
 
 from .board import Board
-from .control import CLOCK, MADE, NETWORK, MissingObjectError, Numbers
+from .control import CLOCK, UNKNOWN, NETWORK, MissingObjectError, Numbers
 from .scripts import Item, Script
 
 MOST_TRIES = 200
@@ -19,17 +19,17 @@ class Others:
     def __init__(self, script: Script) -> None:
         self.script = script
         self.places: dict[tuple[int, int], int] = defaultdict(int)
-        self.told: set[int] = set()  # the events that have come, by their numbers in the recording
+        self.events: set[int] = set()  # the events that have come, by their numbers in the recording
         # for a socket's number and side, whether bytes, space or a close came that no event has reported yet
         self.fresh: dict[tuple[int, str], bool] = {}
         self.closed: set[int] = set()  # the numbers of sockets on which no goroutine can begin to wait any more
         self.tries: dict[int, int] = {}
 
     def copy(self) -> "Others":
-        made = Others(self.script)
-        made.places, made.told = defaultdict(int, self.places), set(self.told)
-        made.fresh, made.tries, made.closed = dict(self.fresh), dict(self.tries), set(self.closed)
-        return made
+        copy = Others(self.script)
+        copy.places, copy.events = defaultdict(int, self.places), set(self.events)
+        copy.fresh, copy.tries, copy.closed = dict(self.fresh), dict(self.tries), set(self.closed)
+        return copy
 
     def is_as(self, other: "Others") -> bool:
         """Whether both have made the same progress."""
@@ -37,8 +37,8 @@ class Others:
 
     def is_the_same_as(self, other: "Others") -> bool:
         """Whether both continue in exactly the same way."""
-        mine = self.places, self.told, self.fresh, self.closed, self.tries
-        return mine == (other.places, other.told, other.fresh, other.closed, other.tries)
+        mine = self.places, self.events, self.fresh, self.closed, self.tries
+        return mine == (other.places, other.events, other.fresh, other.closed, other.tries)
 
     def _untold(self) -> set[tuple[int, str]]:
         return {which for which, is_fresh in self.fresh.items() if is_fresh and which[0] not in self.closed}
@@ -46,11 +46,11 @@ class Others:
     def _row(self, actor: int, which: int) -> list[Item]:
         if actor == NETWORK:
             return self.script.network[which]
-        return self.script.clock if actor == CLOCK else self.script.made
+        return self.script.clock if actor == CLOCK else self.script.creations
 
     def beginnings(self) -> Iterator[tuple[int, int, float]]:
         """The actors that have actions, each with the due time of its first action."""
-        for actor, which in [(CLOCK, 0), (MADE, 0), *((NETWORK, s) for s in self.script.network)]:
+        for actor, which in [(CLOCK, 0), (UNKNOWN, 0), *((NETWORK, s) for s in self.script.network)]:
             if row := self._row(actor, which):
                 yield actor, which, row[0].due
 
@@ -62,7 +62,7 @@ class Others:
     def done(self, actor: int, which: int, item: Item) -> None:
         """Records that an actor has performed an action."""
         if item.event.kind == "pollevent":
-            self.told.add(item.event.number)
+            self.events.add(item.event.number)
         self.places[actor, which] += 1
 
     def see(self, step: Step, board: Board) -> None:

@@ -28,8 +28,10 @@ def with_events(script: Script) -> Script:
     tries = _tries(script)
     network = {}
     for s, row in script.network.items():
-        told = [item.event for item in row if item.event.kind == "pollevent"]
-        moved = [item._replace(due=_due(item, told, tries.get((s, SIDE_OF.get(item.event.kind, ""))))) for item in row]
+        events = [item.event for item in row if item.event.kind == "pollevent"]
+        moved = [
+            item._replace(due=_due(item, events, tries.get((s, SIDE_OF.get(item.event.kind, ""))))) for item in row
+        ]
         network[s] = sorted(moved, key=lambda item: item.due)
     return replace(script, network=network)
 
@@ -41,30 +43,30 @@ def _tries(script: Script) -> dict[tuple[int, str], Tries]:
         for operation in operations:
             if operation.sort in TRYING:
                 _note(script, operation, found)
-    return {of: Tries(sorted(one.all), sorted(one.in_vain)) for of, one in found.items()}
+    return {of: Tries(sorted(tries.all), sorted(tries.in_vain)) for of, tries in found.items()}
 
 
 def _note(script: Script, operation: Operation, found: dict[tuple[int, str], Tries]) -> None:
     kind, side = TRYING[operation.sort]
     tries = found.setdefault((operation.socket, side), Tries([], []))
-    for number, one in zip(operation.steps, operation.kinds):
-        if one == kind:
+    for number, step_kind in zip(operation.steps, operation.kinds):
+        if step_kind == kind:
             tries.all.append(number)
             if script.answers[number - 1] == ("again",):
                 tries.in_vain.append(number)
 
 
-def _due(item: Item, told: list[Event], tries: Optional[Tries]) -> float:
+def _due(item: Item, events: list[Event], tries: Optional[Tries]) -> float:
     """The due time of an arrival. If a try comes before the next event, the due time is just before the first event
     since the last failed try."""
     if tries is None:
         return item.due
     number, side = item.event.number, SIDE_OF[item.event.kind]
-    events = [event.number for event in told if side in event.arguments[2]]
-    following = min((event for event in events if event > number), default=None)
-    shown = min((one for one in tries.all if one > number), default=None)
+    numbers = [event.number for event in events if side in event.arguments[2]]
+    following = min((event for event in numbers if event > number), default=None)
+    shown = min((attempt for attempt in tries.all if attempt > number), default=None)
     if shown is None or (following is not None and following < shown):
         return item.due
-    since = max((one for one in tries.in_vain if one < number), default=0)
-    first = min((event for event in events if since < event < number), default=None)
+    since = max((attempt for attempt in tries.in_vain if attempt < number), default=0)
+    first = min((event for event in numbers if since < event < number), default=None)
     return item.due if first is None else first - JUST_BEFORE

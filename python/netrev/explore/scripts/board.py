@@ -7,7 +7,7 @@ from netrev.machine.in_place import STATE, WHOLE, Machine
 from netrev.machine.machine import Status
 from netrev.text.contents import Limits, Step
 
-from .runs import Made
+from .runs import AnsweredStep
 
 Looked = tuple[Any, ...]  # a step, with all values that the step reads
 MOST_KEPT = 20_000
@@ -39,7 +39,7 @@ class Effect(NamedTuple):
     to the timers, and the change in the number of parked goroutines."""
 
     looked: Looked
-    made: Made
+    result: AnsweredStep
     puts: tuple[tuple[str, int, Any], ...]
     wholes: tuple[tuple[str, Any], ...]
     waiters: int
@@ -57,36 +57,36 @@ class Board(Machine):
         self.further: dict[Looked, Effect] = {}  # effects of other steps, keyed by the values that the steps read
 
     def copy(self) -> "Board":
-        made = super().copy()
-        made.is_recorded, made.recorded, made.further = False, self.recorded, self.further
-        return made
+        copy = super().copy()
+        copy.is_recorded, copy.recorded, copy.further = False, self.recorded, self.further
+        return copy
 
     def is_as(self, other: "Board") -> bool:
         """Whether both boards have the same state."""
         return all(getattr(self, name) == getattr(other, name) for name in STATE)
 
-    def make(self, step: Step, number: int) -> Made:
+    def make(self, step: Step, number: int) -> AnsweredStep:
         """Makes a step. `number` is the step's number in the recording, or 0."""
         looked, effect = self._looked(step), self.recorded.get(number)
         if looked is None:
-            return Made(step, self.step(step), number)
+            return AnsweredStep(step, self.step(step), number)
         if effect is None or effect.looked != looked:
             effect = self.further.get(looked)
         if effect is None:
             return self._for_the_first_time(step, number, looked)
         self._has(effect)
-        return effect.made if effect.made.number == number else Made(step, effect.made.answer, number)
+        return effect.result if effect.result.number == number else AnsweredStep(step, effect.result.answer, number)
 
-    def _for_the_first_time(self, step: Step, number: int, looked: Looked) -> Made:
+    def _for_the_first_time(self, step: Step, number: int, looked: Looked) -> AnsweredStep:
         """Makes a step whose effect isn't cached."""
         before = self.waiters
-        made = Made(step, self.step(step), number)
-        effect = self._effect(looked, made, before)
+        result = AnsweredStep(step, self.step(step), number)
+        effect = self._effect(looked, result, before)
         if effect is not None and self.is_recorded and number:
             self.recorded[number] = effect
         elif effect is not None and len(self.further) < MOST_KEPT:
             self.further[looked] = effect
-        return made
+        return result
 
     def _looked(self, step: Step) -> Optional[Looked]:
         """All values that a step reads; None if the step reads a value that the cache doesn't cover."""
@@ -107,15 +107,15 @@ class Board(Machine):
             return step, status, self.descs[d], self.clock, self.next_number, self.timers
         return step, status, self.descs[d]
 
-    def _effect(self, looked: Looked, made: Made, waiters: int) -> Optional[Effect]:
+    def _effect(self, looked: Looked, result: AnsweredStep, waiters: int) -> Optional[Effect]:
         """The effect of the last step; None if the step changed a value that the cache doesn't cover, or that the step
         didn't read."""
         changed = {(of, place): old for of, place, old in reversed(self.changes)}
         wholes = {of for of, place in changed if place == WHOLE} - {"waiters"}
-        if None in changed.values() or not wholes <= (OF_TIMERS if made.step[0] in TIMED else set()):
+        if None in changed.values() or not wholes <= (OF_TIMERS if result.step[0] in TIMED else set()):
             return None
         puts = tuple((of, place, getattr(self, of)[place]) for of, place in changed if place != WHOLE)
-        return Effect(looked, made, puts, tuple((of, getattr(self, of)) for of in wholes), self.waiters - waiters)
+        return Effect(looked, result, puts, tuple((of, getattr(self, of)) for of in wholes), self.waiters - waiters)
 
     def _has(self, effect: Effect) -> None:
         """Sets the values as they were after the step with this effect."""

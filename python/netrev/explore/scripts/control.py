@@ -13,17 +13,17 @@ from .board import Board
 from .scripts import Operation
 
 NEVER = float("inf")
-GOROUTINE, CLOCK, MADE, NETWORK = range(4)  # the actors
+GOROUTINE, CLOCK, UNKNOWN, NETWORK = range(4)  # the actors
 
 About = tuple[bool, int]  # True and a socket, or False and a use of a descriptor
 
 
 class Place(NamedTuple):
-    """The place of a goroutine in its script. `operation` is its current operation, and `made` the number of that
+    """The place of a goroutine in its script. `operation` is its current operation, and `step_index` the number of that
     operation's recorded steps that it has made."""
 
     operation: int = 0
-    made: int = 0
+    step_index: int = 0
     tries: int = 0  # for a read, the number of tries that got everything; for a write, the number of bytes written
     waits: int = 0  # the number of times that the goroutine has begun to wait
     is_waiting: bool = False
@@ -33,17 +33,17 @@ class Place(NamedTuple):
 def number_of(operation: Operation, place: Place, kind: str) -> int:
     """The number that a goroutine's next step, of this kind, has in the recording; 0 if the recording doesn't have that
     step."""
-    made = place.made
-    return operation.steps[made] if made < len(operation.kinds) and operation.kinds[made] == kind else 0
+    index = place.step_index
+    return operation.steps[index] if index < len(operation.kinds) and operation.kinds[index] == kind else 0
 
 
 def next_number(operations: list[Operation], place: Place) -> float:
     """The number of the next recorded step that a goroutine must still make."""
-    made = place.made
+    index = place.step_index
     for at in range(place.operation, len(operations)):
-        if made < len(operations[at].steps):
-            return operations[at].steps[made]
-        made = 0
+        if index < len(operations[at].steps):
+            return operations[at].steps[index]
+        index = 0
     return NEVER
 
 
@@ -84,11 +84,11 @@ class Numbers:
         self._named: Optional[tuple[dict[int, int], dict[int, int]]] = None
 
     def copy(self) -> "Numbers":
-        made = Numbers()
-        made.sockets, made.descriptors = dict(self.sockets), dict(self.descriptors)
-        made.fdseqs, made.use_of = dict(self.fdseqs), dict(self.use_of)
-        made._named = self._named
-        return made
+        copy = Numbers()
+        copy.sockets, copy.descriptors = dict(self.sockets), dict(self.descriptors)
+        copy.fdseqs, copy.use_of = dict(self.fdseqs), dict(self.use_of)
+        copy._named = self._named
+        return copy
 
     def named(self) -> tuple[dict[int, int], dict[int, int]]:
         """The sockets of the recording, keyed by their numbers in this schedule, and the uses, keyed by their

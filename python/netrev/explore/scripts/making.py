@@ -25,7 +25,7 @@ def script_of(recording: Recording) -> Script:
         ordinals.append(seen.get(use.descriptor, 0))
         seen[use.descriptor] = ordinals[-1] + 1
     openers = {event.arguments[1] for event in events.all if event.kind == "pollopen"}
-    network, clock, made = _others(events, openers)
+    network, clock, creations = _others(events, openers)
     count = 1 + sum(event.kind == "spawn" for event in events.all)
     goroutines = goroutines_of(events, count)
     _mark_raw(goroutines, recording.lines)
@@ -35,7 +35,7 @@ def script_of(recording: Recording) -> Script:
         goroutines,
         network,
         clock,
-        made,
+        creations,
         [use.socket for use in events.uses],
         ordinals,
         causes_of(goroutines, CAUSES),
@@ -56,20 +56,20 @@ def _others(events: Events, openers: set[int]) -> tuple[dict[int, list[Item]], l
     """The steps that no known goroutine made: steps of the network, the clock and unknown goroutines."""
     network: dict[int, list[Item]] = {}
     clock: list[Item] = []
-    made: list[Item] = []
+    creations: list[Item] = []
     sockets = 0
     for event in events.all:
         item = Item(event.number, event, event.timer)
         if event.kind in CLOCK:
             clock.append(item)
         elif event.kind == "spawn":
-            made.append(item)
+            creations.append(item)
         elif event.kind == "sockopen":
             if sockets not in openers:
-                made.append(item)
+                creations.append(item)
             sockets += 1
         elif event.kind == "pollevent":
             network.setdefault(events.uses[event.arguments[0]].socket, []).append(item)
         elif event.kind in ("arrive", "peerclose", "drain"):
             network.setdefault(event.arguments[0], []).append(item)
-    return network, clock, made
+    return network, clock, creations

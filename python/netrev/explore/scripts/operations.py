@@ -15,8 +15,8 @@ OF_EACH = ("g", "s", "d", "side", "mode")  # the arguments of an operation other
 class TakenApart:
     """A goroutine's operations, built from its steps one after the other."""
 
-    def __init__(self, events: Events, asked: dict[int, int], told: dict[tuple[int, str], int]) -> None:
-        self.events, self.asked, self.told = events, asked, told
+    def __init__(self, events: Events, sizes: dict[int, int], last_events: dict[tuple[int, str], int]) -> None:
+        self.events, self.sizes, self.last_events = events, sizes, last_events
         self.operations: list[Operation] = []
         self.answer: tuple[Any, ...] = ()  # the answer of its last step
 
@@ -57,7 +57,7 @@ class TakenApart:
         assert last
         is_ready = came(event.kind, event.answer) is Came.READY
         if is_ready and last.sort is Sort.WAIT:
-            cause = self.told.get((last.use, last.side))
+            cause = self.last_events.get((last.use, last.side))
             last.is_brief = event.kind == "blockarm" and (cause is None or cause < last.steps[0])
             last.cause = None if last.is_brief else cause
         if is_ready and last.sort in (Sort.READ, Sort.WRITE):
@@ -70,10 +70,10 @@ class TakenApart:
     def _supposed_try(self, socket: int, use: int, side: str) -> None:
         """Adds the tries that a call would have made. The recording doesn't show them, because the descriptor was
         closing or the deadline had passed."""
-        if socket not in self.asked:
+        if socket not in self.sizes:
             self._supposed(Sort.WAIT, socket, use, side)
         elif side == "r":
-            self._supposed(Sort.READ, socket, use, side, self.asked[socket])
+            self._supposed(Sort.READ, socket, use, side, self.sizes[socket])
         else:
             self._supposed(Sort.WRITE, socket, use, side, b"\0")
 
@@ -81,7 +81,7 @@ class TakenApart:
         self._adds(event, Operation(Sort.MAKE, event.arguments[2], values=event.arguments[:2]))
 
     def _pollopen(self, event: Event) -> None:
-        use = next(at for at, one in enumerate(self.events.uses) if one.opened == event.number)
+        use = next(at for at, candidate in enumerate(self.events.uses) if candidate.opened == event.number)
         self._begins(event).use = use
 
     def _rwlock(self, event: Event) -> None:
@@ -174,14 +174,14 @@ class TakenApart:
 
 def goroutines_of(events: Events, count: int) -> list[list[Operation]]:
     """The operations of each goroutine."""
-    asked: dict[int, int] = {}
+    sizes: dict[int, int] = {}
     for event in events.all:
         if event.kind == "sysread":
-            asked[event.arguments[1]] = event.arguments[2]
+            sizes[event.arguments[1]] = event.arguments[2]
         elif event.kind == "syswrite":
-            asked.setdefault(event.arguments[1], ROOM)
-    told: dict[tuple[int, str], int] = {}
-    apart = [TakenApart(events, asked, told) for _ in range(count)]
+            sizes.setdefault(event.arguments[1], ROOM)
+    last_events: dict[tuple[int, str], int] = {}
+    apart = [TakenApart(events, sizes, last_events) for _ in range(count)]
     makers, sockets = {
         event.arguments[1]: event.arguments[0] for event in reversed(events.all) if event.kind == "pollopen"
     }, 0
@@ -193,10 +193,10 @@ def goroutines_of(events: Events, count: int) -> list[list[Operation]]:
         elif event.named("g") is not None:
             apart[event.arguments[0]].see(event)
         elif event.kind == "pollevent":
-            told.update({(event.arguments[0], side): event.number for side in event.arguments[2]})
-    for one, rest in zip(apart, _rests(events, count)):
-        _finish(one.operations, rest)
-    return [one.operations for one in apart]
+            last_events.update({(event.arguments[0], side): event.number for side in event.arguments[2]})
+    for goroutine, rest in zip(apart, _rests(events, count)):
+        _finish(goroutine.operations, rest)
+    return [goroutine.operations for goroutine in apart]
 
 
 def _rests(events: Events, count: int) -> list[bool]:
@@ -232,10 +232,10 @@ def _end(operations: list[Operation], open_ones: list[int], at: int) -> None:
     goroutine continues with `at`."""
     ending = operations[at]
     for begun in reversed(open_ones):
-        one = operations[begun]
-        if one.sort in ENDS[ending.sort] and (one.socket, one.side) == (ending.socket, ending.side):
+        operation = operations[begun]
+        if operation.sort in ENDS[ending.sort] and (operation.socket, operation.side) == (ending.socket, ending.side):
             open_ones.remove(begun)
-            one.on_failure = at + 1
+            operation.on_failure = at + 1
             for between in operations[begun + 1 : at]:
                 if between.sort in TRIES and not between.on_failure:
                     between.on_failure = at

@@ -37,8 +37,8 @@ def orders_of(goroutines: list[list[Operation]], pairs: Optional[Pairs]) -> Opti
     orders: list[list[Order]] = [[] for _ in goroutines]
     for first, second in pairs:
         if first in where and second in where and where[first].goroutine != where[second].goroutine:
-            one, other = where[first], where[second]
-            orders[other.goroutine].append(Order(other.operation, one.goroutine, one.operation))
+            earlier, later = where[first], where[second]
+            orders[later.goroutine].append(Order(later.operation, earlier.goroutine, earlier.operation))
     return [sorted(row) for row in orders]
 
 
@@ -55,10 +55,10 @@ class Waiting:
         self.again: Optional[Key] = None  # when the network checks again
 
     def copy(self) -> "Waiting":
-        made = Waiting()
-        made.__dict__.update(self.__dict__)
-        made.first, made.network, made.later = list(self.first), list(self.network), list(self.later)
-        return made
+        copy = Waiting()
+        copy.__dict__.update(self.__dict__)
+        copy.first, copy.network, copy.later = list(self.first), list(self.network), list(self.later)
+        return copy
 
     def add(self, actor: int, which: int) -> None:
         """Adds a waiting goroutine or socket."""
@@ -111,14 +111,14 @@ class Passing:
         self.waiting: dict[int, Waiting] = {}
 
     def copy(self, places: list[Place]) -> "Passing":
-        made = Passing(self.orders, self.causes, places)
-        made.passed, made.caused = list(self.passed), self.caused
-        made.waiting = {g: waiting.copy() for g, waiting in self.waiting.items()}
-        return made
+        copy = Passing(self.orders, self.causes, places)
+        copy.passed, copy.caused = list(self.passed), self.caused
+        copy.waiting = {g: waiting.copy() for g, waiting in self.waiting.items()}
+        return copy
 
     def is_as(self, other: "Passing") -> bool:
         """Whether, in both runs, the same goroutines and sockets wait for the same goroutines."""
-        rows, its_rows = ({g: one.row() for g, one in each.waiting.items()} for each in (self, other))
+        rows, its_rows = ({g: waiting.row() for g, waiting in each.waiting.items()} for each in (self, other))
         return rows == its_rows
 
     def has_still_to_go_on(self, g: int) -> Optional[int]:
@@ -141,7 +141,9 @@ class Passing:
         while self.caused < len(self.causes):
             cause = self.causes[self.caused]
             place = self.places[cause.goroutine]
-            if place.operation < cause.operation or (place.operation == cause.operation and place.made <= cause.at):
+            if place.operation < cause.operation or (
+                place.operation == cause.operation and place.step_index <= cause.at
+            ):
                 return cause.goroutine if cause.number < number else None
             self.caused += 1
         return None
@@ -170,7 +172,7 @@ class Passing:
         if self.caused >= len(self.causes):
             return False
         cause, place = self.causes[self.caused], self.places[g]
-        return cause.goroutine == g and (place.operation, place.made) <= (cause.operation, cause.at)
+        return cause.goroutine == g and (place.operation, place.step_index) <= (cause.operation, cause.at)
 
     def waits_until(self, g: int) -> int:
         """The operation of another goroutine after which this goroutine continues."""

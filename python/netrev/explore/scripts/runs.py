@@ -13,7 +13,7 @@ class Delay(NamedTuple):
     until: int
 
 
-class Made(NamedTuple):
+class AnsweredStep(NamedTuple):
     """A step that was made, its answer, and its number in the recording (0: the recording doesn't have the step)."""
 
     step: Step

@@ -68,7 +68,7 @@ class Script:
     goroutines: list[list[Operation]]
     network: dict[int, list[Item]]
     clock: list[Item]
-    made: list[Item]
+    creations: list[Item]
     sockets: list[int]  # the socket of each use
     ordinals: list[int]  # for each use, its ordinal among the uses of its descriptor, from 0
     causes: list[Cause]
