@@ -63,7 +63,7 @@ def test_the_last_line_before_a_read_that_makes_its_buffer(line: int, made: str,
     monkeypatch.setattr(cut_datagrams, "text_at", lambda recording, call: "\tn, _, err := c.ReadFrom(buf)")
     monkeypatch.setattr(cut_datagrams, "found_in", lambda recording, call, makes: [(3, None), (7, None), (10, None)])
     index = cast(Index, Made(recording=stacks(line_of(line))))
-    assert cut_datagrams.made_at(index, cast(Any, Made(first=5))) == made
+    assert cut_datagrams.buffer_place(index, cast(Any, Made(first=5))) == made
 
 
 @pytest.mark.parametrize(
@@ -110,10 +110,10 @@ def test_a_function_literal_of_one_line(text: str, is_whole: bool) -> None:
     [("f9 f10 f12", 10), ("f12 f11", 11), ("f9 g11", None), ("f9 g10 f13", 13), ("", None)],
 )
 def test_the_next_go_statement_of_the_function_that_added(made: str, next_one: int | None) -> None:
-    kinds = [Made(made=line_of(int(one[1:]), one[0])) for one in made.split()]
+    kinds = [Made(statement=line_of(int(one[1:]), one[0])) for one in made.split()]
     recording = Made(lines=Made(stacks={4: Made(own=lambda: [line_of(10, "f")])}))
     found = group_counts.next_behind(cast(Any, recording), cast(Any, Made(added=[Made(stack=4)])), cast(Any, kinds))
-    assert [kind.made.line for kind in found] == ([next_one] if next_one else [])
+    assert [kind.statement.line for kind in found] == ([next_one] if next_one else [])
     recording.lines.stacks[4] = Made(own=lambda: None)
     assert (
         group_counts.next_behind(cast(Any, recording), cast(Any, Made(added=[Made(stack=4)])), cast(Any, kinds)) == []
@@ -151,7 +151,7 @@ def test_when_a_goroutine_calls_done(text: str, is_last: bool, when: str, monkey
 def test_goroutines_that_ended_without_done(
     goids: list[int], failed: list[int], odd: list[list[int]], named: str, monkeypatch: Patch
 ) -> None:
-    monkeypatch.setattr(groups, "odd_ones", lambda recording, goids: odd)
+    monkeypatch.setattr(groups, "odd_goroutines", lambda recording, goids: odd)
     monkeypatch.setattr(groups, "lines_words", lambda recording, some, others: "")
     monkeypatch.setattr(groups, "name_of_goid", lambda lines, goid: str(goid))
     monkeypatch.setattr(groups, "of_names", lambda names: " and ".join(names))
@@ -353,7 +353,7 @@ def test_a_datagram_that_is_longer_than_the_buffer(
     size: int, asked: int | None, moved: int, cut: bool, monkeypatch: Patch
 ) -> None:
     read, wrote = Made(name="Read", moved=moved, last=6, first=5), Made(name="Write", moved=size, first=3, last=4)
-    monkeypatch.setattr(cut_datagrams, "asked_of", lambda recording: Made(of=lambda call: asked))
+    monkeypatch.setattr(cut_datagrams, "read_sizes_of", lambda recording: Made(of=lambda call: asked))
     monkeypatch.setattr(cut_datagrams, "size_of", lambda index, call: call.moved)
     monkeypatch.setattr(cut_datagrams, "is_datagram", lambda index, socket: socket == 3)
     monkeypatch.setattr(cut_datagrams, "sent_to", lambda index, socket: [wrote])
@@ -405,7 +405,7 @@ def test_a_handler_whose_client_has_gone(
 ) -> None:
     wait = Made(stack=Made(own=lambda: own), first=4, objects=[None] * (objects or 0)) if objects else None
     monkeypatch.setattr(leftovers, "waits_of", lambda recording: Made(at=lambda name, position: wait))
-    monkeypatch.setattr(leftovers, "has", lambda stack, function: serves)
+    monkeypatch.setattr(leftovers, "contains", lambda stack, function: serves)
     monkeypatch.setattr(leftovers, "waits_words", lambda wait: "waits")
     found = leftovers.serves_on(cast(Any, Made(length=9)), cast(Any, Made(goroutine=2)))
     assert found == ([f"Goroutine 2, which serves it, {says}"] if says else [])
@@ -445,7 +445,7 @@ def test_a_read_that_passes_by_a_reader_with_a_buffer(change: dict[str, Any], sa
     case = Made(**(usual | change))
     monkeypatch.setattr(new_readers, "is_buffered", lambda stack: stack.name in case.buffered.split())
     monkeypatch.setattr(new_readers, "maker_line", lambda index, frame: case.made)
-    monkeypatch.setattr(new_readers, "told", lambda recording, call: "it")
+    monkeypatch.setattr(new_readers, "text_of_call", lambda recording, call: "it")
     monkeypatch.setattr(new_readers, "lost_with", lambda index, file, made, read, last, why: f"{file}:{made}, {why}")
     stacks = {
         9: Made(name="first", calls=[line_of(9, "main.run.func1"), line_of(9, "os.f", of=OF_GO)]),

@@ -8,7 +8,7 @@ from typing import Any
 
 from netrev.findings.causes.failing import causes_of
 from netrev.findings.evidence.index import index_of
-from netrev.findings.evidence.responses import has
+from netrev.findings.evidence.responses import contains
 from netrev.findings.evidence.waiters import Waiter
 from netrev.findings.http.cancels import Cancel, cancel_says
 from netrev.findings.http.requests import CLIENT_TIMEOUT
@@ -66,7 +66,7 @@ class OfClients(unittest.TestCase):
         each pair in `earlier`: how much earlier the timer was made, and how much earlier it was due."""
         made = recording()
         lines = made.lines
-        timer = next(one for one in lines.timers[0] if has(lines.stacks[one.stack], CLIENT_TIMEOUT))
+        timer = next(one for one in lines.timers[0] if contains(lines.stacks[one.stack], CLIENT_TIMEOUT))
         lines.timers[0] += [timer._replace(time=timer.time - time, due=timer.due - due) for time, due in earlier]
         use = next(use for uses in lines.uses.values() for use in uses)
         return cancel_says(index_of(made), Cancel(1, use, [timer]))

@@ -67,7 +67,7 @@ def test_hands_that_have_ended(change: dict[str, Any], says: bool, monkeypatch: 
         "of": OF_THE_PROGRAM, "own": True, "use": FOR_VALUE, "objects": 1, "what": PUT, "last": 4, "object": 5, "ended": (7, 8), "hands": (7, 8), "name": 1,
     }  # fmt: skip
     case = Made(**(usual | ({"last": 6} if "what" in change or "object" in change else {}) | change))
-    monkeypatch.setattr(ended_hands, "made_since", lambda recording, wait: 5)
+    monkeypatch.setattr(ended_hands, "channel_since", lambda recording, wait: 5)
     monkeypatch.setattr(ended_hands, "hands_at", lambda index, line: [Made(name=Name(one)) for one in case.hands])
     monkeypatch.setattr(ended_hands, "has_ended", lambda recording, name: name.number in case.ended)
     monkeypatch.setattr(ended_hands, "says_of", lambda index, hands: ["They ended."])

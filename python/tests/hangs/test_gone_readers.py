@@ -5,7 +5,7 @@ import unittest
 from typing import Any
 
 from netrev.findings.causes.leftovers import leftovers_of
-from netrev.findings.evidence.asked import asked_of
+from netrev.findings.evidence.asked import read_sizes_of
 from netrev.findings.evidence.index import index_of
 from netrev.findings.evidence.waiters import waiters_at
 from netrev.findings.hangs.hang_words import reader_words
@@ -83,19 +83,19 @@ class GoneReaders(unittest.TestCase):
 class CutReads(unittest.TestCase):
     def test_the_next_read_says_how_many_bytes_one_got(self) -> None:
         recording = stored("longer-bad")
-        index, asked = index_of(recording), asked_of(recording)
+        index, asked = index_of(recording), read_sizes_of(recording)
         calls = [one.call for one in waiters_at(index, recording.length).values() if one.call]
         (call,) = [call for call in calls if lacking(index, call, index.other_end(call.socket) or 0)]
         before, other = asked.before(call), index.other_end(call.socket) or 0
         assert before is not None
         recording.lines.bytes = before.moved or 0
-        asked._asked.update({before.first: 8_800, call.first: 8_719})
+        asked._sizes.update({before.first: 8_800, call.first: 8_719})
         self.assertIs(begin_of_full(index, asked, call), before)
         self.assertRegex(
             lacking(index, call, other)[0],
             r"^Perhaps fewer bytes .* asked for 8800 and has 81, so 8719 more must come\.",
         )
-        asked._asked.update({before.first: 8_800, call.first: 8_799})
+        asked._sizes.update({before.first: 8_800, call.first: 8_799})
         self.assertEqual(lacking(index, call, other), [])
 
 

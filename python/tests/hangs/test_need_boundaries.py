@@ -365,12 +365,12 @@ def test_a_request_in_a_datagram_that_got_no_answer(change: dict[str, Any], says
     calls += [Made(name="Write", socket=4, first=case.later, moved=4)] if case.later else []
     monkeypatch.setattr(datagrams, "is_datagram", lambda index, socket: case.is_datagram)
     monkeypatch.setattr(datagrams, "reader_of", lambda index, call, wrote, position: read)
-    monkeypatch.setattr(datagrams, "told", lambda recording, call: "it")
+    monkeypatch.setattr(datagrams, "text_of_call", lambda recording, call: "it")
     for asked, whole in (
         (8, ""),
         (4, " It asked for 4 bytes and got as many: perhaps the datagram was longer, and cut."),
     ):
-        monkeypatch.setattr(datagrams, "asked_of", lambda recording, asked=asked: Made(of=lambda call: asked))
+        monkeypatch.setattr(datagrams, "read_sizes_of", lambda recording, asked=asked: Made(of=lambda call: asked))
         index = Made(recording=None, last_use=lambda socket, step, names: wrote, by_goroutine={2: calls})
         call = cast(Any, Made(socket=3, first=6, last=20, goroutine=1))
         found = datagrams.dropped_datagram(cast(Any, index), call)
@@ -444,7 +444,7 @@ def test_a_close_before_the_channel_is_made_closes_another(number: int, ways: li
 def test_the_last_request_before_a_connection_was_closed(
     steps: list[int], last: int | None, monkeypatch: Patch
 ) -> None:
-    monkeypatch.setattr(unsent_requests, "has", lambda stack, function: stack == function)
+    monkeypatch.setattr(unsent_requests, "contains", lambda stack, function: stack == function)
     takes = Use(1, 7, TOOK, 1, 1, 1, 1, 1, 1)
     puts = [Use(1, 8, PUT, 2, 1, step, step, step, step) for step in steps]
     puts += [Use(1, 8, what, stack, 1, 8, 8, 8, 8) for what, stack in ((PUT, 3), (TOOK, 2))]

@@ -6,9 +6,9 @@ from typing import Any
 
 from netrev.findings.evidence.index import index_of
 from netrev.findings.evidence.past_tense import in_the_past
-from netrev.findings.evidence.siblings import odd_ones
+from netrev.findings.evidence.siblings import odd_goroutines
 from netrev.findings.evidence.waiters import waiters_at
-from netrev.findings.evidence.words import came_of
+from netrev.findings.evidence.words import result_words
 from netrev.findings.pools.balances import balances_of, give_back, has_ended
 from netrev.findings.streams.ends_of_reads import bound_says, end_says
 from netrev.findings.streams.exchanges import unanswered, unasked
@@ -63,7 +63,7 @@ class Balances(unittest.TestCase):
         recording = self.recording(use(4, TOOK, 1, 3, 1), use(4, PUT, 2, 2, 2))
         now = {Name(4, True): Stack((line(5, "borrow"), line(9, "main")), None)}
         (balance,) = balances_of(recording, 1, now)
-        self.assertEqual((balance.missing, balance.has_one), (0, True))
+        self.assertEqual((balance.missing, balance.has_value), (0, True))
         (ended,) = balances_of(recording, 1, {})
         self.assertEqual(ended.missing, 1)
 
@@ -76,8 +76,8 @@ class Balances(unittest.TestCase):
 
     def test_one_of_three_that_passed_other_lines(self) -> None:
         recording = self.recording(use(3, PUT, 2), use(4, PUT, 2), use(5, PUT, 3))
-        self.assertEqual(odd_ones(recording, [3, 4, 5]), ([5], line(7, "borrow")))
-        self.assertIsNone(odd_ones(recording, [3, 4]))
+        self.assertEqual(odd_goroutines(recording, [3, 4, 5]), ([5], line(7, "borrow")))
+        self.assertIsNone(odd_goroutines(recording, [3, 4]))
 
 
 class Exchanges(unittest.TestCase):
@@ -213,6 +213,6 @@ class Words(unittest.TestCase):
     def test_bytes_that_are_cut(self) -> None:
         recording = with_lines([*TWO_ENDS, *GETS, *UNLOCKS])
         call = next(one for one in index_of(recording).book.calls if one.name == "Read")
-        self.assertEqual(came_of(recording, call), "got 2 bytes")
+        self.assertEqual(result_words(recording, call), "got 2 bytes")
         recording.lines.bytes = 2
-        self.assertEqual(came_of(recording, call), "got at least 2 bytes")
+        self.assertEqual(result_words(recording, call), "got at least 2 bytes")

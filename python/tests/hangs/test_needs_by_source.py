@@ -4,7 +4,7 @@ import tempfile
 import unittest
 from pathlib import Path
 
-from netrev.findings.locks.conditions import one_alone, unsignalled
+from netrev.findings.locks.conditions import single_signal, unsignalled
 from netrev.findings.pools.senders import later_giver
 from netrev.findings.pools.unclosed import unclosed
 from netrev.findings.source.functions import is_same_variable, range_of
@@ -124,11 +124,11 @@ class WithSource(unittest.TestCase):
         wait = self.waiting(WAIT, "(*queue).pop")
         (said,) = unsignalled(self.recording, wait)
         self.assertIn(f"{self.file}:39 in (*queue).clear should have woken it: it changes items", said)
-        (alone,) = one_alone(self.recording, wait, 3)
+        (alone,) = single_signal(self.recording, wait, 3)
         self.assertIn(
             ":35 in (*queue).close should wake all: Signal wakes only one goroutine, and 3 still wait.", alone
         )
-        self.assertEqual(one_alone(self.recording, wait, 1), [])
+        self.assertEqual(single_signal(self.recording, wait, 1), [])
         self.assertEqual(
             unsignalled(self.recording, self.waiting(WAIT, "(*queue).pop", FOR_ROOM)._replace(stack=Stack((), None))),
             [],

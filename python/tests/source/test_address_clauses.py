@@ -43,7 +43,7 @@ def test_a_datagram_from_another_address(change: dict[str, Any], says: bool, mon
         return unheard.Sent(cast(Any, wrote), case.source, target)
 
     monkeypatch.setattr(unheard, "sent_at", lambda index: [sent(19, "a:7"), sent(case.first, case.target)])
-    monkeypatch.setattr(unheard, "told", lambda recording, call: "Write")
+    monkeypatch.setattr(unheard, "text_of_call", lambda recording, call: "Write")
     monkeypatch.setattr(unheard, "opened_at", lambda index, socket: ", opened")
     reads = [Made(name=case.name, moved=case.moved, last=case.last), Made(name="Read", moved=5, last=2)]
     index = Made(recording=Made(lines=Made(addresses=case.addresses)), by_socket={3: reads})
@@ -61,7 +61,7 @@ def test_the_first_datagram_from_another_address_is_named(monkeypatch: Patch) ->
         for begin in (9, 6, 7)
     ]
     monkeypatch.setattr(unheard, "sent_at", lambda index: every)
-    monkeypatch.setattr(unheard, "told", lambda recording, call: "Write")
+    monkeypatch.setattr(unheard, "text_of_call", lambda recording, call: "Write")
     monkeypatch.setattr(unheard, "opened_at", lambda index, socket: "")
     index = Made(recording=Made(lines=Made(addresses={3: ("a:1", "b:2")})), by_socket={3: []})
     need = unheard.unheard(cast(Any, index), cast(Any, Made(socket=3, first=8)), 20)
@@ -76,7 +76,7 @@ def test_the_first_datagram_from_another_address_is_named(monkeypatch: Patch) ->
 )  # fmt: skip
 def test_the_call_that_a_close_waits_for(change: dict[str, Any], by: int, monkeypatch: Patch) -> None:
     case = Made(**({"goroutine": 6, "first": 6, "last": 0, "inside": True, "goid": False} | change))
-    monkeypatch.setattr(needs_elsewhere, "told", lambda recording, call: f"Goroutine {call.goroutine}")
+    monkeypatch.setattr(needs_elsewhere, "text_of_call", lambda recording, call: f"Goroutine {call.goroutine}")
     calls = [Made(goroutine=5, first=4, last=0), Made(goroutine=case.goroutine, first=case.first, last=case.last)]
     closes = Made(socket=3, goroutine=1)
     index = Made(

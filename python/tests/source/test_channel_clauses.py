@@ -83,7 +83,7 @@ def test_a_channel_that_net_rpc_found_full(change: dict[str, Any], says: str, mo
     monkeypatch.setattr(rpc_calls, "text_at", lambda recording, call: case.text)
     monkeypatch.setattr(rpc_calls, "files_of", lambda recording, file: [("b.go", case.lines), ("c.go", case.lines)])
     monkeypatch.setattr(
-        rpc_calls, "has", lambda stack, function: function == rpc_calls.DONE and stack in ("first", "other")
+        rpc_calls, "contains", lambda stack, function: function == rpc_calls.DONE and stack in ("first", "other")
     )
     stacks = {1: "first" if case.done else "none", 2: "other" if case.second else "none", 3: "none"}
     uses = {5: [use_of(5, case.what, 1), use_of(5, case.what, 2), use_of(5, TOOK, 3, 7)]}
@@ -200,7 +200,7 @@ def test_an_end_that_a_relay_didn_t_pass_on(change: dict[str, Any], says: bool, 
 )  # fmt: skip
 def test_the_call_that_has_a_socket_s_lock(change: dict[str, Any], holder: int, monkeypatch: Patch) -> None:
     case = Made(**({"side": "r", "is_asking": False, "first": 6, "last": 0, "mine": "r"} | change))
-    monkeypatch.setattr(needs, "told", lambda recording, call: f"Goroutine {call.goroutine}")
+    monkeypatch.setattr(needs, "text_of_call", lambda recording, call: f"Goroutine {call.goroutine}")
     calls = [
         Made(goroutine=5, side="r", is_asking=False, first=4, last=0),
         Made(goroutine=6, side=case.side, is_asking=case.is_asking, first=case.first, last=case.last),
@@ -264,12 +264,12 @@ def test_a_socket_that_is_left_open(change: dict[str, Any], says: bool | None, m
     first = Made(first=2, last=3, goroutine=5, steps=lambda: "in step 2")
     monkeypatch.setattr(leftovers, "ends_of", lambda index: [(3, 4), (5, 6)])
     monkeypatch.setattr(leftovers, "is_of_go", lambda recording, call: case.of_go and call is last)
-    monkeypatch.setattr(leftovers, "told", lambda recording, call: f"The call of {call.goroutine}")
+    monkeypatch.setattr(leftovers, "text_of_call", lambda recording, call: f"The call of {call.goroutine}")
     monkeypatch.setattr(
         leftovers, "place_of_step", lambda recording, step, goroutine: f" in step {step} by {goroutine}"
     )
     monkeypatch.setattr(
-        leftovers, "has", lambda stack, function: case.serves and function == leftovers.SERVE and stack.is_its
+        leftovers, "contains", lambda stack, function: case.serves and function == leftovers.SERVE and stack.is_its
     )
     monkeypatch.setattr(leftovers, "waits_words", lambda wait: "waits")
     wait = Made(stack=Made(own=lambda: case.own, is_its=True), objects=[1] * case.objects, first=7)
@@ -415,7 +415,7 @@ def test_a_send_on_a_channel_whose_receivers_have_ended(ended: tuple[int, ...], 
         Made(name=Name(4), what=TOOK, stack="a.go:4", last=14),
         Made(name=Name(5), what=TOOK, stack="a.go:5", last=15),
     ]
-    own = Made(_given=lambda at: given, _recording=None, _does=lambda name, stack: "has ended")
+    own = Made(_operations=lambda at: given, _recording=None, _does=lambda name, stack: "has ended")
     wait = waiting([(3, FOR_VALUE), (6, FOR_ROOM)])
     need = needs_of_channels.NeedsOfChannels._of_ended_takers(cast(Any, own), wait)
     assert (need.says, need.is_odd) == (([names, "object 6"], True) if names else ([], False))

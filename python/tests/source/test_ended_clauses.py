@@ -40,7 +40,7 @@ def test_a_function_that_a_context_s_end_started(change: dict[str, Any], says: s
     }  # fmt: skip
     case = Made(**(usual | change))
     monkeypatch.setattr(
-        cancels, "has", lambda stack, function: function == cancels.OF_A_CONTEXT and stack[1] == function
+        cancels, "contains", lambda stack, function: function == cancels.OF_A_CONTEXT and stack[1] == function
     )
     monkeypatch.setattr(
         cancels, "limits_before", lambda recording, begin, least: ["5s"] if case.limits and begin == 20 else []

@@ -48,8 +48,8 @@ def test_bytes_that_were_never_read_in_a_recording_of_a_part(
         leftovers, "first_beyond", lambda index, socket, count: wrote if (socket, count) == (1, 4) else None
     )
     monkeypatch.setattr(leftovers, "is_of_go", lambda recording, call: False)
-    monkeypatch.setattr(leftovers, "told", lambda recording, call: f"call {call.first}")
-    monkeypatch.setattr(leftovers, "came_of", lambda recording, call: "which got 4 bytes")
+    monkeypatch.setattr(leftovers, "text_of_call", lambda recording, call: f"call {call.first}")
+    monkeypatch.setattr(leftovers, "result_words", lambda recording, call: "which got 4 bytes")
     monkeypatch.setattr(leftovers, "place_of_step", lambda recording, step, goroutine: f" in step {step}")
     lines = Made(peers={1: 2}, of=lambda step: Made(calls=()))
     index = Made(

@@ -106,8 +106,8 @@ def test_who_changes_what_a_wait_s_loop_tests(
     monkeypatch.setattr(conditions, "waits_of", lambda recording: Made(of={}))
     recording, wait = at(tmp_path, QUEUE.replace(old, new, 1) if old else QUEUE, number)
     assert in_short(tmp_path, conditions.unsignalled(recording, wait)) == drops
-    assert in_short(tmp_path, conditions.one_alone(recording, wait, 2)) == alone
-    assert conditions.one_alone(recording, wait, 1) == []
+    assert in_short(tmp_path, conditions.single_signal(recording, wait, 2)) == alone
+    assert conditions.single_signal(recording, wait, 1) == []
 
 
 def test_functions_of_the_package_wake_what_a_function_waits_for(tmp_path: Path) -> None:
@@ -132,7 +132,7 @@ def test_the_name_of_a_function_that_wakes_nobody(tmp_path: Path, head: str, nam
 @pytest.mark.parametrize("stack", [Stack((), None), Stack((Call("main.f", "none.go", 5, OF_THE_PROGRAM),), None)])
 def test_nobody_is_named_without_the_source(stack: Stack) -> None:
     recording, wait = cast(Any, Made(lines=Made(written=float("inf")))), Waiting(Name(1), 5, None, "", stack)
-    assert conditions.unsignalled(recording, wait) == conditions.one_alone(recording, wait, 2) == []
+    assert conditions.unsignalled(recording, wait) == conditions.single_signal(recording, wait, 2) == []
 
 
 TABLE = """\

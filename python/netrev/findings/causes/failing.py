@@ -6,14 +6,14 @@ from typing import NamedTuple, Optional
 from netrev.findings.datagrams.cut_datagrams import cut_says
 from netrev.findings.datagrams.datagrams import dropped_datagram
 from netrev.findings.datagrams.shared_sockets import shared_says
-from netrev.findings.evidence.asked import asked_of
+from netrev.findings.evidence.asked import read_sizes_of
 from netrev.findings.evidence.index import READING, Cause, Index, index_of, went_well
 from netrev.findings.evidence.long_lines import long_line_says
 from netrev.findings.evidence.need import Need
 from netrev.findings.evidence.past_tense import in_the_past
 from netrev.findings.evidence.responses import server_of
 from netrev.findings.evidence.sizes import are_known, moved_at, size_of
-from netrev.findings.evidence.words import ENDED, duration, name_of, place_of_step, told, waits_words
+from netrev.findings.evidence.words import ENDED, duration, name_of, place_of_step, text_of_call, waits_words
 from netrev.findings.hangs.chains import chain_says
 from netrev.findings.hangs.needs import Needs
 from netrev.findings.hangs.unmet_needs import endless_says, found_says, given_up_says
@@ -51,7 +51,7 @@ def cause_of(index: Index, call: Call, deep: int = 0) -> Cause:
     """The cause of a call's error."""
     recording = index.recording
     ended = ENDED.get(call.outcome, f"ended with {call.error}")
-    begins = f"{told(recording, call)} {ended}"
+    begins = f"{text_of_call(recording, call)} {ended}"
     if call.outcome is Outcome.TIMED_OUT and call.cause:
         return of_timeout(index, call, begins)
     if call.outcome in (Outcome.CLOSED, Outcome.BROKEN_PIPE) and call.cause:
@@ -143,7 +143,7 @@ def of_close(index: Index, call: Call, begins: str, deep: int) -> Cause:
         if other is not call and other.name != CLOSE and other.goroutine != goroutine
     ]  # fmt: skip
     if others:
-        says.append(f"{told(recording, others[0])} was inside too.")
+        says.append(f"{text_of_call(recording, others[0])} was inside too.")
     says += [] if ended else given_up_says(index, call, by)
     before = Before([], []) if ended or after else why(index, by, deep)
     looks = [f"goto {call.cause}", f"calls sock {call.socket}"]
@@ -197,7 +197,8 @@ def of_the_other_end(index: Index, call: Call, begins: str, deep: int) -> Cause:
     says += (long_line_says(index, last) or part_says(index, call, last)) if last else []
     if (late := late_write(index, call, by)) is not None:
         says.append(
-            f"{told(recording, late)} came after the other end was closed, in step {late.first}: nobody read it."
+            f"{text_of_call(recording, late)} came after the other end was closed, in step {late.first}: nobody read "
+            "it."
         )
     says += unused_since(index, call, by.first)
     return Cause(call, says, [call.first, by.first], looks, 0, before.calls)
@@ -209,13 +210,14 @@ def part_says(index: Index, call: Call, last: Call) -> list[str]:
     recording, own = index.recording, index.recording.lines.of(last.first).own()
     functions = [frame.function for frame in recording.lines.of(last.first).calls]
     is_direct = own is not None and (CONN_READ, own[0].function) in zip(functions, functions[1:])
-    size, count = asked_of(recording).of(last) or 0, size_of(index, last)
+    size, count = read_sizes_of(recording).of(last) or 0, size_of(index, last)
     unread = moved_at(index, call.socket, "Write", call.last) - moved_at(index, last.socket, "Read", call.last)
     if not are_known(index) or not is_direct or not count or unread <= 0 or not (count < size or size == MOST_ASKED):
         return []
     many = f"{'at least ' if size == MOST_ASKED else ''}{size}"
     return [
-        f"{counted(unread, 'byte')} that had been written there were never read: {told(recording, last)}, the last Read, asked for {many} and got "
+        f"{counted(unread, 'byte')} that had been written there were never read: {text_of_call(recording, last)}, the "
+        f"last Read, asked for {many} and got "
         f"{count}. A Read returns what has arrived."
     ]
 

@@ -6,9 +6,9 @@ from typing import Iterator, NamedTuple, Optional
 
 from netrev.findings.datagrams.cut_datagrams import causes_of_cuts
 from netrev.findings.evidence.index import MOVING, Cause, Index, index_of, went_well
-from netrev.findings.evidence.responses import SERVE, has
+from netrev.findings.evidence.responses import SERVE, contains
 from netrev.findings.evidence.sizes import are_known, moved_at, size_of
-from netrev.findings.evidence.words import came_of, is_of_go, place_of_step, told, waits_words
+from netrev.findings.evidence.words import is_of_go, place_of_step, result_words, text_of_call, waits_words
 from netrev.findings.pools.given_up_waits import given_up_waits
 from netrev.findings.streams.exchanges import is_cut
 from netrev.findings.streams.gone_readers import without_reader
@@ -76,9 +76,11 @@ def never_read(index: Index) -> Iterator[Cause]:
         ):
             continue
         says = [
-            f"{counted(missing, 'byte')} that {told(recording, wrote)} wrote in {wrote.steps()} were never read.",
+            f"{counted(missing, 'byte')} that {text_of_call(recording, wrote)} wrote in {wrote.steps()} were never "
+            "read.",
             f"The other end, socket {other}, was closed{place_of_step(recording, by.first, by.goroutine)}.",
-            f"Its last read was {told(recording, last)}, {last.steps()}, {came_of(recording, last) or 'which got nothing'}.",
+            f"Its last read was {text_of_call(recording, last)}, {last.steps()}, "
+            f"{result_words(recording, last) or 'which got nothing'}.",
         ]
         looks = [f"goto {last.last or last.first}", f"calls sock {other}"]
         yield Cause(last, says, [wrote.first, last.first, by.first], looks)
@@ -106,7 +108,7 @@ def left_open(index: Index) -> Iterator[Cause]:
             continue
         says = [
             f"socket {socket} is left open, and nobody is in a call there.",
-            f"{told(recording, last)} was the last to use it, {last.steps()}.",
+            f"{text_of_call(recording, last)} was the last to use it, {last.steps()}.",
             f"Its other end was closed{place_of_step(recording, by.first, by.goroutine)}.",
         ]
         says += serves_on(recording, last)
@@ -117,7 +119,7 @@ def serves_on(recording: Recording, last: Call) -> list[str]:
     """A sentence that says where a net/http handler still waits although its client has gone. The handler's goroutine
     made `last`, the last call on the socket."""
     wait = waits_of(recording).at(Name(last.goroutine), recording.length)
-    if wait is None or not has(wait.stack, SERVE) or not wait.stack.own():
+    if wait is None or not contains(wait.stack, SERVE) or not wait.stack.own():
         return []
     alone = (
         ", and for nothing else: the end of the request's context doesn't end that" if len(wait.objects) == 1 else ""
@@ -167,7 +169,8 @@ def mixed_writes(index: Index) -> Iterator[Cause]:
                 continue
             says = [
                 f"writes of two goroutines are mixed at socket {first.socket}.",
-                f"{told(recording, others[0])} came between {told(recording, first)} and {told(recording, last)}.",
+                f"{text_of_call(recording, others[0])} came between {text_of_call(recording, first)} and "
+                f"{text_of_call(recording, last)}.",
             ]
             steps = [first.first, others[0].first, last.first]
             yield Cause(others[0], says, steps, [f"goto {others[0].first}", f"calls sock {first.socket}"])

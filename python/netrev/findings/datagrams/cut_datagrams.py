@@ -7,10 +7,10 @@ from functools import lru_cache
 from operator import attrgetter
 from typing import Iterator, NamedTuple
 
-from netrev.findings.evidence.asked import asked_of
+from netrev.findings.evidence.asked import read_sizes_of
 from netrev.findings.evidence.index import Cause, Index
 from netrev.findings.evidence.sizes import size_of
-from netrev.findings.evidence.words import told
+from netrev.findings.evidence.words import text_of_call
 from netrev.findings.source.functions import found_in, text_at
 from netrev.findings.streams.flushes import ways_without_an_answer
 from netrev.findings.streams.unaccepted import is_datagram
@@ -33,13 +33,18 @@ class CutDatagram(NamedTuple):
     def says(self, index: Index) -> list[str]:
         """The sentences about the datagram."""
         recording, length = index.recording, counted(size_of(index, self.read), "byte")
-        wrote = f"{told(recording, self.wrote)} sent a datagram of {counted(size_of(index, self.wrote), 'byte')} in {self.wrote.steps()}"
-        place = made_at(index, self.read)
-        read = f"{told(recording, self.read)} read it into a buffer of {length}{place}, in step {self.read.last}"
+        wrote = (
+            f"{text_of_call(recording, self.wrote)} sent a datagram of {counted(size_of(index, self.wrote), 'byte')} in "
+            f"{self.wrote.steps()}"
+        )
+        place = buffer_place(index, self.read)
+        read = (
+            f"{text_of_call(recording, self.read)} read it into a buffer of {length}{place}, in step {self.read.last}"
+        )
         return [f"{wrote}; {read}: the rest was thrown away."]
 
 
-def made_at(index: Index, read: Call) -> str:
+def buffer_place(index: Index, read: Call) -> str:
     """The line at which a function makes the buffer that a Read fills: ` (a.go:30)`; empty if unknown."""
     own = index.recording.lines.of(read.first).own()
     into = INTO.search(text_at(index.recording, own[0])) if own else None
@@ -60,7 +65,7 @@ def cut_datagrams(index: Index) -> tuple[CutDatagram, ...]:
 
 def cut_at(index: Index, socket: int) -> Iterator[CutDatagram]:
     """The datagrams that were longer than the buffers of the Reads on a socket."""
-    sizes = asked_of(index.recording)
+    sizes = read_sizes_of(index.recording)
     reads = [read for read in index.by_socket[socket] if read.name == "Read" and read.moved and read.last]
     sent = sent_to(index, socket) if reads and is_datagram(index, socket) else []
     for read, wrote in zip(sorted(reads, key=attrgetter("last")), sent):

@@ -3,9 +3,9 @@ looks for the only Read on another socket that got as many bytes."""
 
 from typing import Optional
 
-from netrev.findings.evidence.asked import asked_of
+from netrev.findings.evidence.asked import read_sizes_of
 from netrev.findings.evidence.index import Index, back
-from netrev.findings.evidence.words import told
+from netrev.findings.evidence.words import text_of_call
 from netrev.findings.streams.exchanges import FEWEST
 from netrev.findings.streams.unaccepted import is_datagram
 from netrev.recording.call import Call
@@ -28,7 +28,8 @@ def unanswered_datagram(index: Index, call: Call, position: int) -> list[str]:
     if len(answers) < FEWEST or answers[-1].first > read.last or now is None or now.socket != read.socket:
         return []
     says = [
-        f"Perhaps its request, {told(recording, wrote)} in {wrote.steps()}, was read by {told(recording, read)} in step {read.last}. That goroutine "
+        f"Perhaps its request, {text_of_call(recording, wrote)} in {wrote.steps()}, was read by "
+        f"{text_of_call(recording, read)} in step {read.last}. That goroutine "
         f"has written there {len(answers)} times before; now it reads on since step {now.first}, without an answer."
     ]
     if not any(setting.name in DEADLINES for setting in back(index.by_socket[call.socket], position)):
@@ -54,14 +55,15 @@ def dropped_datagram(index: Index, call: Call) -> list[str]:
         return []
     if following is None or following.name != "Read" or following.socket != read.socket or following.first > call.last:
         return []
-    size = asked_of(recording).of(read)
+    size = read_sizes_of(recording).of(read)
     whole = (
         f" It asked for {size} bytes and got as many: perhaps the datagram was longer, and cut."
         if size == read.moved
         else ""
     )
     return [
-        f"Perhaps its request, {told(recording, wrote)} in {wrote.steps()}, was read by {told(recording, read)} in step {read.last}. That goroutine, "
+        f"Perhaps its request, {text_of_call(recording, wrote)} in {wrote.steps()}, was read by "
+        f"{text_of_call(recording, read)} in step {read.last}. That goroutine, "
         f"which had answered there before, sent no answer to it: it read on in step {following.first}.{whole}"
     ]
 

@@ -5,7 +5,7 @@ from typing import Iterator, NamedTuple, Optional
 
 from netrev.findings.evidence.index import Index
 from netrev.findings.evidence.need import Need
-from netrev.findings.evidence.words import place_in, told
+from netrev.findings.evidence.words import place_in, text_of_call
 from netrev.recording.call import OPEN, Call
 
 UNSPECIFIED = ("0.0.0.0:", "[::]:")
@@ -43,7 +43,8 @@ def unheard(index: Index, call: Call, position: int) -> Optional[Need]:
     if sent is None:
         return None
     says = [
-        f"{told(index.recording, sent.wrote)} sent a datagram to its address, {own}, in {sent.wrote.steps()}, from socket {sent.wrote.socket}, "
+        f"{text_of_call(index.recording, sent.wrote)} sent a datagram to its address, {own}, in {sent.wrote.steps()}, "
+        f"from socket {sent.wrote.socket}, "
         f"{sent.source}{opened_at(index, sent.wrote.socket)}.",
         f"Socket {call.socket} is connected to {peer}: the system drops what comes from any other address.",
     ]

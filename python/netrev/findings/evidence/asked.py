@@ -11,15 +11,15 @@ from .index import Index, index_of
 SYSREAD = "sysread"
 
 
-class Asked:
+class ReadSizes:
     """For each Read, the number of bytes that its first system call asked for, and the goroutine's previous Read on
     that socket."""
 
     def __init__(self, index: Index) -> None:
-        self._asked: dict[int, int] = {}  # keyed by the first step of the Read
+        self._sizes: dict[int, int] = {}  # keyed by the first step of the Read
         self._before: dict[int, Call] = {}
         begun: dict[int, int] = {}  # the number of calls that each goroutine had begun
-        by_goroutine, sizes = index.by_goroutine, self._asked
+        by_goroutine, sizes = index.by_goroutine, self._sizes
         for number, values in index.recording.arrays_like((SYSREAD,), index.recording.length):
             if values[0] != SYSREAD:
                 continue
@@ -41,7 +41,7 @@ class Asked:
 
     def of(self, call: Call) -> Optional[int]:
         """The number of bytes that a Read asked for; None if the Read made no system call that asks for bytes."""
-        return self._asked.get(call.first)
+        return self._sizes.get(call.first)
 
     def before(self, call: Call) -> Optional[Call]:
         """The previous Read of the same goroutine and socket."""
@@ -61,6 +61,6 @@ class Asked:
 
 
 @lru_cache(maxsize=2)
-def asked_of(recording: Recording) -> Asked:
+def read_sizes_of(recording: Recording) -> ReadSizes:
     """The numbers of bytes that the Reads of a recording asked for."""
-    return Asked(index_of(recording))
+    return ReadSizes(index_of(recording))

@@ -15,7 +15,7 @@ GAVE_BEFORE = {PUT: "put a value there before", TOOK: "took one there before"}
 END = attrgetter("end")
 
 
-class Given(NamedTuple):
+class Operation(NamedTuple):
     """An operation of a goroutine on a channel, and its stack."""
 
     name: Name
@@ -38,15 +38,15 @@ class Ledger:
                     if not at.use:
                         self._locked[at.object].append(wait)
 
-    def given(self, at: At) -> Iterator[Given]:
+    def operations(self, at: At) -> Iterator[Operation]:
         """The goroutines' operations on a channel that end a wait there, latest first."""
         what = GIVES.get(at.use, "")
         uses = (use for use in self._lines.uses.get(at.object, ()) if use.what == what)
         for use in sorted(uses, key=END, reverse=True):
-            yield self._given(use)
+            yield self._operation(use)
 
-    def _given(self, use: Use) -> Given:
-        return Given(name_of_goid(self._lines, use.goid), use.what, self._lines.stacks[use.stack], use.last)
+    def _operation(self, use: Use) -> Operation:
+        return Operation(name_of_goid(self._lines, use.goid), use.what, self._lines.stacks[use.stack], use.last)
 
     def lines_of(self, number: int) -> set[Call]:
         """The calls of the program in which goroutines have waited for a mutex. Each of these calls locks the mutex."""

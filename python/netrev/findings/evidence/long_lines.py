@@ -3,7 +3,7 @@ up."""
 
 from netrev.recording.call import Call
 
-from .asked import asked_of
+from .asked import read_sizes_of
 from .index import Index
 
 SCAN, HALF = "bufio.(*Scanner).Scan", 32_768
@@ -13,7 +13,7 @@ def long_line_says(index: Index, last: Call) -> list[str]:
     """Sentences about the last Read of a goroutine on a socket; none unless that Read was for a Scanner whose buffer
     had its greatest size."""
     functions = (call.function for call in index.recording.lines.of(last.first).calls)
-    if not last.moved or SCAN not in functions or asked_of(index.recording).of(last) != HALF:
+    if not last.moved or SCAN not in functions or read_sizes_of(index.recording).of(last) != HALF:
         return []
     return [
         "Perhaps a line was too long: a bufio.Scanner gives up if one has more than 65,536 bytes, and its buffer was at its largest there."

@@ -33,7 +33,8 @@ def shared_variables(recording: Recording, file: str) -> list[str]:
         lines = source_of(recording, statement.file)
         for head, name in shared_at(lines, statement) if lines else ():
             says[
-                f"Perhaps all goroutines started at {statement.place()} use the last {name} of the loop at {statement.file}:{head}: the module's language is Go "
+                f"Perhaps all goroutines started at {statement.place()} use the last {name} of the loop at "
+                f"{statement.file}:{head}: the module's language is Go "
                 f"1.{minor}, in which they share it."
             ] = None
     return list(says)

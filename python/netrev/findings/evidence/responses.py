@@ -23,7 +23,7 @@ def socket_of(index: Index, wait: Waiting, position: int) -> Optional[int]:
     ]
     taken = (
         use for _, number in sorted(put, reverse=True)
-        for use in lines.uses[number] if use.what == TOOK and has(lines.stacks[use.stack], WRITE_LOOP)
+        for use in lines.uses[number] if use.what == TOOK and contains(lines.stacks[use.stack], WRITE_LOOP)
     )  # fmt: skip
     last = next(taken, None)
     if last is None:
@@ -43,8 +43,8 @@ def server_of(index: Index, socket: int, position: int) -> Optional[Name]:
 
 
 def is_by_server(index: Index, call: Call) -> bool:
-    return has(index.recording.lines.of(call.first), SERVE)
+    return contains(index.recording.lines.of(call.first), SERVE)
 
 
-def has(stack: Stack, function: str) -> bool:
+def contains(stack: Stack, function: str) -> bool:
     return any(call.function == function for call in stack.calls)

@@ -22,7 +22,7 @@ class Kind(NamedTuple):
     """The goroutines that one `go` statement started: those that did something, those that ended without doing it, and
     those that may still do it."""
 
-    made: Call
+    statement: Call
     did: list[int]
     ended: list[int]
     alive: list[int]
@@ -76,7 +76,7 @@ def kinds_of(recording: Recording, did: Collection[int]) -> list[Kind]:
     return sorted(kinds, key=lambda kind: -len(kind.did))
 
 
-def odd_ones(recording: Recording, goids: list[int]) -> Optional[tuple[list[int], Call]]:
+def odd_goroutines(recording: Recording, goids: list[int]) -> Optional[tuple[list[int], Call]]:
     """The goroutines in `goids` that didn't pass a line, and the line. At least half of `goids` passed it."""
     passed = lines_of(recording)
     often = Counter(line for goid in goids for line in passed.of(goid))
@@ -128,5 +128,5 @@ def ended_words(recording: Recording, kind: Kind, did: str) -> str:
     names = of_names(name_of_goid(recording.lines, goid) for goid in kind.ended)
     others = counted(len(kind.did), "other")
     does = "did" if len(kind.did) != 1 else "did so"
-    start = f"{names}, started at {kind.made.place()}, ended without {did}; {others} of that go statement {does}"
+    start = f"{names}, started at {kind.statement.place()}, ended without {did}; {others} of that go statement {does}"
     return f"{start[0].upper()}{start[1:]}{lines_words(recording, kind.ended, kind.did)}."

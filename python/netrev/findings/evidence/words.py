@@ -110,7 +110,7 @@ def is_by_go(recording: Recording, call: Call) -> bool:
     return bool(recording.step(call.cause).argument("time") < 0)
 
 
-def told(recording: Recording, call: Call) -> str:
+def text_of_call(recording: Recording, call: Call) -> str:
     """A call with its place and its goroutine: `Read at pool.go:31 in query (goroutine 0)`."""
     return f"{name_of(recording, call)}{place_of(recording, call.first)} (goroutine {call.goroutine})"
 
@@ -130,7 +130,7 @@ def since_begin(recording: Recording, opened: int = 0) -> str:
     return " since the recording begins" if opened <= begins_at(recording) > 0 else ""
 
 
-def came_of(recording: Recording, call: Call) -> str:
+def result_words(recording: Recording, call: Call) -> str:
     """The result of a call, such as `put at least 64 bytes` if the recording caps the counts of reads and writes."""
     most, words = recording.lines.bytes, call.came()
     is_cut = bool(most and call.moved and call.moved >= most)

@@ -3,7 +3,7 @@ after a request and has passed nothing on since then."""
 
 from netrev.findings.evidence.index import index_of
 from netrev.findings.evidence.waiters import Waiter
-from netrev.findings.evidence.words import told
+from netrev.findings.evidence.words import text_of_call
 from netrev.recording.goroutines import PUT
 from netrev.recording.recording import Recording
 from netrev.recording.waits import Name, Waiting
@@ -31,6 +31,7 @@ def perhaps_dropped(recording: Recording, wait: Waiting, by: Waiter) -> list[str
     if not read or any(use.what == PUT and use.last >= read[-1].first for use in uses):
         return []
     return [
-        f"{told(recording, wrote[-1])} in {wrote[-1].steps()} was perhaps its request. {told(recording, read[-1])} got "
+        f"{text_of_call(recording, wrote[-1])} in {wrote[-1].steps()} was perhaps its request. "
+        f"{text_of_call(recording, read[-1])} got "
         f"{counted(read[-1].moved or 0, 'byte')} after that, in step {read[-1].last}, and nothing was put there since."
     ]

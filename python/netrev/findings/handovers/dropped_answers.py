@@ -8,7 +8,7 @@ from typing import Mapping, NamedTuple, Optional
 from netrev.findings.evidence.index import MOVING, Index
 from netrev.findings.evidence.need import Need
 from netrev.findings.evidence.waiters import Waiter
-from netrev.findings.evidence.words import told
+from netrev.findings.evidence.words import text_of_call
 from netrev.findings.pools.senders import PUTS, givings_of
 from netrev.findings.pools.unclosed import RECEIVE
 from netrev.findings.source.functions import Lines, indent_of, range_of, source_of, text_at
@@ -20,7 +20,7 @@ from netrev.recording.waits import Name, Waiting, name_of_goid
 from netrev.recording.where import OF_THE_PROGRAM, Call as LineCall, Stack
 from netrev.text.plurals import counted
 
-from .handed_over import asked_at, written_for
+from .handed_over import sockets_of_request, written_for
 
 GOES_ON = re.compile(r"\s*(continue\b|default:)")
 CONDITION = re.compile(r"\s*(?:\} else )?if\b")
@@ -44,7 +44,7 @@ def is_for_values(wait: Waiting) -> bool:
 def dropped_answer(index: Index, wait: Waiting, hands: Mapping[int, list[Hand]]) -> Optional[Need]:
     """What a waiting goroutine needs: an answer that a goroutine in `hands` (keyed by socket) read and passed to no
     other goroutine. None if unknown."""
-    sockets = asked_at(index, wait) if hands else set()
+    sockets = sockets_of_request(index, wait) if hands else set()
     for hand in (hand for socket in sorted(sockets) for hand in hands.get(socket, ())):
         wrote = request_of(index, wait, hand.call.socket)
         read = read_since(index, hand, wrote) if wrote else None
@@ -159,7 +159,8 @@ def says_of(index: Index, wait: Waiting, hand: Hand, wrote: Call, read: Call) ->
     recording, name = index.recording, hand.reader.name
     was = "was" if Name(wrote.goroutine) == wait.name else "was perhaps"
     says = [
-        f"{told(recording, wrote)} in {wrote.steps()} {was} its request. {told(recording, read)} got {counted(read.moved or 0, 'byte')} after "
+        f"{text_of_call(recording, wrote)} in {wrote.steps()} {was} its request. {text_of_call(recording, read)} got "
+        f"{counted(read.moved or 0, 'byte')} after "
         f"that, in step {read.last}, and reads on since step {hand.call.first}: it handed that to no goroutine that waits there."
     ]
     ways, place = ways_past(recording, hand.reader.stack, hand.line.file, hand.line.line), hand.line.place()

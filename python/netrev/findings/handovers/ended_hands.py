@@ -9,9 +9,9 @@ from netrev.findings.evidence.ended_goroutines import ended_where, ways_out
 from netrev.findings.evidence.index import Index
 from netrev.findings.evidence.ledger import END
 from netrev.findings.evidence.need import Need
-from netrev.findings.evidence.words import ENDED, told
+from netrev.findings.evidence.words import ENDED, text_of_call
 from netrev.findings.pools.balances import has_ended
-from netrev.findings.pools.new_channels import made_since
+from netrev.findings.pools.new_channels import channel_since
 from netrev.recording.call import Call as OneCall
 from netrev.recording.goroutines import FOR_VALUE, PUT, TOOK, Use
 from netrev.recording.waits import Name, Waiting, name_of_goid, of_names
@@ -35,7 +35,7 @@ def ended_hand(index: Index, wait: Waiting) -> Optional[Need]:
     lines, own = index.recording.lines, wait.stack.own()
     if not own or own[0].of != OF_THE_PROGRAM or len(wait.objects) != 1 or wait.objects[0].use != FOR_VALUE:
         return None
-    since = made_since(index.recording, wait)
+    since = channel_since(index.recording, wait)
     if any(use.what == PUT and use.last >= since for use in lines.uses.get(wait.objects[0].object, ())):
         return None
     hands = hands_at(index, own[0])
@@ -76,7 +76,8 @@ def says_of(index: Index, hands: Sequence[EndedHand]) -> list[str]:
     says = f"{last.name}, which put such values at {last.line.place()}, ended{step}{ended_where(index, last.name)}."
     failed = failed_last(index, last.name)
     how = (
-        f"Before that, {told(recording, failed)} {ENDED.get(failed.outcome, f'ended with {failed.error}')} (step {failed.last})."
+        f"Before that, {text_of_call(recording, failed)} {ENDED.get(failed.outcome, f'ended with {failed.error}')} "
+        f"(step {failed.last})."
         if failed
         else ""
     )

@@ -21,7 +21,8 @@ def put_before(recording: Recording, wait: Waiting) -> Optional[Use]:
     objects, inside = {at.object for at in wait.objects}, functions_of(wait.stack)
     found = (
         use for use in puts_of(recording).get(goid_of(recording, wait.name), ())
-        if use.object not in objects and use.end <= wait.begin and functions_of(recording.lines.stacks[use.stack]) & inside
+        if use.object not in objects and use.end <= wait.begin
+        and functions_of(recording.lines.stacks[use.stack]) & inside
     )  # fmt: skip
     return max(found, key=END, default=None)
 
@@ -37,7 +38,7 @@ def puts_of(recording: Recording) -> dict[int, list[Use]]:
     return found
 
 
-def asked_at(index: Index, wait: Waiting) -> set[int]:
+def sockets_of_request(index: Index, wait: Waiting) -> set[int]:
     """The sockets to which a goroutine wrote, and the sockets to which other goroutines wrote after they took its
     request from a channel."""
     lines, put = index.recording.lines, put_before(index.recording, wait)

@@ -7,7 +7,7 @@ from typing import Any, Callable, Hashable, Iterable, Iterator, Mapping, Optiona
 
 from netrev.findings.evidence.ended_goroutines import loop_words
 from netrev.findings.evidence.index import index_of
-from netrev.findings.evidence.ledger import GAVE_BEFORE, GIVES, GIVES_WORDS, Given, Ledger
+from netrev.findings.evidence.ledger import GAVE_BEFORE, GIVES, GIVES_WORDS, Ledger, Operation
 from netrev.findings.evidence.loop_variables import shared_variables
 from netrev.findings.evidence.need import Certainty, Need
 from netrev.findings.evidence.siblings import Kind, ended_words, kinds_of
@@ -18,7 +18,7 @@ from netrev.findings.pools.balances import Balance, balances_of, give_back, has_
 from netrev.findings.pools.balances_in_words import excess_says, kept_says
 from netrev.findings.pools.kept_ways import gives_on_most_ways, ways_with_an_error
 from netrev.findings.pools.made_channels import is_filled_by_maker
-from netrev.findings.pools.new_channels import made_since
+from netrev.findings.pools.new_channels import channel_since
 from netrev.findings.pools.senders import later_giver
 from netrev.findings.pools.sibling_channels import giver_at_siblings
 from netrev.findings.pools.slots import of_slots
@@ -151,30 +151,31 @@ class NeedsOfChannels:
 
     def _is_holder(self, balance: Balance, wait: Waiting) -> bool:
         """Whether the balance's goroutine has a value and waits, and isn't the goroutine of `wait`."""
-        return balance.name in self._waiters and balance.name != wait.name and balance.has_one
+        return balance.name in self._waiters and balance.name != wait.name and balance.has_value
 
     def is_new(self, wait: Waiting) -> bool:
         """Whether no goroutine has yet done what a goroutine waits for on its channels."""
-        since = self._made_since(wait)
-        operations = (operation for at in wait.objects for operation in self._given(at))
+        since = self._channel_since(wait)
+        operations = (operation for at in wait.objects for operation in self._operations(at))
         return (
             bool(wait.objects)
             and all(at.use for at in wait.objects)
             and not any(operation.last >= since for operation in operations)
         )
 
-    def _made_since(self, wait: Waiting) -> int:
-        """A step before which a goroutine's channel was made; 0 if unknown. The results of `made_since` are cached here."""
-        return self._once((wait.name, wait.objects, "made"), lambda: made_since(self._recording, wait))
+    def _channel_since(self, wait: Waiting) -> int:
+        """A step before which a goroutine's channel was made; 0 if unknown. The results of `channel_since` are
+        cached here."""
+        return self._once((wait.name, wait.objects, "made"), lambda: channel_since(self._recording, wait))
 
     def of(self, wait: Waiting) -> Need:
         """What a goroutine needs from its channels, if possible from the last goroutine that did the awaited operation."""
         is_one = len(wait.objects) == 1
-        since = self._made_since(wait)
+        since = self._channel_since(wait)
         operations = [
             candidate
             for at in wait.objects
-            for candidate in self._given(at)
+            for candidate in self._operations(at)
             if candidate.name != wait.name and candidate.last >= since
         ]
         closing = self._closing(wait)
@@ -207,7 +208,7 @@ class NeedsOfChannels:
     def _of_ended_takers(self, wait: Waiting) -> Need:
         """What a goroutine in a select needs: room in a channel from which only ended goroutines took values."""
         for at in wait.objects:
-            operations = self._given(at) if at.use == FOR_ROOM else []
+            operations = self._operations(at) if at.use == FOR_ROOM else []
             if operations and all(has_ended(self._recording, operation.name) for operation in operations):
                 latest, stack = operations[0], operations[0].stack
                 did = (
@@ -217,11 +218,14 @@ class NeedsOfChannels:
                 return Need([f"{did}; it {self._does(latest.name, stack)}.", *ended], is_odd=True)
         return ended_giver(index_of(self._recording), wait) or Need([])
 
-    def _of_the_past(self, wait: Waiting, operations: list[Given], closing: Optional[Need]) -> Need:
+    def _of_the_past(self, wait: Waiting, operations: list[Operation], closing: Optional[Need]) -> Need:
         """What a goroutine needs if no waiting goroutine did the awaited operation. The need says which other goroutine did it last, if any."""
         for operation in operations:
             loop = loop_words(self._recording, operation.stack) if has_ended(self._recording, operation.name) else ""
-            did = f"{str(operation.name).capitalize()} {GIVES_WORDS[operation.what]}{place_in(operation.stack)} (step {operation.last}{loop})"
+            did = (
+                f"{str(operation.name).capitalize()} {GIVES_WORDS[operation.what]}{place_in(operation.stack)} (step "
+                f"{operation.last}{loop})"
+            )
             ended = f"{did}; it {does}." if (does := self._does(operation.name, operation.stack)) else f"{did}."
             gone = operation.name if has_ended(self._recording, operation.name) else None
             return Need([ended, *((closing.more if closing else []) or have_ended(self._recording, wait))], gone=gone)
@@ -239,11 +243,11 @@ class NeedsOfChannels:
             )
         return later
 
-    def _given(self, at: At) -> list[Given]:
+    def _operations(self, at: At) -> list[Operation]:
         """Some goroutines that did the awaited operation on a channel. Waiting goroutines come first."""
 
-        def find() -> list[Given]:
-            operations = list(self._ledger.given(at))
+        def find() -> list[Operation]:
+            operations = list(self._ledger.operations(at))
             return sorted(operations, key=lambda operation: operation.name not in self._waiters)[:MOST_GIVEN]
 
         return self._once(("given", at), find)
@@ -282,7 +286,7 @@ class NeedsOfChannels:
             return []
         kinds = self._once(("kinds", wait.objects), lambda: self._kinds(wait.objects[0], what))
         inside = {outermost(call.function) for call in wait.stack.calls if call.of == OF_THE_PROGRAM}
-        return [kind for kind in kinds if kind.ended and outermost(kind.made.function) in inside][:1]
+        return [kind for kind in kinds if kind.ended and outermost(kind.statement.function) in inside][:1]
 
     def _kinds(self, at: At, what: str) -> list[Kind]:
         did = {use.goid for use in self._recording.lines.uses.get(at.object, ()) if use.what == what}
@@ -301,7 +305,8 @@ class NeedsOfChannels:
             return []
         left = [
             past_wait for waits in self._waits.of.values() for past_wait in waits
-            if past_wait.last is not None and any(other.object == at.object and other.use != FOR_ROOM for other in past_wait.objects)
+            if past_wait.last is not None
+            and any(other.object == at.object and other.use != FOR_ROOM for other in past_wait.objects)
         ]  # fmt: skip
         if not left:
             return []

@@ -5,7 +5,7 @@ from typing import Optional
 
 from netrev.findings.evidence.index import Index
 from netrev.findings.evidence.need import Need
-from netrev.findings.evidence.words import place_in, short, told
+from netrev.findings.evidence.words import place_in, short, text_of_call
 from netrev.findings.streams.unread import unread
 from netrev.recording.waits import Waiting
 from netrev.recording.where import OF_THE_PROGRAM
@@ -30,7 +30,8 @@ def of_own_reader(index: Index, wait: Waiting, position: int) -> Optional[Need]:
         now = next((call for call in wait.stack.calls if call.function in reading), None)
         if now:
             says = (
-                f"Perhaps it waits for itself: {counted(found.bytes, 'byte')} of {told(index.recording, found.wrote)} are unread on socket {found.socket}, "
+                f"Perhaps it waits for itself: {counted(found.bytes, 'byte')} of "
+                f"{text_of_call(index.recording, found.wrote)} are unread on socket {found.socket}, "
                 f"and only {wait.name} reads there,{place_in(stack)}. It is still in {short(now.function)}, at {now.place()}."
             )
             return Need([says], is_odd=True)

@@ -8,7 +8,7 @@ from netrev.findings.evidence.deadlines_ahead import deadline_ahead, setting_say
 from netrev.findings.evidence.index import READING, Index, index_of
 from netrev.findings.evidence.need import GOES_FIRST
 from netrev.findings.evidence.waiters import Waiter
-from netrev.findings.evidence.words import capital, name_of, place_in, told, waits_words
+from netrev.findings.evidence.words import capital, name_of, place_in, text_of_call, waits_words
 from netrev.findings.streams.gone_readers import gone_readers
 from netrev.findings.streams.unread import unread_says
 from netrev.recording.goroutines import FOR_VALUE
@@ -240,7 +240,7 @@ def waiter_words(recording: Recording, waiter: Waiter) -> str:
     """The beginning of the sentence about a waiter: `Read at a.go:3 in ask (goroutine 0) waits on socket 2 since step
     9`."""
     if waiter.call:
-        return f"{told(recording, waiter.call)} waits on socket {waiter.call.socket} since step {waiter.since}"
+        return f"{text_of_call(recording, waiter.call)} waits on socket {waiter.call.socket} since step {waiter.since}"
     return f"{capital(str(waiter.name))} {waits(waiter)} since step {waiter.since}"
 
 

@@ -5,7 +5,7 @@ case."""
 from operator import attrgetter
 from typing import NamedTuple, Optional
 
-from netrev.findings.evidence.responses import SERVE, has
+from netrev.findings.evidence.responses import SERVE, contains
 from netrev.findings.evidence.words import place_in
 from netrev.findings.source.locks import owner
 from netrev.recording.goroutines import A_SELECT, A_WAIT_GROUP, CLOSED, FOR_VALUE, PUT, Use
@@ -52,7 +52,7 @@ def group_wait_of(branch: Branch) -> Optional[Waiting]:
 def shutdown_of(recording: Recording, wait: Waiting) -> Optional[Waiting]:
     """The first wait of a Shutdown, if a goroutine serves a request of net/http. A wait that doesn't end is preferred,
     because Shutdown polls."""
-    if not has(wait.stack, SERVE):
+    if not contains(wait.stack, SERVE):
         return None
     every = (
         past_wait for waits in waits_of(recording).of.values() for past_wait in waits if past_wait.kind == ALL_REQUESTS

@@ -11,7 +11,7 @@ from netrev.findings.datagrams.unheard import unheard
 from netrev.findings.evidence.index import READING, Index
 from netrev.findings.evidence.need import Certainty, Need
 from netrev.findings.evidence.waiters import Waiter
-from netrev.findings.evidence.words import came_of, place_of_step, since_begin, told, waits_words
+from netrev.findings.evidence.words import place_of_step, result_words, since_begin, text_of_call, waits_words
 from netrev.findings.http.held_back import held_back
 from netrev.findings.locks.new_readers import left_reader, thrown_away
 from netrev.findings.pools.left_sockets import left_socket
@@ -93,12 +93,13 @@ class Needs:
         """What a call needs while it waits for the lock of a socket's side: the end of the call that holds the lock."""
         holders = [
             candidate for candidate in self._index.by_socket[call.socket]
-            if candidate.side == call.side and not candidate.is_asking and candidate.first <= self._position and self._is_under_way(candidate)
+            if candidate.side == call.side and not candidate.is_asking and candidate.first <= self._position
+            and self._is_under_way(candidate)
         ]  # fmt: skip
         if not holders or not call.side:
             return Need([])
         holder, lock = holders[-1], f"socket {call.socket}'s {SIDES[call.side]} lock"
-        says = f"It waits for {lock}, which {told(self._recording, holder)} has since step {holder.first}."
+        says = f"It waits for {lock}, which {text_of_call(self._recording, holder)} has since step {holder.first}."
         names = {Name(holder.goroutine), Name(call.goroutine)}
         return Need([says], Name(holder.goroutine), "{by} has the lock", more=self._elsewhere.excess_of(names))
 
@@ -122,7 +123,9 @@ class Needs:
             by = Name(opened.goroutine) if opened else None
             return Need(says, by, "perhaps {by} should use the other end, which it opened", Certainty.PERHAPS)
         if did and index.inside(last.goroutine, self._position) is did and not did.is_asking:
-            return Need([*says, f"There {told(self._recording, last)} is itself under way since step {last.first}."])
+            return Need(
+                [*says, f"There {text_of_call(self._recording, last)} is itself under way since step {last.first}."]
+            )
         if is_reading and not did and (relay := self._relay_back(last)):
             return Need(
                 [*says, *self._since_then(last)],
@@ -240,13 +243,14 @@ class Needs:
         says what the goroutine does now."""
         recording, now = self._recording, self._index.inside(last.goroutine, self._position)
         if now is last:
-            return [f"There {told(recording, last)} is itself under way since step {last.first}."]
-        result = f", {came_of(recording, last)}" if last.came() and last.last <= self._position else ""
+            return [f"There {text_of_call(recording, last)} is itself under way since step {last.first}."]
+        result = f", {result_words(recording, last)}" if last.came() and last.last <= self._position else ""
         did = (
-            f"There {told(recording, last)} was the last, {last.steps() if last.last <= self._position else ''}{result}"
+            f"There {text_of_call(recording, last)} was the last, "
+            f"{last.steps() if last.last <= self._position else ''}{result}"
         )
         if now:
-            return [f"{did}; it is now in {told(recording, now)}, since step {now.first}."]
+            return [f"{did}; it is now in {text_of_call(recording, now)}, since step {now.first}."]
         return [f"{did}; {doing(self._index, self._waits, last.goroutine, self._position)}."]
 
 

@@ -7,9 +7,9 @@ from netrev.findings.evidence.ended_goroutines import ended_where
 from netrev.findings.evidence.index import READING, Index, back
 from netrev.findings.evidence.ledger import Ledger
 from netrev.findings.evidence.need import Certainty, Need
-from netrev.findings.evidence.responses import SERVE, has, server_of, socket_of
+from netrev.findings.evidence.responses import SERVE, contains, server_of, socket_of
 from netrev.findings.evidence.waiters import Waiter
-from netrev.findings.evidence.words import told, waits_words
+from netrev.findings.evidence.words import text_of_call, waits_words
 from netrev.findings.handovers.dropped_answers import Hand, by_socket, dropped_answer, hands_of, is_for_values
 from netrev.findings.handovers.dropped_requests import dropped_request
 from netrev.findings.handovers.ended_hands import ended_hand
@@ -18,7 +18,7 @@ from netrev.findings.handovers.own_readers import of_own_reader
 from netrev.findings.http.bodies_left_open import open_bodies
 from netrev.findings.http.held_back import held_back
 from netrev.findings.http.rpc_calls import dropped_by_rpc
-from netrev.findings.locks.conditions import one_alone, unsignalled
+from netrev.findings.locks.conditions import single_signal, unsignalled
 from netrev.findings.locks.groups import Groups
 from netrev.findings.locks.mutex_holders import MutexHolders
 from netrev.findings.locks.needs_of_mutexes import NeedsOfMutexes
@@ -164,7 +164,7 @@ class NeedsElsewhere:
         ]  # fmt: skip
         if not users:
             return Need([])
-        says = f"{told(self._recording, users[-1])} uses socket {closes.socket} since step {users[-1].first}."
+        says = f"{text_of_call(self._recording, users[-1])} uses socket {closes.socket} since step {users[-1].first}."
         return Need([says], Name(users[-1].goroutine), "{by} uses the descriptor")
 
     def _of_condition(self, wait: Waiting) -> list[str]:
@@ -173,7 +173,9 @@ class NeedsElsewhere:
         key = wait.stack.own(), wait.objects
         if key not in self._conditions:
             alike = [waiter for waiter in self._waiters.values() if waiter.wait and waiter.wait.objects == wait.objects]
-            self._conditions[key] = unsignalled(self._recording, wait) or one_alone(self._recording, wait, len(alike))
+            self._conditions[key] = unsignalled(self._recording, wait) or single_signal(
+                self._recording, wait, len(alike)
+            )
         return self._conditions[key]
 
     def _of_connection(self) -> Need:
@@ -187,12 +189,12 @@ class NeedsElsewhere:
     def _of_requests(self, waiter: Waiter) -> Need:
         """What a Shutdown of net/http needs: the end of a request that its own goroutine serves, or that another
         goroutine perhaps serves."""
-        if has(waiter.stack, SERVE):
+        if contains(waiter.stack, SERVE):
             return Need([], more=["It serves a request itself, for whose end Shutdown waits."])
         serving = [
             name
             for name, stack in self._stacks()
-            if has(stack, SERVE) and any(call.of == OF_THE_PROGRAM for call in stack.calls)
+            if contains(stack, SERVE) and any(call.of == OF_THE_PROGRAM for call in stack.calls)
         ]
         by = next((name for name in serving if name in self._waiters), None)
         if by:

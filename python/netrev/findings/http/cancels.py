@@ -8,7 +8,7 @@ from operator import attrgetter
 from typing import Iterator, NamedTuple, Optional
 
 from netrev.findings.evidence.index import Index
-from netrev.findings.evidence.responses import has, server_of
+from netrev.findings.evidence.responses import contains, server_of
 from netrev.findings.evidence.words import place_in, waits_words
 from netrev.findings.source.functions import found_in, text_at
 from netrev.recording.call import Call
@@ -56,7 +56,7 @@ def cancel_before(index: Index, step: int) -> Optional[Cancel]:
     found = [finding for finding in found_closed(recording, goid, since, step) if finding.looker in inside]
     for finding in sorted(found, key=attrgetter("time"), reverse=True):
         closes = [use for use in lines.uses.get(finding.object, ()) if use.what == CLOSED and use.last < step]
-        if closes and (has(lines.stacks[closes[-1].stack], OF_A_CONTEXT) or lines.stacks[closes[-1].stack].own()):
+        if closes and (contains(lines.stacks[closes[-1].stack], OF_A_CONTEXT) or lines.stacks[closes[-1].stack].own()):
             return Cancel(goroutine, closes[-1], limits_of(recording, closes[-1], goid))
     return None
 
@@ -111,7 +111,7 @@ def limits_before(recording: Recording, time: int, goid: int) -> list[Timer]:
     timers, the result has only its own."""
     timers = [
         timer for timer in recording.lines.timers.get(0, ())
-        if has(recording.lines.stacks[timer.stack], OF_A_LIMIT) and timer.due <= time < timer.due + LATE
+        if contains(recording.lines.stacks[timer.stack], OF_A_LIMIT) and timer.due <= time < timer.due + LATE
     ]  # fmt: skip
     mine = [timer for timer in timers if timer.goid == goid] or timers
     return sorted(mine, key=attrgetter("due"), reverse=True)
@@ -122,7 +122,7 @@ def cancel_says(index: Index, cancel: Cancel) -> str:
     lines, found = index.recording.lines, f"Goroutine {cancel.goroutine} had found"
     if not cancel.timers:
         stack, name = lines.stacks[cancel.use.stack], name_of_goid(lines, cancel.use.goid)
-        what = "a context cancelled" if has(stack, OF_A_CONTEXT) else "a channel closed"
+        what = "a context cancelled" if contains(stack, OF_A_CONTEXT) else "a channel closed"
         own = stack.own()
         leaves = (
             own
@@ -133,7 +133,7 @@ def cancel_says(index: Index, cancel: Cancel) -> str:
         return f"{found} {what}{where}{', as that function returned' if leaves else ''}."
     timer = cancel.timers[0]
     stack, name, perhaps = lines.stacks[timer.stack], name_of_goid(lines, timer.goid), perhaps_of(index, cancel.timers)
-    if has(stack, OF_A_CLIENT):
+    if contains(stack, OF_A_CLIENT):
         earlier = f" ({name}, step {timer.step}), {duration(timer.due - timer.time)} earlier"
         when = f" ({name})" if is_of_a_rest(index.recording, timer) else earlier
         return (
@@ -197,7 +197,8 @@ def after_says(index: Index, step: int, goroutine: int) -> list[str]:
         return []
     closes = [
         use for uses in lines.uses.values() for use in uses
-        if use.what == CLOSED and use.goid == known.maker and use.end <= known.begin and has(lines.stacks[use.stack], OF_A_CONTEXT)
+        if use.what == CLOSED and use.goid == known.maker and use.end <= known.begin
+        and contains(lines.stacks[use.stack], OF_A_CONTEXT)
     ]  # fmt: skip
     last = max(closes, key=attrgetter("end"), default=None)
     if last is None and (limits := limits_before(index.recording, known.begin, 0)):

@@ -71,7 +71,8 @@ def of_a_handler(recording: Recording, goid: int) -> list[str]:
     if not context:
         return []
     return [
-        f"Its goroutine was started at {statement.place()}, in a function that takes {request[1]}.Context() at {statement.file}:{context}: net/http ends that "
+        f"Its goroutine was started at {statement.place()}, in a function that takes {request[1]}.Context() at "
+        f"{statement.file}:{context}: net/http ends that "
         "context as the handler returns."
     ]
 

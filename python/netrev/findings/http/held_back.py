@@ -6,8 +6,8 @@ from typing import Iterator, Optional
 
 from netrev.findings.evidence.ended_goroutines import loop_round
 from netrev.findings.evidence.index import Index, back
-from netrev.findings.evidence.responses import SERVE, has, server_of
-from netrev.findings.evidence.words import told
+from netrev.findings.evidence.responses import SERVE, contains, server_of
+from netrev.findings.evidence.words import text_of_call
 from netrev.findings.source.functions import Lines, indent_of, range_of, source_of
 from netrev.findings.source.statements import code_at
 from netrev.recording.call import Call
@@ -26,12 +26,12 @@ def held_back(index: Index, socket: int, position: int) -> list[str]:
     flush it."""
     other, server = index.other_end(socket), server_of(index, socket, position)
     stack = stack_of(index, server, position) if server else None
-    if other is None or server is None or stack is None or not has(stack, SERVE):
+    if other is None or server is None or stack is None or not contains(stack, SERVE):
         return []
-    if has(stack, PROXY):
+    if contains(stack, PROXY):
         where = "Perhaps its ReverseProxy holds back what it has read, as it does without a FlushInterval."
-        return [where, *came_since(index, server, other, position)]
-    unpassed = came_since(index, server, other, position)
+        return [where, *unpassed_says(index, server, other, position)]
+    unpassed = unpassed_says(index, server, other, position)
     if (flush := flushed_in_vain(index.recording, stack)) and not has_written(index, server, other, position):
         return [
             f"{flush} should have flushed the answer, and nothing was written to socket {other} since its request: perhaps its "
@@ -65,7 +65,7 @@ def has_written(index: Index, server: Name, socket: int, position: int) -> bool:
     return last is not None and last.name == "Write"
 
 
-def came_since(index: Index, server: Name, socket: int, position: int) -> list[str]:
+def unpassed_says(index: Index, server: Name, socket: int, position: int) -> list[str]:
     """Sentences about a goroutine that, since it last read from a socket, has got bytes from another socket and has
     written nothing to the first."""
     calls = [call for call in index.by_goroutine.get(server.number, []) if call.first <= position]
@@ -77,7 +77,8 @@ def came_since(index: Index, server: Name, socket: int, position: int) -> list[s
     if not request or not got or any(call.name == "Write" and call.socket == socket for call in since):
         return []
     return [
-        f"{told(index.recording, got[-1])} got {counted(got[-1].moved or 0, 'byte')} in step {got[-1].last}, and nothing was written to "
+        f"{text_of_call(index.recording, got[-1])} got {counted(got[-1].moved or 0, 'byte')} in step {got[-1].last}, "
+        "and nothing was written to "
         f"socket {socket} since."
     ]
 

@@ -4,7 +4,7 @@ own code wrote these answers."""
 from typing import Iterator
 
 from netrev.findings.evidence.index import Cause, Index
-from netrev.findings.evidence.words import duration, is_of_go, told, waits_words
+from netrev.findings.evidence.words import duration, is_of_go, text_of_call, waits_words
 from netrev.recording.call import Call, Outcome
 from netrev.recording.waits import Name, Waiting, waits_of
 
@@ -28,7 +28,8 @@ def late_answers(index: Index) -> Iterator[Cause]:
             continue
         limit = duration(recording.step(call.cause).argument("time"))
         says = [
-            f"An http.Server's WriteTimeout, {limit}, had passed before an answer was written: {told(recording, call)} ended with a timeout.",
+            f"An http.Server's WriteTimeout, {limit}, had passed before an answer was written: "
+            f"{text_of_call(recording, call)} ended with a timeout.",
             f"It counts from where the request was read, in step {call.cause}.",
             *at_work(index, call),
         ]
@@ -44,7 +45,8 @@ def at_work(index: Index, call: Call) -> list[str]:
     inside, waits = index.inside(call.goroutine, passed), waits_of(index.recording)
     if inside and not is_of_go(index.recording, inside):
         return [
-            f"As it passed, in step {passed}, {server} was in {told(index.recording, inside)}, since step {inside.first}."
+            f"As it passed, in step {passed}, {server} was in {text_of_call(index.recording, inside)}, since step "
+            f"{inside.first}."
         ]
     if wait := waits.at(Name(call.goroutine), passed):
         return [f"As it passed, in step {passed}, {server} {was(wait)}."]

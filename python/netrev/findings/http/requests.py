@@ -6,7 +6,7 @@ from operator import attrgetter
 from typing import Iterator, NamedTuple, Optional
 
 from netrev.findings.evidence.index import Index
-from netrev.findings.evidence.responses import WRITE_LOOP, has
+from netrev.findings.evidence.responses import WRITE_LOOP, contains
 from netrev.findings.evidence.words import place_in
 from netrev.recording.call import Call
 from netrev.recording.goroutines import CLOSED, ENDED, PUT, TOOK, Timer, Use
@@ -68,7 +68,7 @@ class CancelledRequest(NamedTuple):
         stack = recording.lines.stacks[self.timer.stack]
         step, time = f" (step {self.timer.step})", duration(self.timer.due - self.timer.time)
         is_rest = is_of_a_rest(recording, self.timer)
-        if has(stack, CLIENT_TIMEOUT):
+        if contains(stack, CLIENT_TIMEOUT):
             since = f"It counts from the call{place_in(stack)}{'' if is_rest else f'{step}, {time} earlier'}."
             return [f"{begins} its client's Timeout passed (step {self.step}).", since]
         set_at = f"That was set{place_in(stack)}{'' if is_rest else f'{step}, {time} ahead'}."
@@ -80,8 +80,8 @@ def requests_of(index: Index) -> list[Request]:
     goroutine took values, and that goroutine wrote to only one socket."""
     lines, found = index.recording.lines, []
     for uses in lines.uses.values():
-        puts = [use for use in uses if use.what == PUT and has(lines.stacks[use.stack], ROUND_TRIP)]
-        loops = {use.goid for use in uses if use.what == TOOK and has(lines.stacks[use.stack], WRITE_LOOP)}
+        puts = [use for use in uses if use.what == PUT and contains(lines.stacks[use.stack], ROUND_TRIP)]
+        loops = {use.goid for use in uses if use.what == TOOK and contains(lines.stacks[use.stack], WRITE_LOOP)}
         socket = written_by(index, *loops) if puts and len(loops) == 1 else None
         if socket is not None:
             found += [request_of(index.recording, use, socket) for use in puts if lines.stacks[use.stack].own()]
@@ -149,9 +149,9 @@ def timer_of(recording: Recording, request: Request, close: Use) -> Optional[Tim
     stacks = recording.lines.stacks
     timers = [
         timer for some in recording.lines.timers.values() for timer in some
-        if timer.time < close.begin and has(stacks[timer.stack], WITH_DEADLINE)
+        if timer.time < close.begin and contains(stacks[timer.stack], WITH_DEADLINE)
     ]  # fmt: skip
-    of_client = [timer for timer in timers if has(stacks[timer.stack], CLIENT_TIMEOUT)]
+    of_client = [timer for timer in timers if contains(stacks[timer.stack], CLIENT_TIMEOUT)]
     own = [
         timer for timer in of_client
         if timer.goid == request.goid and timer.time <= request.time and stacks[timer.stack].own() == request.stack.own()

@@ -3,7 +3,7 @@ that its caller passed to Client.Go, but only if that channel has room."""
 
 import re
 
-from netrev.findings.evidence.responses import has
+from netrev.findings.evidence.responses import contains
 from netrev.findings.pools.unclosed import RECEIVE
 from netrev.findings.source.functions import text_at
 from netrev.findings.source.package import files_of
@@ -25,7 +25,7 @@ def dropped_by_rpc(recording: Recording, wait: Waiting) -> list[str]:
     known = lines.objects.get(at.object)
     if not known or known.room < 1 or not puts:
         return []
-    if not all(has(lines.stacks[use.stack], DONE) for use in puts) or sum(use.often for use in puts) < known.room:
+    if not all(contains(lines.stacks[use.stack], DONE) for use in puts) or sum(use.often for use in puts) < known.room:
         return []
     origin, name = "", RECEIVE.search(text_at(recording, own[0])) if own and own[0].of == OF_THE_PROGRAM else None
     if own and name:
@@ -38,6 +38,7 @@ def dropped_by_rpc(recording: Recording, wait: Waiting) -> list[str]:
         )
         origin = next(found, "")
     return [
-        f"Perhaps calls were dropped: that channel{origin} has room for {counted(known.room, 'value')}, and net/rpc drops a call that is done while it "
+        f"Perhaps calls were dropped: that channel{origin} has room for {counted(known.room, 'value')}, and net/rpc "
+        "drops a call that is done while it "
         "is full."
     ]

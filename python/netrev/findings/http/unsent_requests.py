@@ -7,7 +7,7 @@ from typing import Iterator, NamedTuple, Optional
 
 from netrev.findings.evidence.index import Cause, Index
 from netrev.findings.evidence.ledger import END
-from netrev.findings.evidence.responses import WRITE_LOOP, has
+from netrev.findings.evidence.responses import WRITE_LOOP, contains
 from netrev.findings.evidence.words import place_in
 from netrev.findings.source.functions import found_in
 from netrev.recording.call import CLOSE, Call
@@ -65,7 +65,7 @@ def unsent_requests(index: Index) -> Iterator[Unsent]:
     lines, cancelled = index.recording.lines, {request.closed.first for request in cancelled_requests(index)}
     for calls in index.by_socket.values():
         for call in calls:
-            if call.name == CLOSE and call.first not in cancelled and has(lines.of(call.first), WRITE_LOOP):
+            if call.name == CLOSE and call.first not in cancelled and contains(lines.of(call.first), WRITE_LOOP):
                 use = request_of(index, call)
                 if use and not has_written(index, call, use) and is_of_program(index.recording, use):
                     yield Unsent(use, name_of_goid(lines, use.goid), call, step_before(index.recording, use))
@@ -76,8 +76,8 @@ def request_of(index: Index, closed: Call) -> Optional[Use]:
     lines, goid = index.recording.lines, index.recording.lines.goid_of(closed.goroutine, closed.first)
     found = list[Use]()
     for uses in lines.uses.values():
-        if any(use.goid == goid and use.what == TOOK and has(lines.stacks[use.stack], WRITE_LOOP) for use in uses):
-            found += [use for use in uses if use.what == PUT and has(lines.stacks[use.stack], ROUND_TRIP)]
+        if any(use.goid == goid and use.what == TOOK and contains(lines.stacks[use.stack], WRITE_LOOP) for use in uses):
+            found += [use for use in uses if use.what == PUT and contains(lines.stacks[use.stack], ROUND_TRIP)]
     return max((use for use in found if use.last < closed.first), key=END, default=None)
 
 
@@ -100,7 +100,7 @@ def step_before(recording: Recording, last: Use) -> int:
         step
         for uses in lines.uses.values()
         for use in uses
-        if use.goid == last.goid and use.what == PUT and has(lines.stacks[use.stack], ROUND_TRIP)
+        if use.goid == last.goid and use.what == PUT and contains(lines.stacks[use.stack], ROUND_TRIP)
         and lines.stacks[use.stack].own() == own
         for step in (use.first, use.last)
         if step < last.last

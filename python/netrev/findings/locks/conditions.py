@@ -38,17 +38,19 @@ class Waking(NamedTuple):
 def unsignalled(recording: Recording, wait: Waiting) -> list[str]:
     """Sentences about functions that change what a Wait's loop tests but call neither Signal nor Broadcast."""
     return [
-        f"Perhaps {waking.file}:{waking.changes} in {waking.function} should have woken it: it changes {waking.field}, which the loop around the Wait "
+        f"Perhaps {waking.file}:{waking.changes} in {waking.function} should have woken it: it changes {waking.field}, "
+        "which the loop around the Wait "
         "tests, and that function calls neither Signal nor Broadcast."
         for waking in wakings_of(recording, wait)
         if not waking.signal and not waking.is_waiting
     ][:MOST]
 
 
-def one_alone(recording: Recording, wait: Waiting, waiting: int) -> list[str]:
+def single_signal(recording: Recording, wait: Waiting, waiting: int) -> list[str]:
     """Sentences about a function that sets a flag for which several goroutines wait, but wakes only one of them."""
     return [
-        f"Perhaps {waking.file}:{waking.signal} in {waking.function} should wake all: Signal wakes only one goroutine, and {waiting} still wait."
+        f"Perhaps {waking.file}:{waking.signal} in {waking.function} should wake all: Signal wakes only one goroutine, "
+        f"and {waiting} still wait."
         for waking in wakings_of(recording, wait)
         if waking.signal and not waking.is_for_all and waiting > 1 and waking.is_flag
     ][:MOST] or mistaken_signal(recording, wait)
@@ -72,7 +74,8 @@ def mistaken_signal(recording: Recording, wait: Waiting) -> list[str]:
     else:
         return []
     return [
-        f"Perhaps {waking.file}:{waking.signal} in {waking.function} woke another one: {why}and Signal wakes only one goroutine."
+        f"Perhaps {waking.file}:{waking.signal} in {waking.function} woke another one: {why}and Signal wakes only one "
+        "goroutine."
         for waking in wakings_of(recording, wait)
         if waking.signal and not waking.is_for_all
     ][:MOST]

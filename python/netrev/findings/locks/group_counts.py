@@ -89,8 +89,12 @@ def kinds_at(recording: Recording, count: Count) -> list[Kind]:
 def next_behind(recording: Recording, count: Count, kinds: list[Kind]) -> list[Kind]:
     """The next `go` statement after the line that called Add, in the same function."""
     own = recording.lines.stacks[count.added[0].stack].own()
-    near = [kind for kind in kinds if own and kind.made.function == own[0].function and kind.made.line >= own[0].line]
-    return sorted(near, key=lambda kind: kind.made.line)[:1]
+    near = [
+        kind
+        for kind in kinds
+        if own and kind.statement.function == own[0].function and kind.statement.line >= own[0].line
+    ]
+    return sorted(near, key=lambda kind: kind.statement.line)[:1]
 
 
 def ended_says(recording: Recording, count: Count) -> list[str]:
@@ -101,7 +105,7 @@ def ended_says(recording: Recording, count: Count) -> list[str]:
     if says or not kinds or not count.is_once or any(kind.alive for kind in kinds):
         return says
     number, places = sum(len(kind.did) for kind in kinds), " and ".join(
-        kind.made.place() for kind in kinds[:MOST_KINDS]
+        kind.statement.place() for kind in kinds[:MOST_KINDS]
     )
     if number != total(count.done):
         return []
@@ -122,9 +126,12 @@ def kind_says(recording: Recording, count: Count, kind: Kind) -> str:
     lines, every = recording.lines, [*kind.did, *kind.ended, *kind.alive]
     names = of_names(name_of_goid(lines, goid) for goid in kind.ended)
     if len(every) == 1:
-        return f"The goroutine started at {kind.made.place()}, {names}, ended without Done."
+        return f"The goroutine started at {kind.statement.place()}, {names}, ended without Done."
     of_done = {call for use in count.done for call in lines_in(lines.stacks[use.stack])}
     differs = lines_words(recording, kind.ended, kind.did, of_done)
     did = f"{len(kind.did)} called Done" if kind.did else "none called Done"
     alive = f"{len(kind.alive)} may yet do so, " if kind.alive else ""
-    return f"Of the {len(every)} goroutines started at {kind.made.place()} {did}, {alive}and {names} ended without it{differs}."
+    return (
+        f"Of the {len(every)} goroutines started at {kind.statement.place()} {did}, {alive}and {names} ended without "
+        f"it{differs}."
+    )

@@ -7,7 +7,7 @@ from typing import Callable, Container, NamedTuple, Optional
 
 from netrev.findings.evidence.index import Index
 from netrev.findings.evidence.need import Certainty, Need
-from netrev.findings.evidence.siblings import lines_words, odd_ones
+from netrev.findings.evidence.siblings import lines_words, odd_goroutines
 from netrev.findings.evidence.waiters import Waiter
 from netrev.findings.evidence.words import short
 from netrev.findings.pools.made_channels import has_returned
@@ -218,7 +218,7 @@ class Groups:
         lines, failed = self._recording.lines, [goid for goid in goids if self._failed_dial(goid)]
         many = "The goroutine" if len(goids) == 1 else f"All {len(goids)} goroutines"
         says = [f"{many} started at {statement.place()} ha{'s' if len(goids) == 1 else 've'} ended."]
-        found = odd_ones(self._recording, goids)
+        found = odd_goroutines(self._recording, goids)
         odd = found[0] if found else failed if len(failed) < len(goids) else goids[:1] if len(goids) == 1 else []
         if not odd:
             return says

@@ -4,7 +4,7 @@ were locked at the end."""
 from typing import Callable, Iterator, Mapping, NamedTuple, Optional
 
 from netrev.findings.evidence.need import GOES_FIRST, Certainty, Need
-from netrev.findings.evidence.responses import has
+from netrev.findings.evidence.responses import contains
 from netrev.findings.evidence.waiters import Waiter
 from netrev.findings.evidence.words import place_in, short
 from netrev.findings.source.copied_structs import copies_says
@@ -82,7 +82,7 @@ class MutexHolders:
             yield from readers
         else:
             yield from writers
-            yield from (reader for reader in readers if reader.name == wait.name and not has(wait.stack, READS))
+            yield from (reader for reader in readers if reader.name == wait.name and not contains(wait.stack, READS))
 
     def _holder(self, held: Held) -> Holder:
         lines = self._recording.lines

@@ -5,7 +5,7 @@ import re
 from typing import Optional
 
 from netrev.findings.evidence.index import Index, back
-from netrev.findings.evidence.words import came_of, told
+from netrev.findings.evidence.words import result_words, text_of_call
 from netrev.findings.source.functions import range_of, source_of, text_at
 from netrev.recording.call import Call
 from netrev.recording.where import OF_THE_PROGRAM, Call as LineCall, Stack
@@ -38,12 +38,14 @@ def thrown_away(index: Index, call: Call, other: int, position: int) -> list[str
         return []
     answers = [
         write for write in calls
-        if write.name == "Write" and write.moved and write.first > before.last and own[0].function not in functions_of(index, write)
+        if write.name == "Write" and write.moved and write.first > before.last
+        and own[0].function not in functions_of(index, write)
     ]  # fmt: skip
     if not answers or not waits_on(index, other, before, answers[-1], position):
         return []
     return [
-        f"Perhaps bytes that it had read before are lost: {own[0].file}:{line} makes a new reader with a buffer in each call. The other end has "
+        f"Perhaps bytes that it had read before are lost: {own[0].file}:{line} makes a new reader with a buffer in each "
+        "call. The other end has "
         f"written nothing since step {before.last}, got an answer, and waits for more."
     ]
 
@@ -87,7 +89,9 @@ def past_a_reader(index: Index, call: Call, other: int, read: Call, position: in
         line = maker_line(index, frame) if frame.of == OF_THE_PROGRAM and outermost(frame.function) in inside else 0
         if line:
             return [
-                lost_with(index, frame.file, line, read, read, f"{told(index.recording, call)} doesn't read from that")
+                lost_with(
+                    index, frame.file, line, read, read, f"{text_of_call(index.recording, call)} doesn't read from that"
+                )
             ]
     return []
 
@@ -108,7 +112,8 @@ def lost_with(index: Index, file: str, line: int, read: Call, last: Call, why: s
     since = "since" if read is last else f"since step {last.last}"
     return (
         f"Perhaps bytes that were read before are lost: {file}:{line} made a reader with a buffer, which got "
-        f"{came_of(index.recording, read).removeprefix('got ')} in step {read.last}, and {why}. The other end has written nothing {since}."
+        f"{result_words(index.recording, read).removeprefix('got ')} in step {read.last}, and {why}. The other end has "
+        f"written nothing {since}."
     )
 
 

@@ -8,7 +8,7 @@ from typing import NamedTuple, Optional
 
 from netrev.findings.evidence.ended_goroutines import body_of, loop_round
 from netrev.findings.source.functions import Lines, range_of, source_of, text_at
-from netrev.findings.source.skipped_ways import has, is_text, skipped_ways, that_stay, ways_words
+from netrev.findings.source.skipped_ways import is_match, is_text, skipped_ways, that_stay, ways_words
 from netrev.recording.goroutines import PUT, TOOK, Use
 from netrev.recording.recording import Recording
 from netrev.recording.waits import Waits, name_of_goid
@@ -80,7 +80,7 @@ def unput_says(recording: Recording, count: Count, puts: list[Use]) -> list[str]
     if not line or not lines or not within:
         return [f"{many} came, and each had its Done: more was added than that."]
     head, text = loop_round(lines, within, line.line), code(lines, line.line).partition(" <- ")[0]
-    ways = skipped_ways(lines, within, is_text(code(lines, head)), has(rf"{re.escape(text)} <- ")) if head else []
+    ways = skipped_ways(lines, within, is_text(code(lines, head)), is_match(rf"{re.escape(text)} <- ")) if head else []
     goes = f": {ways_words(line.file, ways)} without it" if ways else ""
     return [f"{many} came from {line.place()}, and each had its Done: more was added than that{goes}."]
 
@@ -157,10 +157,10 @@ def words_of_ways(recording: Recording, every: list[Rounds], has_left: bool) -> 
     if not lines or not inner or not within:
         return ""
     texts = {text_at(recording, loop.line).strip().partition("(")[0] for loop in every}
-    ends = has(rf"(?:{'|'.join(map(re.escape, sorted(texts)))})\(")
+    ends = is_match(rf"(?:{'|'.join(map(re.escape, sorted(texts)))})\(")
     ways = skipped_ways(lines, within, is_text(code(lines, rounds.takes)), ends)
     words = [ways_words(rounds.line.file, ways if has_left else that_stay(ways))]
     function = range_of(inner, rounds.done) if rounds.done != rounds.line else None
     if function:
-        words.append(ways_words(rounds.done.file, skipped_ways(inner, function, None, has(r"\.Done\(\)"))))
+        words.append(ways_words(rounds.done.file, skipped_ways(inner, function, None, is_match(r"\.Done\(\)"))))
     return " and ".join(some for some in words if some)

@@ -52,7 +52,7 @@ class Balance(NamedTuple):
     takes: str
     taken: Counter[Call]
     given: Counter[Call]
-    has_one: bool = False
+    has_value: bool = False
     is_taking: bool = False
     is_giving: bool = False
     called: str = ""  # the caller's line, if a goroutine called the function from several places
@@ -60,7 +60,7 @@ class Balance(NamedTuple):
     @property
     def missing(self) -> int:
         """The number of values that finished calls took and didn't give back."""
-        return self.taken.total() - self.given.total() - (self.has_one or self.is_giving)
+        return self.taken.total() - self.given.total() - (self.has_value or self.is_giving)
 
     @property
     def says(self) -> str:
@@ -71,7 +71,7 @@ class Balance(NamedTuple):
         words = f"{self.name} {did} {counted(many, 'value')} there{at_lines(self.taken)} and {gave} "
         words += f"{given} {back}{at_lines(self.given)}" if given else f"none {back}"
         words += f", in calls from {self.called}" if self.called else ""
-        now = "it waits to give one more back" if self.is_giving else "it has one now" if self.has_one else ""
+        now = "it waits to give one more back" if self.is_giving else "it has one now" if self.has_value else ""
         return words + (f"; {now}" if now else "")
 
 
@@ -191,14 +191,14 @@ def balance_of(
             (taken if use.what == form.takes else given)[place.line] += use.often
     balance = Balance(name, form.takes, taken, given)
     if name not in now:
-        return balance._replace(has_one=not has_ended(recording, name))
+        return balance._replace(has_value=not has_ended(recording, name))
     current = current_in(form.function, path, now[name])
     if current is None:
         return balance
     line, frames = current
     if frames in (program_frames(stacks[use.stack]) for use in uses if use.what == form.takes):
         return balance._replace(is_taking=True)
-    return balance._replace(is_giving=line in form.giving, has_one=line not in form.giving and form.has_at(line))
+    return balance._replace(is_giving=line in form.giving, has_value=line not in form.giving and form.has_at(line))
 
 
 def has_ended(recording: Recording, name: Name) -> bool:

@@ -7,7 +7,16 @@ from typing import Iterable, Optional
 
 from netrev.findings.evidence.ended_goroutines import body_of, loop_at
 from netrev.findings.source.functions import found_in, function_of, indent_of, source_of, text_at
-from netrev.findings.source.skipped_ways import Test, Way, has, is_text, nothing, skipped_ways, ways_are, ways_words
+from netrev.findings.source.skipped_ways import (
+    Test,
+    Way,
+    is_match,
+    is_text,
+    nothing,
+    skipped_ways,
+    ways_are,
+    ways_words,
+)
 from netrev.recording.goroutines import FOR_ROOM
 from netrev.recording.recording import Recording
 from netrev.recording.waits import Waiting
@@ -63,7 +72,7 @@ def ways_with_an_error(recording: Recording, wait: Waiting) -> list[str]:
     found = (
         [number for number, _ in found_in(recording, own[0], re.compile(back)) if number > own[0].line] if back else []
     )
-    ways = ways_of(recording, own[0], text, has(back), nothing) if found else []
+    ways = ways_of(recording, own[0], text, is_match(back), nothing) if found else []
     lines = source_of(recording, own[0].file) or ()
     failing = [way for way in ways if AN_ERROR.search(lines[way.number - 1])]
     if not failing:
@@ -106,7 +115,7 @@ def gives_back(recording: Recording, given: Iterable[Call]) -> Optional[Test]:
     """A test of whether a statement gives something back. The test is derived from the statements that did so, and is
     None if their text isn't known."""
     patterns = {pattern for line in given if (pattern := pattern_of(text_at(recording, line)))}
-    return has("|".join(sorted(patterns))) if patterns else None
+    return is_match("|".join(sorted(patterns))) if patterns else None
 
 
 def pattern_of(text: str) -> str:
@@ -124,7 +133,7 @@ def pattern_of(text: str) -> str:
 def value_of(text: str, form: str) -> Test:
     """A test of whether a statement passes on the value that another statement took."""
     found = TAKEN.match(text)
-    hands_on = has(form.format(name=found[1])) if found else nothing
+    hands_on = is_match(form.format(name=found[1])) if found else nothing
     return lambda statement: hands_on(USES.sub("(", statement))
 
 
@@ -133,7 +142,7 @@ def ways_of(recording: Recording, line: Call, text: str, ends: Test, keeps: Test
     `ends`."""
     lines, within = function_of(recording, line) if line.of == OF_THE_PROGRAM else ((), range(0))
     is_whole = text[-1:] not in ("(", "{", ",")
-    begins = is_text(text) if is_whole else has(re.escape(text))
+    begins = is_text(text) if is_whole else is_match(re.escape(text))
     return skipped_ways(lines, within, begins, ends, keeps) if within and text else []
 
 
@@ -146,7 +155,7 @@ def ways_past_close(recording: Recording, stacks: Iterable[Stack]) -> list[str]:
             text = text_at(recording, call).strip() if call.of == OF_THE_PROGRAM else ""
             found = TAKEN.match(text)
             closes = CLOSES.format(name=found[1]) if found else ""
-            ways = ways_of(recording, call, text, has(closes), value_of(text, TO_OTHERS)) if found else []
+            ways = ways_of(recording, call, text, is_match(closes), value_of(text, TO_OTHERS)) if found else []
             if found and (deferred := closed_in_a_loop(recording, call, f"{found[1]}.Body")):
                 says[deferred] = None
                 break

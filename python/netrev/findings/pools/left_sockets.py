@@ -7,7 +7,7 @@ from typing import Optional
 from netrev.findings.evidence.index import Index, back
 from netrev.findings.source.functions import range_of, text_at
 from netrev.findings.source.package import HEAD, files_of
-from netrev.findings.source.skipped_ways import has, ways_are, ways_words
+from netrev.findings.source.skipped_ways import is_match, ways_are, ways_words
 from netrev.findings.source.statements import code_at
 from netrev.recording.call import OPEN, Call
 from netrev.recording.recording import Recording
@@ -61,7 +61,7 @@ def left_by(index: Index, opened: Call, line: LineCall) -> list[str]:
         index.recording,
         line,
         text,
-        has(closes),
+        is_match(closes),
         lambda statement: hands_on(without_users(index.recording, line.file, name, statement)),
     )
     if not ways:

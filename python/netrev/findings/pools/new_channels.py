@@ -13,7 +13,7 @@ from netrev.recording.where import OF_THE_PROGRAM
 from .senders import PUTS, TAKES
 
 
-def made_since(recording: Recording, wait: Waiting) -> int:
+def channel_since(recording: Recording, wait: Waiting) -> int:
     """A step before which a goroutine's channel was made; 0 if unknown. The waiting function makes the channel, then
     calls Write, and then waits on the channel. The result is the first step of that Write. It is 0 if the Write or the
     wait is in a loop that begins after the channel is made."""

@@ -8,7 +8,7 @@ from netrev.findings.evidence.need import Need
 from netrev.findings.evidence.waiters import TICKERS, last_time_of
 from netrev.findings.evidence.words import place_in
 from netrev.findings.source.functions import range_of, source_of
-from netrev.findings.source.skipped_ways import has, is_text, skipped_ways, that_stay, ways_are, ways_words
+from netrev.findings.source.skipped_ways import is_match, is_text, skipped_ways, that_stay, ways_are, ways_words
 from netrev.recording.goroutines import TOOK, Timer
 from netrev.recording.recording import Recording
 from netrev.recording.waits import Waiting, name_of_goid
@@ -25,7 +25,7 @@ class Silent(NamedTuple):
     If `was_due`, the timer was due before the stop, so the stop had no effect."""
 
     name: str
-    made: Timer
+    creation: Timer
     stopped: Optional[Timer]
     was_due: bool = False
 
@@ -62,11 +62,15 @@ def silent_says(recording: Recording, silent: Silent) -> str:
         return f"{place_in(lines.stacks[timer.stack])} ({name_of_goid(lines, timer.goid)}, step {timer.step})"
 
     if silent.stopped and silent.was_due:
-        return f"Its {name} was due before the Stop{at(silent.stopped)}, and nobody has set it anew; it was made{at(silent.made)}."
+        return (
+            f"Its {name} was due before the Stop{at(silent.stopped)}, and nobody has set it anew; it was "
+            f"made{at(silent.creation)}."
+        )
     if silent.stopped:
-        return f"Its {name} was stopped{at(silent.stopped)}, and not set anew; it was made{at(silent.made)}."
+        return f"Its {name} was stopped{at(silent.stopped)}, and not set anew; it was made{at(silent.creation)}."
     return (
-        f"Its {name} goes off once: it was set{at(silent.made)}, its value has been taken, and nobody has set it anew."
+        f"Its {name} goes off once: it was set{at(silent.creation)}, its value has been taken, and nobody has set it "
+        "anew."
     )
 
 
@@ -110,7 +114,7 @@ def ways_past_reset(recording: Recording, wait: Waiting) -> str:
     resets = [number for number, code in text.items() if f"{name}.Reset(" in code]
     if len(cases) != 1 or not resets:
         return ""
-    sets = has(rf"(?<![\w.]){re.escape(name)}\.Reset\(")
+    sets = is_match(rf"(?<![\w.]){re.escape(name)}\.Reset\(")
     ways = that_stay(skipped_ways(lines, within, is_text(text[cases[0][0]]), sets))
     file, does = own[0].file, ways_words(own[0].file, ways)
     words = f"after {file}:{cases[0][0]}, {does} without {file}:{resets[-1]}, which sets it anew"

@@ -9,7 +9,7 @@ from netrev.findings.evidence.need import Certainty, Need
 from netrev.findings.evidence.words import short, since_begin
 from netrev.findings.source.functions import WRAPPED, Lines, is_inside, is_same_variable, range_of, source_of, text_at
 from netrev.findings.source.locks import owner
-from netrev.findings.source.skipped_ways import Way, has, skipped_ways, ways_words
+from netrev.findings.source.skipped_ways import Way, is_match, skipped_ways, ways_words
 from netrev.recording.goroutines import CLOSED, FOR_VALUE, PUT
 from netrev.recording.recording import Recording
 from netrev.recording.waits import Name, Waiting
@@ -73,7 +73,7 @@ def ways_without(source: Lines, closing: Closing, name: str) -> list[Way]:
     makes, closes = rf"\b{field}\b(?::| :?=) *make\(chan\b", rf"\bclose\((?:[\w.]+\.)?{field}\)"
     if not any(re.search(makes, source[number - 1]) for number in closing.within if number < closing.number):
         return []
-    return skipped_ways(source, closing.within, has(makes), has(closes))
+    return skipped_ways(source, closing.within, is_match(makes), is_match(closes))
 
 
 def closings_of(source: Lines, call: Call, name: str) -> list[Closing]:

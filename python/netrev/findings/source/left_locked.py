@@ -98,12 +98,15 @@ def field_of(function: Function, name: str) -> Optional[str]:
 def leaks_of(lines: Lines, functions: list[Function], field: str) -> list[Leak]:
     """The functions that return with the mutex locked. A function that never unlocks the mutex is assumed to lock it
     for its callers if another function only unlocks it."""
-    helps = any(has(UNLOCK, lines, function, field) and not has(LOCK, lines, function, field) for function in functions)
+    helps = any(
+        contains_line(UNLOCK, lines, function, field) and not contains_line(LOCK, lines, function, field)
+        for function in functions
+    )
     return [
         leak
         for function in functions
         if not KEEPS.search(function.name)
-        if (leak := leak_of(lines, function, field)) and (not helps or has(UNLOCK, lines, function, field))
+        if (leak := leak_of(lines, function, field)) and (not helps or contains_line(UNLOCK, lines, function, field))
     ]
 
 
@@ -132,7 +135,7 @@ def leak_of(lines: Lines, function: Function, field: str) -> Optional[Leak]:
         elif locked and not released and RETURNS.match(text.lstrip()):
             return Leak(function.name, locked, number)
         number += 1
-    return Leak(function.name, locked, 0) if locked and not has(UNLOCK, lines, function, field) else None
+    return Leak(function.name, locked, 0) if locked and not contains_line(UNLOCK, lines, function, field) else None
 
 
 def is_unknown(text: str) -> bool:
@@ -151,7 +154,7 @@ def leaves_block(lines: Lines, number: int) -> bool:
     return False
 
 
-def has(pattern: "re.Pattern[str]", lines: Lines, function: Function, field: str) -> bool:
+def contains_line(pattern: "re.Pattern[str]", lines: Lines, function: Function, field: str) -> bool:
     """Whether a function has a line that locks, or unlocks, this mutex."""
     return any(is_of(pattern, lines[number - 1].partition("//")[0], function, field) for number in function.within)
 

@@ -29,7 +29,7 @@ def is_text(text: str) -> Test:
     return lambda other: other == text
 
 
-def has(pattern: str) -> Test:
+def is_match(pattern: str) -> Test:
     """A test of whether a statement matches a pattern."""
     found = re.compile(pattern)
     return lambda text: found.search(text) is not None

@@ -5,8 +5,8 @@ import re
 from typing import Optional
 
 from netrev.findings.evidence.index import Index
-from netrev.findings.evidence.responses import SERVE, has
-from netrev.findings.evidence.words import is_of_go, since_begin, told
+from netrev.findings.evidence.responses import SERVE, contains
+from netrev.findings.evidence.words import is_of_go, since_begin, text_of_call
 from netrev.findings.source.package import places_with
 from netrev.recording.call import Call
 from netrev.recording.waits import Name, waits_of
@@ -48,7 +48,7 @@ def half_closes(index: Index, socket: int, position: int) -> list[str]:
     found = places_with(index.recording, own[0].file, CLOSES_WRITE)
     if not 0 < len(found) <= MOST_CLOSES:
         return []
-    last = f", where {told(index.recording, used)} was the last" if used else ""
+    last = f", where {text_of_call(index.recording, used)} was the last" if used else ""
     return [f"CloseWrite is called at {' and '.join(found)}, and that hasn't come to socket {socket}{last}."]
 
 
@@ -56,7 +56,7 @@ def is_served(index: Index, socket: int, position: int) -> bool:
     """Whether the last goroutine that wrote to a socket is still in a handler of net/http, and so may write more."""
     wrote = index.last_use(socket, position, ("Write",))
     wait = waits_of(index.recording).at(Name(wrote.goroutine), position) if wrote else None
-    return wait is not None and has(wait.stack, SERVE)
+    return wait is not None and contains(wait.stack, SERVE)
 
 
 def bound_says(functions: set[str], other: int) -> str:

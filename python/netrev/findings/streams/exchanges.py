@@ -4,10 +4,10 @@ than the other end wrote."""
 
 from typing import Iterator, NamedTuple, Optional
 
-from netrev.findings.evidence.asked import Asked, asked_of
+from netrev.findings.evidence.asked import ReadSizes, read_sizes_of
 from netrev.findings.evidence.index import MOVING, Index, back
 from netrev.findings.evidence.sizes import are_known, moved_at, size_of
-from netrev.findings.evidence.words import place_of, told
+from netrev.findings.evidence.words import place_of, text_of_call
 from netrev.recording.call import OPEN, Call
 from netrev.recording.recording import Recording
 from netrev.text.plurals import counted
@@ -115,7 +115,8 @@ def unanswered(index: Index, call: Call, other: int, position: int) -> list[str]
     if len(answers) < FEWEST and not ways_round_a_flush(index.recording, index.recording.lines.of(now.first)):
         return []
     return [
-        f"The request, {told(index.recording, wrote)} in {wrote.steps()}, was read by {told(index.recording, read)} in step {read.last}. "
+        f"The request, {text_of_call(index.recording, wrote)} in {wrote.steps()}, was read by "
+        f"{text_of_call(index.recording, read)} in step {read.last}. "
         f"That goroutine has written there {counted(len(answers), 'time')} before; now it reads on since step {now.first}, without an answer."
         + perhaps_why(index, call, now)
     ]
@@ -129,7 +130,8 @@ def unended(index: Index, wrote: Call, read: Call, now: Call) -> list[str]:
     recording, maker = index.recording, never_flushed(index.recording, now)
     kept = f"the answer is in the buffer that {maker} makes, and no line flushes it; or " if maker else ""
     return [
-        f"The request, {told(recording, wrote)} in {wrote.steps()}, was read by {told(recording, read)} in step {read.last}, and nothing has been "
+        f"The request, {text_of_call(recording, wrote)} in {wrote.steps()}, was read by {text_of_call(recording, read)} "
+        f"in step {read.last}, and nothing has been "
         f"written there yet. That goroutine reads on since step {now.first}: {line} looks for the end of a line. Perhaps {kept}the request lacks "
         "that."
     ]
@@ -192,7 +194,7 @@ def lacking(index: Index, call: Call, other: int) -> list[str]:
     stack = recording.lines.of(call.first)
     if call.name != "Read" or not any(frame.function == READ_FULL for frame in stack.calls):
         return []
-    sizes, wrote = asked_of(recording), index.last_use(other, recording.length, ("Write",))
+    sizes, wrote = read_sizes_of(recording), index.last_use(other, recording.length, ("Write",))
     rest, begin = sizes.of(call), begin_of_full(index, sizes, call)
     whole = sizes.of(begin)
     if (
@@ -206,7 +208,7 @@ def lacking(index: Index, call: Call, other: int) -> list[str]:
     is_of_a_buffer = rest & (rest - 1) == 0 and any(frame.function.startswith("bufio.") for frame in stack.calls)
     if begin is call and is_of_a_buffer and is_of_a_body(recording, call):
         return [
-            f"It waits for the rest of a message: {told(recording, wrote)} was the last there.",
+            f"It waits for the rest of a message: {text_of_call(recording, wrote)} was the last there.",
             *length_says(recording, wrote, call),
         ]
     if begin is call and (rest < FEW_ASKED or is_of_a_buffer):
@@ -217,7 +219,8 @@ def lacking(index: Index, call: Call, other: int) -> list[str]:
             if begin is call
             else [
                 f"Perhaps fewer bytes were sent than it was told to read: it asked for {whole} and has {whole - rest}, so {rest} more must come. "
-                f"{told(recording, wrote)}, the last there, ended in step {wrote.last}, and nobody writes there now.",
+                f"{text_of_call(recording, wrote)}, the last there, ended in step {wrote.last}, and nobody writes there "
+                "now.",
                 *length_says(recording, wrote, begin),
             ]
         )
@@ -225,18 +228,20 @@ def lacking(index: Index, call: Call, other: int) -> list[str]:
         return []
     if begin is call:
         return [
-            f"It asks for {'at least ' if rest >= MOST_ASKED else ''}{counted(rest, 'byte')}: {told(recording, wrote)}, the last there, put {counted(size_of(index, wrote), 'byte')}, and all "
+            f"It asks for {'at least ' if rest >= MOST_ASKED else ''}{counted(rest, 'byte')}: "
+            f"{text_of_call(recording, wrote)}, the last there, put {counted(size_of(index, wrote), 'byte')}, and all "
             "of them are read.",
             *length_says(recording, wrote, begin),
         ]
     return [
-        f"It asked for {counted(whole, 'byte')} and has {whole - rest}: {told(recording, wrote)}, the last there, put {counted(size_of(index, wrote), 'byte')}, and all of them are read. "
+        f"It asked for {counted(whole, 'byte')} and has {whole - rest}: {text_of_call(recording, wrote)}, the last "
+        f"there, put {counted(size_of(index, wrote), 'byte')}, and all of them are read. "
         f"{counted(rest, 'byte')} more must come.",
         *length_says(recording, wrote, begin),
     ]
 
 
-def begin_of_full(index: Index, sizes: Asked, call: Call) -> Call:
+def begin_of_full(index: Index, sizes: ReadSizes, call: Call) -> Call:
     """The first Read of the io.ReadFull that a Read belongs to. If a Read's bytes are counted only in part, the next
     Read shows how many bytes came, because it asks for the rest."""
     lines, most = index.recording.lines, index.recording.lines.bytes

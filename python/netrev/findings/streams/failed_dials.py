@@ -30,7 +30,8 @@ def failed_dial(index: Index, goroutine: int) -> Optional[UnconnectedSocket]:
     lines, calls = index.recording.lines, index.by_goroutine.get(goroutine, ())
     failed = [
         closing for closing in calls
-        if closing.name == CLOSE and any(call.function == FAILED for call in lines.of(closing.first).calls) and is_dialed(index, closing.socket)
+        if closing.name == CLOSE and any(call.function == FAILED for call in lines.of(closing.first).calls)
+        and is_dialed(index, closing.socket)
     ]  # fmt: skip
     if not failed:
         return None

@@ -5,7 +5,7 @@ import re
 from typing import Iterable, Optional
 
 from netrev.findings.source.functions import Lines, indent_of, range_of, source_of
-from netrev.findings.source.skipped_ways import Test, has, is_text, skipped_ways, that_stay, ways_words
+from netrev.findings.source.skipped_ways import Test, is_match, is_text, skipped_ways, that_stay, ways_words
 from netrev.recording.recording import Recording
 from netrev.recording.where import OF_THE_PROGRAM, Stack
 
@@ -35,8 +35,8 @@ def ways_round_a_flush(recording: Recording, stack: Stack) -> str:
     if not flush or any("defer" in code(lines, number) for number, _ in flushes):
         return ""
     text = " ".join(code(lines, number).strip() for number in within)
-    flush_of = has(rf"(?<![\w.]){re.escape(writer)}\.Flush\(")
-    ways = that_stay(skipped_ways(lines, within, writes_to(writer, text), flush_of, has(r"\.Buffered\(\)")))
+    flush_of = is_match(rf"(?<![\w.]){re.escape(writer)}\.Flush\(")
+    ways = that_stay(skipped_ways(lines, within, writes_to(writer, text), flush_of, is_match(r"\.Buffered\(\)")))
     return f" ({ways_words(own[0].file, ways)} without {own[0].file}:{flush}, which flushes)" if ways else ""
 
 
@@ -82,7 +82,7 @@ def ways_without_an_answer(recording: Recording, stack: Stack, writes: Iterable[
     names = {re.escape(called[0]) for call in found if (called := CALLED.search(code(lines, call.line)))}
     if not names:
         return ""
-    ends = has("|".join([WRITES, *sorted(names)]))
+    ends = is_match("|".join([WRITES, *sorted(names)]))
     ways = that_stay(skipped_ways(lines, within, is_text(code(lines, own[0].line).strip()), ends))
     place = f"{own[0].file}:{max(call.line for call in found)}"
     return f"{ways_words(own[0].file, ways)} without {place}, which answers" if ways else ""
@@ -93,7 +93,7 @@ def writes_to(writer: str, function: str) -> Test:
     name = re.escape(writer)
     variables = re.findall(rf"\b(\w+) :?= \w+\.NewEncoder\({name}\)", function)
     encoders = "|".join([rf"NewEncoder\({name}\)", *variables])
-    return has(rf"\bFprint\w*\({name},|(?<![\w.]){name}\.Write\w*\(|\b(?:{encoders})\.Encode\(")
+    return is_match(rf"\bFprint\w*\({name},|(?<![\w.]){name}\.Write\w*\(|\b(?:{encoders})\.Encode\(")
 
 
 def writes_through_a_buffer(recording: Recording, stack: Stack) -> Optional[bool]:

@@ -6,7 +6,7 @@ from typing import Iterator, NamedTuple, Optional
 from netrev.findings.evidence.ended_goroutines import left_by
 from netrev.findings.evidence.index import Cause, Index
 from netrev.findings.evidence.long_lines import long_line_says
-from netrev.findings.evidence.words import came_of, is_of_go, told
+from netrev.findings.evidence.words import is_of_go, result_words, text_of_call
 from netrev.recording.call import CLOSE, Call, Outcome
 
 
@@ -23,11 +23,13 @@ class GoneReader(NamedTuple):
         recording, read = index.recording, self.read
         says = [
             f"nobody reads on socket {read.socket} any more: goroutine {read.goroutine}, which alone had read there, ended after step {self.ended}.",
-            f"Its last was {told(recording, read)}, {read.steps()}, {came_of(recording, read)}.",
+            f"Its last was {text_of_call(recording, read)}, {read.steps()}, {result_words(recording, read)}.",
         ]
         says += long_line_says(index, read)
         if self.wrote:
-            says.append(f"{told(recording, self.wrote)} came after that, in {self.wrote.steps()}: nobody has read it.")
+            says.append(
+                f"{text_of_call(recording, self.wrote)} came after that, in {self.wrote.steps()}: nobody has read it."
+            )
         return says
 
 
@@ -83,7 +85,8 @@ def ended_reader(index: Index, call: Call, other: int, position: int) -> list[st
         return []
     read = gone.read
     return [
-        f"Nobody reads at socket {other} any more: goroutine {read.goroutine}, whose last was {told(index.recording, read)}, ended after step "
+        f"Nobody reads at socket {other} any more: goroutine {read.goroutine}, whose last was "
+        f"{text_of_call(index.recording, read)}, ended after step "
         f"{gone.ended}{left_by(index, read)}.",
         *long_line_says(index, read),
     ]

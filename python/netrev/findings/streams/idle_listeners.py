@@ -27,7 +27,8 @@ def idle_listeners(index: Index, position: int) -> list[str]:
             if len(names) > 1:
                 sockets = f"socket{'s' if idle[1:] else ''} {', '.join(map(str, idle))}"
                 return [
-                    f"Nobody has called Accept at the listener{'s' if idle[1:] else ''}, {sockets}. {capital(of_names(names))}, started at {statement.place()}, "
+                    f"Nobody has called Accept at the listener{'s' if idle[1:] else ''}, {sockets}. "
+                    f"{capital(of_names(names))}, started at {statement.place()}, "
                     f"all accept at the same one, socket {socket}.",
                     *shared_variables(index.recording, statement.file),
                 ]

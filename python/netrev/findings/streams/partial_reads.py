@@ -5,10 +5,10 @@ whatever has arrived."""
 import re
 from typing import Optional
 
-from netrev.findings.evidence.asked import asked_of
+from netrev.findings.evidence.asked import read_sizes_of
 from netrev.findings.evidence.index import Index
 from netrev.findings.evidence.sizes import are_known, size_of
-from netrev.findings.evidence.words import told
+from netrev.findings.evidence.words import text_of_call
 from netrev.findings.source.functions import Lines, range_of, source_of
 from netrev.recording.call import Call
 from netrev.recording.where import OF_THE_PROGRAM
@@ -61,8 +61,11 @@ def part_taken(index: Index, call: Call) -> list[str]:
         within = range_of(lines, own[0]) if own and lines else None
         is_once = own and lines and within and own[0].line in partial_lines(lines, within)
         if is_once and is_of_a_body(index.recording, read):
-            size, count = asked_of(index.recording).of(read) or 0, size_of(index, read)
-            says = f"{told(index.recording, read)} asked for {counted(size, 'byte')} and got {count}: a Read returns what has arrived."
+            size, count = read_sizes_of(index.recording).of(read) or 0, size_of(index, read)
+            says = (
+                f"{text_of_call(index.recording, read)} asked for {counted(size, 'byte')} and got {count}: a Read "
+                "returns what has arrived."
+            )
             return [says] if are_known(index) and 0 < count < size else []
     return []
 

@@ -6,7 +6,7 @@ from typing import Iterator, NamedTuple, Optional
 from netrev.findings.evidence.ended_goroutines import ended_where, left_by
 from netrev.findings.evidence.index import ACCEPTS, Index, back
 from netrev.findings.evidence.need import Certainty, Need
-from netrev.findings.evidence.words import place_of, told, waits_words
+from netrev.findings.evidence.words import place_of, text_of_call, waits_words
 from netrev.findings.pools.balances import has_ended
 from netrev.recording.call import CLOSE, OPEN, Call
 from netrev.recording.waits import Name, waits_of
@@ -40,7 +40,7 @@ def unaccepted(index: Index, call: Call, position: int) -> Optional[Need]:
     wait = waits_of(index.recording).at(name, position)
     where = f"{name}, which accepts{at},"
     does = (
-        f"is in {told(index.recording, now)} since step {now.first}"
+        f"is in {text_of_call(index.recording, now)} since step {now.first}"
         if now
         else f"{waits_words(wait)} since step {wait.first}"
         if wait
@@ -96,7 +96,10 @@ def accepted_at(index: Index, accepts: list[Call]) -> Iterator[int]:
         opened = (
             opening for opening in index.by_goroutine[accept.goroutine]
             if opening.name == OPEN and accept.last and opening.first > accept.last
-            and any(call.function in ACCEPTS or call.function.endswith(".accept") for call in index.recording.lines.of(opening.first).calls)
+            and any(
+                call.function in ACCEPTS or call.function.endswith(".accept")
+                for call in index.recording.lines.of(opening.first).calls
+            )
         )  # fmt: skip
         first = next(opened, None)
         if first:

@@ -6,7 +6,7 @@ from typing import Iterator, NamedTuple, Optional
 
 from netrev.findings.evidence.index import MOVING, Index
 from netrev.findings.evidence.waiters import is_waiting
-from netrev.findings.evidence.words import is_of_go, told
+from netrev.findings.evidence.words import is_of_go, text_of_call
 from netrev.findings.pools.balances import has_ended
 from netrev.recording.call import Call, Outcome
 from netrev.recording.recording import Recording
@@ -25,10 +25,11 @@ class UnpassedEnd(NamedTuple):
 
     def says(self, recording: Recording) -> list[str]:
         """The sentences about the end of a stream that a relay didn't pass on."""
-        socket, reader = self.wrote.socket, told(recording, self.waits)
+        socket, reader = self.wrote.socket, text_of_call(recording, self.waits)
         ended = " The goroutine has ended." if has_ended(recording, Name(self.met.goroutine)) else ""
         return [
-            f"The end of a stream isn't passed on: {told(recording, self.met)} met it on socket {self.met.socket} in step {self.met.last}, and "
+            f"The end of a stream isn't passed on: {text_of_call(recording, self.met)} met it on socket "
+            f"{self.met.socket} in step {self.met.last}, and "
             f"socket {socket}, to which that goroutine wrote, is never closed for writing.{ended}",
             f"{reader} waits for it at the other end, socket {self.waits.socket}, since step {self.waits.first}.",
         ]

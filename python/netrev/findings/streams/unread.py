@@ -5,7 +5,7 @@ from typing import Iterable, Iterator, NamedTuple
 
 from netrev.findings.evidence.index import Index
 from netrev.findings.evidence.sizes import are_known, moved_at
-from netrev.findings.evidence.words import is_of_go, told
+from netrev.findings.evidence.words import is_of_go, text_of_call
 from netrev.recording.call import CLOSE, Call
 from netrev.recording.waits import Name
 from netrev.text.plurals import counted
@@ -49,7 +49,8 @@ def unread_says(index: Index, names: Iterable[Name], position: int) -> list[str]
         if Name(found.wrote.goroutine) in every:
             many, is_one = counted(found.bytes, "byte"), found.bytes == 1
             return [
-                f"{many} of {told(index.recording, found.wrote)} {'is' if is_one else 'are'} unread: nobody reads on socket {found.socket}."
+                f"{many} of {text_of_call(index.recording, found.wrote)} {'is' if is_one else 'are'} unread: nobody "
+                f"reads on socket {found.socket}."
             ]
     return []
 
@@ -64,6 +65,7 @@ def unread_answers(index: Index, call: Call, other: int, position: int) -> list[
     if not are_known(index) and is_cut(index.recording, index, (call.socket, other)):
         return []
     return [
-        f"{counted(count, 'byte')} of {told(index.recording, wrote)} {'is' if count == 1 else 'are'} unread on socket {call.socket}: goroutine "
+        f"{counted(count, 'byte')} of {text_of_call(index.recording, wrote)} {'is' if count == 1 else 'are'} unread on "
+        f"socket {call.socket}: goroutine "
         f"{call.goroutine}, which reads there, writes on."
     ]

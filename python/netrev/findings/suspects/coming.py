@@ -17,7 +17,7 @@ class Waiting(NamedTuple):
     use: Use
     since: int
     lies: str
-    came: int
+    arrival: int
 
     @property
     def begins(self) -> str:
@@ -27,11 +27,11 @@ class Waiting(NamedTuple):
     @property
     def has_event(self) -> bool:
         """Whether an event reported the bytes or the close that came."""
-        return self.use.last_event("r") >= self.came
+        return self.use.last_event("r") >= self.arrival
 
     def has_stale_event(self, run: Run) -> bool:
         """Whether an event that reported the bytes or the close was dropped."""
-        return not self.has_event and run.notes.stale.get(self.use.descriptor, (0, 0))[0] > self.came
+        return not self.has_event and run.notes.stale.get(self.use.descriptor, (0, 0))[0] > self.arrival
 
     def suspect(self, run: Run, step: int, weight: int, says: list[str]) -> Suspect:
         """The suspect for a goroutine that waits although what it waits for has arrived."""
@@ -42,7 +42,7 @@ class Waiting(NamedTuple):
         return suspect
 
 
-def waiting_for_what_came(run: Run) -> Iterator[Waiting]:
+def waits_after_arrival(run: Run) -> Iterator[Waiting]:
     """All goroutines that wait although what they wait for has arrived."""
     notes = run.notes
     for g, (d, side) in run.statuses("parked"):

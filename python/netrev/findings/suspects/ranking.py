@@ -31,7 +31,7 @@ def all_suspects_of(recording: Recording) -> Ranked:
     prepare(recording)
     run = Run(book_of(recording).notes)
     ranked = by_cells(run)
-    return Ranked([*ranked.suspects, *one_of_each(found(RULES_OF_CALLS, run))], ranked.timeouts)
+    return Ranked([*ranked.suspects, *worst_of_each(found(RULES_OF_CALLS, run))], ranked.timeouts)
 
 
 def prepare(recording: Recording) -> None:
@@ -41,7 +41,7 @@ def prepare(recording: Recording) -> None:
 
 
 def by_cells(run: Run) -> Ranked:
-    return Ranked(one_of_each(found(RULES, run)), run.notes.timeouts)
+    return Ranked(worst_of_each(found(RULES, run)), run.notes.timeouts)
 
 
 def found(rules: Iterable[Rule], run: Run) -> list[Suspect]:
@@ -49,7 +49,7 @@ def found(rules: Iterable[Rule], run: Run) -> list[Suspect]:
     return [suspect for rule in rules for suspect in rule.suspects(run)]
 
 
-def one_of_each(suspects: list[Suspect]) -> list[Suspect]:
+def worst_of_each(suspects: list[Suspect]) -> list[Suspect]:
     """The worst suspect of each subject, with the number of the subject's other suspects; worst first."""
     kept: dict[tuple[object, ...], list[Suspect]] = {}
     for suspect in sorted(suspects, key=lambda candidate: (-candidate.weight, candidate.step)):

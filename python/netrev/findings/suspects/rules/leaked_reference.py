@@ -20,7 +20,10 @@ def rule(run: Run) -> Iterator[Suspect]:
         elif reference.is_unevicted(run):
             continue
         elif reference.pause:
-            how = f"and has done nothing since step {run.notes.goroutines[reference.hold.goroutine].last}: {reference.pause}"
+            how = (
+                f"and has done nothing since step {run.notes.goroutines[reference.hold.goroutine].last}: "
+                f"{reference.pause}"
+            )
         elif reference.age and not reference.hold.side:
             weights, how = (Weight.POSSIBLE, Weight.STRONG), f"and has gone on since: {reference.age}"
         else:

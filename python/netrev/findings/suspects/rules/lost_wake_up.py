@@ -4,7 +4,7 @@ about to park for reading without a read in between."""
 
 from typing import Iterator, Optional
 
-from netrev.findings.suspects.coming import waiting_for_what_came
+from netrev.findings.suspects.coming import waits_after_arrival
 from netrev.findings.suspects.found import Evidence, Suspect, Weight
 from netrev.findings.suspects.run import Run
 from netrev.findings.suspects.weighing import is_accepting, is_without_tries, of_a_goroutine
@@ -57,7 +57,7 @@ def taken_and_parked(run: Run, lost: LostWakeUp) -> Suspect:
     written since."""
     g, d, side, use = lost.goroutine, lost.descriptor, lost.side, run.notes.use_of[lost.descriptor]
     entered, _, tried = use.waits[AT[side]][-1]
-    coming = next((waits for waits in waiting_for_what_came(run) if (waits.goroutine, side) == (g, "r")), None)
+    coming = next((waits for waits in waits_after_arrival(run) if (waits.goroutine, side) == (g, "r")), None)
     hangs_for_it = coming.has_event if coming else tried < lost.event
     begins = coming.begins if coming else f"goroutine {g} is parked for {WAITS[side]} since step {run.since(g)}"
     how = (

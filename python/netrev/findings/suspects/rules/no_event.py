@@ -2,7 +2,7 @@
 
 from typing import Iterator
 
-from netrev.findings.suspects.coming import waiting_for_what_came
+from netrev.findings.suspects.coming import waits_after_arrival
 from netrev.findings.suspects.found import Evidence, Suspect, Weight
 from netrev.findings.suspects.run import Run
 
@@ -10,10 +10,10 @@ JUST_NOW = 3  # bytes or a close that came within this many steps of the end may
 
 
 def rule(run: Run) -> Iterator[Suspect]:
-    for waits in waiting_for_what_came(run):
+    for waits in waits_after_arrival(run):
         if waits.has_event or waits.has_stale_event(run):
             continue
-        d, arrival, event = waits.use.descriptor, waits.came, waits.use.last_event("r")
+        d, arrival, event = waits.use.descriptor, waits.arrival, waits.use.last_event("r")
         last = f" (the last at step {event})" if event else ""
         weight = Weight.LIKELY if run.end - arrival > JUST_NOW else Weight.SHOWN
         says = [f"{waits.begins} since step {arrival}", f"no event came for descriptor {d} after it{last}"]

@@ -3,16 +3,16 @@ old tag."""
 
 from typing import Iterator
 
-from netrev.findings.suspects.coming import waiting_for_what_came
+from netrev.findings.suspects.coming import waits_after_arrival
 from netrev.findings.suspects.found import Evidence, Suspect, Weight
 from netrev.findings.suspects.run import Run
 
 
 def rule(run: Run) -> Iterator[Suspect]:
-    for waits in waiting_for_what_came(run):
+    for waits in waits_after_arrival(run):
         if not waits.has_stale_event(run):
             continue
-        d, arrival = waits.use.descriptor, waits.came
+        d, arrival = waits.use.descriptor, waits.arrival
         step, tag = run.notes.stale[d]
         own = run.notes.now[f"fdseq {d}"]
         dropped = f"the event of step {step} was dropped: its tag is {tag}, and descriptor {d}'s is {own}"

@@ -3,7 +3,7 @@ the other end, and the goroutine that would read there waits too."""
 
 from typing import Iterator
 
-from netrev.findings.evidence.words import told
+from netrev.findings.evidence.words import text_of_call
 from netrev.findings.hangs.wait_graph import Certainty, Hang, graph_at
 from netrev.findings.suspects.found import Evidence, Suspect, Weight
 from netrev.findings.suspects.run import Run
@@ -15,7 +15,9 @@ def rule(run: Run) -> Iterator[Suspect]:
     for hang in graph_at(recording, length).hangs:
         if not (calls := writing_first(hang)):
             continue
-        says = [f"{told(recording, call)} waits on socket {call.socket} since step {call.first}" for call in calls]
+        says = [
+            f"{text_of_call(recording, call)} waits on socket {call.socket} since step {call.first}" for call in calls
+        ]
         yield Suspect(
             max(call.first for call in calls),
             Weight.STRONG,

@@ -3,8 +3,8 @@ goroutine's next Read asks for all of them again, so the first bytes are lost.""
 
 from typing import Iterator
 
-from netrev.findings.evidence.asked import Asked, asked_of
-from netrev.findings.evidence.words import is_of_go, told
+from netrev.findings.evidence.asked import ReadSizes, read_sizes_of
+from netrev.findings.evidence.words import is_of_go, text_of_call
 from netrev.findings.suspects.found import Evidence, Suspect, Weight
 from netrev.findings.suspects.run import Run
 from netrev.recording.call import Call, Outcome
@@ -15,7 +15,7 @@ def rule(run: Run) -> Iterator[Suspect]:
     index = run.calls
     if not any(call.name == "Read" and call.outcome is Outcome.TIMED_OUT for call in index.book.calls):
         return
-    sizes = asked_of(run.recording)
+    sizes = read_sizes_of(run.recording)
     for call in index.book.calls:
         late = sizes.before(call)
         if late is None or late.outcome is not Outcome.TIMED_OUT or is_of_go(run.recording, call):
@@ -25,10 +25,11 @@ def rule(run: Run) -> Iterator[Suspect]:
             yield suspect_of(run, sizes, begin, late, call)
 
 
-def suspect_of(run: Run, sizes: Asked, begin: Call, late: Call, call: Call) -> Suspect:
+def suspect_of(run: Run, sizes: ReadSizes, begin: Call, late: Call, call: Call) -> Suspect:
     whole, rest = sizes.of(begin) or 0, sizes.of(late) or 0
     says = [
-        f"{told(run.recording, call)} asks socket {call.socket} for {counted(whole, 'byte')} anew at step {call.first}",
+        f"{text_of_call(run.recording, call)} asks socket {call.socket} for {counted(whole, 'byte')} anew at step "
+        f"{call.first}",
         f"{counted(whole - rest, 'byte')} that had come since step {begin.first} were thrown away when the Read for the other {rest} timed out "
         f"at step {late.last}",
     ]

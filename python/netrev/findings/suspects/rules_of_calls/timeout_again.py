@@ -4,7 +4,7 @@ deadline, and no goroutine sets another deadline."""
 from typing import Iterator
 
 from netrev.findings.evidence.index import Index
-from netrev.findings.evidence.words import is_of_go, told
+from netrev.findings.evidence.words import is_of_go, text_of_call
 from netrev.findings.suspects.found import Evidence, Suspect, Weight
 from netrev.findings.suspects.run import SIDES, Run
 from netrev.recording.call import Call, Outcome
@@ -35,7 +35,8 @@ def suspect_of(index: Index, row: list[Call]) -> Suspect:
     first, last = row[0], row[-1]
     letter = SIDES[first.name]
     says = [
-        f"{told(index.recording, first)} timed out {len(row)} times in a row, from step {first.last} to {last.last}",
+        f"{text_of_call(index.recording, first)} timed out {len(row)} times in a row, from step {first.last} to "
+        f"{last.last}",
         f"all by the deadline of step {first.cause}, and nobody set another",
     ]
     return Suspect(

@@ -4,7 +4,7 @@ got bytes, so chance decides which goroutine gets which bytes. Listeners and dat
 from typing import Iterator
 
 from netrev.findings.evidence.index import Index, went_well
-from netrev.findings.evidence.words import is_of_go, told
+from netrev.findings.evidence.words import is_of_go, text_of_call
 from netrev.findings.suspects.found import Evidence, Suspect, Weight
 from netrev.findings.suspects.run import Run
 from netrev.recording.call import Call
@@ -25,8 +25,8 @@ def rule(run: Run) -> Iterator[Suspect]:
 def suspect_of(index: Index, first: Call, second: Call) -> Suspect:
     says = [
         f"perhaps: two goroutines read socket {first.socket} at once, and each got bytes",
-        f"{told(index.recording, first)}, {first.steps()}",
-        f"{told(index.recording, second)}, {second.steps()}",
+        f"{text_of_call(index.recording, first)}, {first.steps()}",
+        f"{text_of_call(index.recording, second)}, {second.steps()}",
     ]
     return Suspect(
         second.first,
