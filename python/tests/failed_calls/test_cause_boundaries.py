@@ -358,7 +358,7 @@ def test_a_datagram_that_is_longer_than_the_buffer(
     monkeypatch.setattr(cut_datagrams, "is_datagram", lambda index, socket: socket == 3)
     monkeypatch.setattr(cut_datagrams, "sent_to", lambda index, socket: [wrote])
     index = cast(Any, Made(recording=None, by_socket={3: [wrote, read], 4: [read]}))
-    assert [(one.wrote, one.read) for one in cut_datagrams.cut_at(index, 3)] == ([(wrote, read)] if cut else [])
+    assert [(one.write, one.read) for one in cut_datagrams.cut_at(index, 3)] == ([(wrote, read)] if cut else [])
     assert not list(cut_datagrams.cut_at(index, 4))
 
 

@@ -100,8 +100,8 @@ def test_a_request_that_was_cut(change: dict[str, Any], says: str, monkeypatch: 
     }
     case = Made(**(usual | ({"first": 21} if "last" in change else {}) | change))
     wrote, read = Made(goroutine=case.goroutine), Made(goroutine=7, first=8, last=case.last, socket=5)
-    pair = Made(wrote=wrote, read=read, says=lambda index: ["It was cut."])
-    other = Made(wrote=Made(goroutine=1), read=read, says=lambda index: ["Another."])
+    pair = Made(write=wrote, read=read, says=lambda index: ["It was cut."])
+    other = Made(write=Made(goroutine=1), read=read, says=lambda index: ["Another."])
     monkeypatch.setattr(cut_datagrams, "is_datagram", lambda index, socket: case.datagram)
     monkeypatch.setattr(cut_datagrams, "cut_datagrams", lambda index: (other, pair))
     monkeypatch.setattr(cut_datagrams, "last_cut", lambda index, call: ["last"])

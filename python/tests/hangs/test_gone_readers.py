@@ -35,7 +35,7 @@ def recording_of(steps: list[Any], ended: int = ENDED) -> Recording:
 class GoneReaders(unittest.TestCase):
     def found(self, steps: list[Any], ended: int = ENDED) -> int:
         recording = recording_of(steps, ended)
-        return sum(one.wrote is not None for one in gone_readers(index_of(recording), recording.length))
+        return sum(one.write is not None for one in gone_readers(index_of(recording), recording.length))
 
     def test_bytes_that_come_after_its_end(self) -> None:
         recording = recording_of([*READS, *put(1, "6869")])

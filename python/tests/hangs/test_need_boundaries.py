@@ -88,7 +88,7 @@ def test_bytes_that_nobody_reads(change: dict[str, Any], count: int | None, monk
         by_socket={s: [one for one in calls if one.socket == s] for s in (3, 4)},
         last_use=lambda socket, until, names: wrote,
     )
-    found = [(one.wrote, one.bytes, one.socket) for one in unread.unread(cast(Any, index), 20)]
+    found = [(one.write, one.bytes, one.socket) for one in unread.unread(cast(Any, index), 20)]
     assert found == ([(wrote, count, 4)] if count else [])
 
 

@@ -58,7 +58,7 @@ def test_lines_of_sizes(text: str, is_good: bool) -> None:
 
 def test_datagrams_that_were_cut() -> None:
     index = index_of(stored("datagram-bad"))
-    found = [(size_of(index, one.wrote), size_of(index, one.read)) for one in cut_datagrams(index)]
+    found = [(size_of(index, one.write), size_of(index, one.read)) for one in cut_datagrams(index)]
     assert found == [(20, 16)]
     assert not cut_datagrams(index_of(stored("datagram-good")))
 

@@ -185,7 +185,7 @@ def test_an_end_that_a_relay_didn_t_pass_on(change: dict[str, Any], says: bool, 
         closing=lambda socket, step: "close" if socket == 4 and 0 < case.closing <= step else None,
     )  # fmt: skip
     found = list(unpassed_ends.unpassed_ends(cast(Any, index)))
-    assert [(one.met, one.wrote, one.waits) for one in found] == [(call, wrote, reader)] * says
+    assert [(one.met, one.write, one.waits) for one in found] == [(call, wrote, reader)] * says
     index.book.calls = [call, other]
     case.told, case.closing = True, 0
     assert [one.met for one in unpassed_ends.unpassed_ends(cast(Any, index))][-1] is other

@@ -73,7 +73,7 @@ def test_the_first_write_after_a_reader_ended(
     written = [Made(name="Write", first=first, last=last, moved=4) for first, last in writes]
     index = Made(recording=Made(lines=Made(peers={1: 2})), by_socket={1: [read], 2: written})
     found = gone_readers.gone_reader(cast(Any, index), 1, position)
-    assert found is not None and (found.wrote.first if found.wrote else None) == answer
+    assert found is not None and (found.write.first if found.write else None) == answer
 
 
 FLUSHED = """\

@@ -225,10 +225,10 @@ def part_says(index: Index, call: Call, last: Call) -> list[str]:
 def late_write(index: Index, call: Call, by: Call) -> Optional[Call]:
     """The last Write on a call's socket before the call, if the call's goroutine made that Write after `by` had closed
     the other end; else None."""
-    wrote = index.last_use(call.socket, call.first, ("Write",))
+    write = index.last_use(call.socket, call.first, ("Write",))
     return (
-        wrote
-        if wrote and wrote.goroutine == call.goroutine and by.name == CLOSE and wrote.first > by.last > 0
+        write
+        if write and write.goroutine == call.goroutine and by.name == CLOSE and write.first > by.last > 0
         else None
     )
 

@@ -64,26 +64,26 @@ def never_read(index: Index) -> Iterator[Cause]:
         missing = moved_at(index, socket, "Write", length) - read
         if is_cut(recording, index, (socket, other)) and not are_known(index):
             continue
-        last, wrote = index.last_use(other, length, ("Read",)), first_beyond(index, socket, read)
+        last, write = index.last_use(other, length, ("Read",)), first_beyond(index, socket, read)
         if (
             by is None
-            or wrote is None
+            or write is None
             or last is None
             or missing <= 0
             or is_of_go(recording, last)
-            or is_of_go(recording, wrote)
-            or any(frame.function == FAREWELL for frame in recording.lines.of(wrote.first).calls)
+            or is_of_go(recording, write)
+            or any(frame.function == FAREWELL for frame in recording.lines.of(write.first).calls)
         ):
             continue
         says = [
-            f"{counted(missing, 'byte')} that {text_of_call(recording, wrote)} wrote in {wrote.steps()} were never "
+            f"{counted(missing, 'byte')} that {text_of_call(recording, write)} wrote in {write.steps()} were never "
             "read.",
             f"The other end, socket {other}, was closed{place_of_step(recording, by.first, by.goroutine)}.",
             f"Its last read was {text_of_call(recording, last)}, {last.steps()}, "
             f"{result_words(recording, last) or 'which got nothing'}.",
         ]
         looks = [f"goto {last.last or last.first}", f"calls sock {other}"]
-        yield Cause(last, says, [wrote.first, last.first, by.first], looks)
+        yield Cause(last, says, [write.first, last.first, by.first], looks)
 
 
 def first_beyond(index: Index, socket: int, count: int) -> Optional[Call]:

@@ -27,21 +27,22 @@ INTO = re.compile(r"\.Read\w*\((\w+)")
 class CutDatagram(NamedTuple):
     """The Write of a datagram, and the Read that got the first part of the datagram."""
 
-    wrote: Call
+    write: Call
     read: Call
 
     def says(self, index: Index) -> list[str]:
         """The sentences about the datagram."""
         recording, length = index.recording, counted(size_of(index, self.read), "byte")
-        wrote = (
-            f"{text_of_call(recording, self.wrote)} sent a datagram of {counted(size_of(index, self.wrote), 'byte')} in "
-            f"{self.wrote.steps()}"
+        sentence = (
+            f"{text_of_call(recording, self.write)} sent a datagram of {counted(size_of(index, self.write), 'byte')} in "
+            ""
+            f"{self.write.steps()}"
         )
         place = buffer_place(index, self.read)
         read = (
             f"{text_of_call(recording, self.read)} read it into a buffer of {length}{place}, in step {self.read.last}"
         )
-        return [f"{wrote}; {read}: the rest was thrown away."]
+        return [f"{sentence}; {read}: the rest was thrown away."]
 
 
 def buffer_place(index: Index, read: Call) -> str:
@@ -68,12 +69,12 @@ def cut_at(index: Index, socket: int) -> Iterator[CutDatagram]:
     sizes = read_sizes_of(index.recording)
     reads = [read for read in index.by_socket[socket] if read.name == "Read" and read.moved and read.last]
     sent = sent_to(index, socket) if reads and is_datagram(index, socket) else []
-    for read, wrote in zip(sorted(reads, key=attrgetter("last")), sent):
-        room, size = sizes.of(read), size_of(index, wrote)
-        if room is None or wrote.first >= read.last or size_of(index, read) != min(size, room):
+    for read, write in zip(sorted(reads, key=attrgetter("last")), sent):
+        room, size = sizes.of(read), size_of(index, write)
+        if room is None or write.first >= read.last or size_of(index, read) != min(size, room):
             return
         if size > room:
-            yield CutDatagram(wrote, read)
+            yield CutDatagram(write, read)
 
 
 def sent_to(index: Index, socket: int) -> list[Call]:
@@ -86,7 +87,7 @@ def sent_to(index: Index, socket: int) -> list[Call]:
         for datagram in sent_at(index)
         if is_same(datagram.target, own) and (not peer or is_same(datagram.source, peer))
     )
-    return sorted((datagram.wrote for datagram in found), key=attrgetter("first"))
+    return sorted((datagram.write for datagram in found), key=attrgetter("first"))
 
 
 def causes_of_cuts(index: Index) -> list[Cause]:
@@ -102,16 +103,16 @@ def cause_of(index: Index, pair: CutDatagram, others: int) -> Cause:
     """The cause for a truncated datagram, with the number of further truncated datagrams."""
     more = [f"{others} more like it."] if others else []
     looks = [f"goto {pair.read.last}", f"calls sock {pair.read.socket}"]
-    return Cause(pair.read, [*pair.says(index), *more], [pair.wrote.first, pair.read.first], looks)
+    return Cause(pair.read, [*pair.says(index), *more], [pair.write.first, pair.read.first], looks)
 
 
 def cut_says(index: Index, call: Call, position: int) -> list[str]:
     """Sentences about a Read that waits for a datagram. If the last datagram that the Read's goroutine sent was
     truncated, the sentences say so, and say what the receiver did next. Otherwise they say so if the last datagram that
     the goroutine received was truncated."""
-    wrote = index.last_use(call.socket, call.first, ("Write",)) if is_datagram(index, call.socket) else None
-    pair = next((cut for cut in cut_datagrams(index) if wrote and cut.wrote is wrote), None)
-    if pair is None or pair.wrote.goroutine != call.goroutine or pair.read.last > position:
+    write = index.last_use(call.socket, call.first, ("Write",)) if is_datagram(index, call.socket) else None
+    pair = next((cut for cut in cut_datagrams(index) if write and cut.write is write), None)
+    if pair is None or pair.write.goroutine != call.goroutine or pair.read.last > position:
         return last_cut(index, call)
     own = index.by_goroutine[pair.read.goroutine]
     following = next((own_call for own_call in own if own_call.first > pair.read.last), None)

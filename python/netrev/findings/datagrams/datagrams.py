@@ -18,9 +18,9 @@ def unanswered_datagram(index: Index, call: Call, position: int) -> list[str]:
     and sent no answer, and say so if no deadline was set."""
     if not is_datagram(index, call.socket):
         return []
-    wrote = index.last_use(call.socket, call.first, ("Write",))
-    read = reader_of(index, call, wrote, position) if wrote and wrote.goroutine == call.goroutine else None
-    if wrote is None or read is None:
+    request = index.last_use(call.socket, call.first, ("Write",))
+    read = reader_of(index, call, request, position) if request and request.goroutine == call.goroutine else None
+    if request is None or read is None:
         return []
     recording, calls = index.recording, index.by_goroutine[read.goroutine]
     answers = [write for write in calls if write.name == "Write" and write.socket == read.socket and write.moved]
@@ -28,7 +28,7 @@ def unanswered_datagram(index: Index, call: Call, position: int) -> list[str]:
     if len(answers) < FEWEST or answers[-1].first > read.last or now is None or now.socket != read.socket:
         return []
     says = [
-        f"Perhaps its request, {text_of_call(recording, wrote)} in {wrote.steps()}, was read by "
+        f"Perhaps its request, {text_of_call(recording, request)} in {request.steps()}, was read by "
         f"{text_of_call(recording, read)} in step {read.last}. That goroutine "
         f"has written there {len(answers)} times before; now it reads on since step {now.first}, without an answer."
     ]
@@ -42,9 +42,9 @@ def unanswered_datagram(index: Index, call: Call, position: int) -> list[str]:
 def dropped_datagram(index: Index, call: Call) -> list[str]:
     """Sentences about a Read of a datagram that timed out. The sentences name the goroutine that perhaps read the
     request and sent no answer, and say so if the request filled the whole buffer."""
-    wrote = index.last_use(call.socket, call.first, ("Write",)) if is_datagram(index, call.socket) else None
-    read = reader_of(index, call, wrote, call.last) if wrote and wrote.goroutine == call.goroutine else None
-    if wrote is None or read is None:
+    request = index.last_use(call.socket, call.first, ("Write",)) if is_datagram(index, call.socket) else None
+    read = reader_of(index, call, request, call.last) if request and request.goroutine == call.goroutine else None
+    if request is None or read is None:
         return []
     recording, own = index.recording, index.by_goroutine[read.goroutine]
     answers = [write for write in own if write.name == "Write" and write.socket == read.socket and write.moved]
@@ -62,13 +62,13 @@ def dropped_datagram(index: Index, call: Call) -> list[str]:
         else ""
     )
     return [
-        f"Perhaps its request, {text_of_call(recording, wrote)} in {wrote.steps()}, was read by "
+        f"Perhaps its request, {text_of_call(recording, request)} in {request.steps()}, was read by "
         f"{text_of_call(recording, read)} in step {read.last}. That goroutine, "
         f"which had answered there before, sent no answer to it: it read on in step {following.first}.{whole}"
     ]
 
 
-def reader_of(index: Index, call: Call, wrote: Call, position: int) -> Optional[Call]:
+def reader_of(index: Index, call: Call, request: Call, position: int) -> Optional[Call]:
     """The only Read on another datagram socket since a Write; None if several Reads got data, or if the Read and the
     Write have different lengths."""
     found = [
@@ -76,6 +76,6 @@ def reader_of(index: Index, call: Call, wrote: Call, position: int) -> Optional[
         for socket, calls in index.by_socket.items()
         if socket != call.socket and is_datagram(index, socket)
         for candidate in calls
-        if candidate.name == "Read" and wrote.first < candidate.last <= position and candidate.moved
+        if candidate.name == "Read" and request.first < candidate.last <= position and candidate.moved
     ]
-    return found[0] if len(found) == 1 and found[0].moved == wrote.moved else None
+    return found[0] if len(found) == 1 and found[0].moved == request.moved else None

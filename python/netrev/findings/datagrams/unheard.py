@@ -14,7 +14,7 @@ UNSPECIFIED = ("0.0.0.0:", "[::]:")
 class Sent(NamedTuple):
     """A datagram: its Write, its source address and its destination address."""
 
-    wrote: Call
+    write: Call
     source: str
     target: str
 
@@ -35,17 +35,17 @@ def unheard(index: Index, call: Call, position: int) -> Optional[Need]:
     found = (
         datagram
         for datagram in sent_at(index)
-        if since < datagram.wrote.first <= position
+        if since < datagram.write.first <= position
         and is_same(datagram.target, own)
         and not is_same(datagram.source, peer)
     )
-    sent = min(found, key=lambda datagram: datagram.wrote.first, default=None)
+    sent = min(found, key=lambda datagram: datagram.write.first, default=None)
     if sent is None:
         return None
     says = [
-        f"{text_of_call(index.recording, sent.wrote)} sent a datagram to its address, {own}, in {sent.wrote.steps()}, "
-        f"from socket {sent.wrote.socket}, "
-        f"{sent.source}{opened_at(index, sent.wrote.socket)}.",
+        f"{text_of_call(index.recording, sent.write)} sent a datagram to its address, {own}, in {sent.write.steps()}, "
+        f"from socket {sent.write.socket}, "
+        f"{sent.source}{opened_at(index, sent.write.socket)}.",
         f"Socket {call.socket} is connected to {peer}: the system drops what comes from any other address.",
     ]
     return Need(says, is_odd=True)
@@ -74,6 +74,6 @@ def sent_at(index: Index) -> Iterator[Sent]:
             if call.name == "Write" and call.moved:
                 yield Sent(call, own, peer)
     for step, target in lines.sent.items():
-        wrote = index.at(step) if 0 < step <= index.recording.length else None
-        if wrote and wrote.name == "Write" and wrote.moved and wrote.socket in lines.addresses:
-            yield Sent(wrote, lines.addresses[wrote.socket][0], target)
+        write = index.at(step) if 0 < step <= index.recording.length else None
+        if write and write.name == "Write" and write.moved and write.socket in lines.addresses:
+            yield Sent(write, lines.addresses[write.socket][0], target)

@@ -18,18 +18,18 @@ def socket_of(index: Index, wait: Waiting, position: int) -> Optional[int]:
     took a request from the waiter. That goroutine may have taken requests from other goroutines since."""
     lines = index.recording.lines
     goid = wait.name.number if wait.name.is_goid else lines.goid_of(wait.name.number)
-    put = [
+    puts = [
         (use.end, number) for number, uses in lines.uses.items() for use in uses if use.goid == goid and use.what == PUT
     ]
     taken = (
-        use for _, number in sorted(put, reverse=True)
+        use for _, number in sorted(puts, reverse=True)
         for use in lines.uses[number] if use.what == TOOK and contains(lines.stacks[use.stack], WRITE_LOOP)
     )  # fmt: skip
     last = next(taken, None)
     if last is None:
         return None
-    wrote = (call for call in back(index.by_goid(last.goid), position) if call.name == "Write")
-    call = next(wrote, None)
+    writes = (call for call in back(index.by_goid(last.goid), position) if call.name == "Write")
+    call = next(writes, None)
     return call.socket if call else None
 
 

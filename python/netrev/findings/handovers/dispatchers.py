@@ -17,7 +17,7 @@ def perhaps_dropped(recording: Recording, wait: Waiting, by: Waiter) -> list[str
     if reader is None or reader.name != "Read" or wait.name.is_goid or len(wait.objects) != 1:
         return []
     calls = [call for call in index_of(recording).by_socket[reader.socket] if call.last and call.moved]
-    wrote = [
+    writes = [
         call
         for call in calls
         if call.name == "Write" and Name(call.goroutine) == wait.name and call.first <= wait.first
@@ -25,13 +25,13 @@ def perhaps_dropped(recording: Recording, wait: Waiting, by: Waiter) -> list[str
     read = [
         call
         for call in calls
-        if call.name == "Read" and Name(call.goroutine) == by.name and wrote and call.last > wrote[-1].first
+        if call.name == "Read" and Name(call.goroutine) == by.name and writes and call.last > writes[-1].first
     ]
     uses = recording.lines.uses.get(wait.objects[0].object, ())
     if not read or any(use.what == PUT and use.last >= read[-1].first for use in uses):
         return []
     return [
-        f"{text_of_call(recording, wrote[-1])} in {wrote[-1].steps()} was perhaps its request. "
+        f"{text_of_call(recording, writes[-1])} in {writes[-1].steps()} was perhaps its request. "
         f"{text_of_call(recording, read[-1])} got "
         f"{counted(read[-1].moved or 0, 'byte')} after that, in step {read[-1].last}, and nothing was put there since."
     ]

@@ -46,10 +46,10 @@ def dropped_answer(index: Index, wait: Waiting, hands: Mapping[int, list[Hand]])
     other goroutine. None if unknown."""
     sockets = sockets_of_request(index, wait) if hands else set()
     for hand in (hand for socket in sorted(sockets) for hand in hands.get(socket, ())):
-        wrote = request_of(index, wait, hand.call.socket)
-        read = read_since(index, hand, wrote) if wrote else None
-        if wrote and read and not has_put(index.recording, wait, read) and is_answered(index, wrote):
-            return Need(says_of(index, wait, hand, wrote, read), stopped=read.first, is_odd=True)
+        request = request_of(index, wait, hand.call.socket)
+        read = read_since(index, hand, request) if request else None
+        if request and read and not has_put(index.recording, wait, read) and is_answered(index, request):
+            return Need(says_of(index, wait, hand, request, read), stopped=read.first, is_odd=True)
     return None
 
 
@@ -116,12 +116,12 @@ def request_of(index: Index, wait: Waiting, socket: int) -> Optional[Call]:
     return own or written_for(index, wait, socket)
 
 
-def read_since(index: Index, hand: Hand, wrote: Call) -> Optional[Call]:
+def read_since(index: Index, hand: Hand, request: Call) -> Optional[Call]:
     """The last Read, after a Write, that got bytes for a goroutine; the Read in which the goroutine waits now doesn't
     count."""
     calls = [call for call in index.by_goroutine.get(hand.call.goroutine, []) if call.socket == hand.call.socket]
     reads = [call for call in calls if call.name == "Read" and call.moved and call.last]
-    return next((read for read in reversed(reads) if wrote.first < read.last < hand.call.first), None)
+    return next((read for read in reversed(reads) if request.first < read.last < hand.call.first), None)
 
 
 def has_put(recording: Recording, wait: Waiting, read: Call) -> bool:
@@ -130,19 +130,19 @@ def has_put(recording: Recording, wait: Waiting, read: Call) -> bool:
     return any(use.what == PUT and use.last >= read.last for use in uses)
 
 
-def is_answered(index: Index, wrote: Call) -> bool:
+def is_answered(index: Index, request: Call) -> bool:
     """Whether, as far as known, all requests at a socket were answered. Either a goroutine at the other end read after
     the request, wrote, and now reads again, or the other end made as many Writes as this end."""
-    other = index.other_end(wrote.socket)
+    other = index.other_end(request.socket)
     if other is None:
         return False
     moved = [call for call in index.by_socket.get(other, ()) if call.name in MOVING and call.moved and call.last]
-    read = next((call for call in moved if call.name == "Read" and call.last > wrote.first), None)
+    read = next((call for call in moved if call.name == "Read" and call.last > request.first), None)
     answers = [call for call in moved if call.name == "Write" and read and call.first > read.last]
     if not answers:
         return False
     writers = {call.goroutine for call in moved if call.name == "Write"}
-    requests = [write for write in index.by_socket[wrote.socket] if write.name == "Write" and write.moved]
+    requests = [write for write in index.by_socket[request.socket] if write.name == "Write" and write.moved]
     is_serial = len(writers) == 1 and moved[-1].name == "Write" and reads_on(index, moved[-1].goroutine, other)
     return is_serial or sum(call.name == "Write" for call in moved) >= len(requests)
 
@@ -153,13 +153,14 @@ def reads_on(index: Index, goroutine: int, socket: int) -> bool:
     return now is not None and now.name == "Read" and now.socket == socket
 
 
-def says_of(index: Index, wait: Waiting, hand: Hand, wrote: Call, read: Call) -> list[str]:
+def says_of(index: Index, wait: Waiting, hand: Hand, request: Call, read: Call) -> list[str]:
     """The sentences about the request, the goroutine that read the answer, and the lines at which that goroutine
     continues without passing the answer on."""
     recording, name = index.recording, hand.reader.name
-    was = "was" if Name(wrote.goroutine) == wait.name else "was perhaps"
+    was = "was" if Name(request.goroutine) == wait.name else "was perhaps"
     says = [
-        f"{text_of_call(recording, wrote)} in {wrote.steps()} {was} its request. {text_of_call(recording, read)} got "
+        f"{text_of_call(recording, request)} in {request.steps()} {was} its request. {text_of_call(recording, read)} "
+        "got "
         f"{counted(read.moved or 0, 'byte')} after "
         f"that, in step {read.last}, and reads on since step {hand.call.first}: it handed that to no goroutine that waits there."
     ]

@@ -23,7 +23,7 @@ def of_own_reader(index: Index, wait: Waiting, position: int) -> Optional[Need]:
             call for call in index.by_socket.get(found.socket, ()) if call.name == "Read" and call.first <= position
         ]
         readers = {call.goroutine for call in reads}
-        if readers != {wait.name.number} or found.wrote.goroutine == wait.name.number:
+        if readers != {wait.name.number} or found.write.goroutine == wait.name.number:
             continue
         stack = index.recording.lines.of(reads[-1].first)
         reading = {call.function for call in stack.calls if call.of == OF_THE_PROGRAM} & inside
@@ -31,7 +31,7 @@ def of_own_reader(index: Index, wait: Waiting, position: int) -> Optional[Need]:
         if now:
             says = (
                 f"Perhaps it waits for itself: {counted(found.bytes, 'byte')} of "
-                f"{text_of_call(index.recording, found.wrote)} are unread on socket {found.socket}, "
+                f"{text_of_call(index.recording, found.write)} are unread on socket {found.socket}, "
                 f"and only {wait.name} reads there,{place_in(stack)}. It is still in {short(now.function)}, at {now.place()}."
             )
             return Need([says], is_odd=True)

@@ -125,10 +125,10 @@ def wants_value(waiter: Waiter) -> bool:
 def reader_words(index: Index, names: set[Name], position: int) -> list[str]:
     """Sentences about a socket whose only reader has ended, if a goroutine that waits for a value wrote to that socket
     last."""
-    for gone in gone_readers(index, position):
-        wrote = index.last_use(gone.read.socket, position, ("Write",))
-        if wrote and Name(wrote.goroutine) in names:
-            begins, *rest = gone.says(index)
+    for reader in gone_readers(index, position):
+        write = index.last_use(reader.read.socket, position, ("Write",))
+        if write and Name(write.goroutine) in names:
+            begins, *rest = reader.says(index)
             return [capital(begins), *rest]
     return []
 

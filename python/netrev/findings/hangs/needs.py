@@ -142,16 +142,16 @@ class Needs:
         how = f"{{by}} {DID[wanted] if did else 'used'} the other end last"
         return Need([*says, *self._since_then(last)], Name(last.goroutine), how, Certainty.LIKELY, self._stopped(last))
 
-    def _sibling_of(self, wrote: Call) -> Optional[Name]:
+    def _sibling_of(self, write: Call) -> Optional[Name]:
         """A waiting goroutine that perhaps writes the answer. A goroutine that has ended wrote an earlier answer, and
         the reader of the requests started both goroutines at the same `go` statement."""
         lines = self._recording.lines
-        known = lines.goroutines.get(lines.goid_of(wrote.goroutine, wrote.first))
+        known = lines.goroutines.get(lines.goid_of(write.goroutine, write.first))
         if known is None or known.made is None or known.last < 0 or not known.maker:
             return None
         maker = name_of_goid(lines, known.maker)
         if maker.is_goid or not any(
-            call.name == "Read" and call.socket == wrote.socket
+            call.name == "Read" and call.socket == write.socket
             for call in self._index.by_goroutine.get(maker.number, ())
         ):
             return None
@@ -171,18 +171,18 @@ class Needs:
         end. That goroutine waits elsewhere. The other end's reader started it after the last request, and now reads
         again."""
         lines, reads = self._recording.lines, self._index.by_socket[last.socket]
-        got = [
+        requests = [
             read
             for read in reads
             if read.goroutine == last.goroutine and read.name == "Read" and read.moved and read.last
         ]
         maker = lines.goid_of(last.goroutine, last.first)
-        if last.name != "Read" or not self._is_under_way(last) or not got or not maker:
+        if last.name != "Read" or not self._is_under_way(last) or not requests or not maker:
             return None
         started = [
             goroutine
             for goroutine in lines.goroutines.values()
-            if goroutine.maker == maker and goroutine.first >= got[-1].last
+            if goroutine.maker == maker and goroutine.first >= requests[-1].last
         ]
         waiters = [
             self._waiters[name]
@@ -198,13 +198,13 @@ class Needs:
         the other half, which waits to read from the second socket."""
         if last.name != "Read" or Name(last.goroutine) in self._waiters:
             return None
-        wrote = {
+        sockets = {
             write.socket for write in self._index.by_goroutine[last.goroutine] if write.name == "Write" and write.moved
         } - {last.socket}
         readers = (
             waiter
             for waiter in self._waiters.values()
-            if waiter.call and waiter.call.name in READING and waiter.call.socket in wrote
+            if waiter.call and waiter.call.name in READING and waiter.call.socket in sockets
         )
         found = next(readers, None)
         return found.name if found else None

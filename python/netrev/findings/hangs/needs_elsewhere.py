@@ -115,15 +115,15 @@ class NeedsElsewhere:
         reader does."""
         if wait.name.is_goid or not self._channels.is_new(wait) or not is_for_values(wait):
             return None
-        wrote = next(back(self._index.by_goroutine[wait.name.number], wait.first), None)
-        if wrote is None or wrote.name != "Write" or not wrote.last or not is_dialed(self._index, wrote.socket):
+        write = next(back(self._index.by_goroutine[wait.name.number], wait.first), None)
+        if write is None or write.name != "Write" or not write.last or not is_dialed(self._index, write.socket):
             return None
         readers = (
             waiter.name
             for waiter in self._waiters.values()
             if waiter.call
             and waiter.call.name in READING
-            and waiter.call.socket == wrote.socket
+            and waiter.call.socket == write.socket
             and not waiter.call.is_asking
         )
         return next(readers, None)

@@ -73,11 +73,12 @@ def unpassed_says(index: Index, server: Name, socket: int, position: int) -> lis
         (call for call in reversed(calls) if call.socket == socket and call.name == "Read" and call.moved), None
     )
     since = [call for call in calls if request and call.first > request.last and call.moved]
-    got = [read for read in since if read.name == "Read" and read.socket != socket]
-    if not request or not got or any(call.name == "Write" and call.socket == socket for call in since):
+    reads = [read for read in since if read.name == "Read" and read.socket != socket]
+    if not request or not reads or any(call.name == "Write" and call.socket == socket for call in since):
         return []
     return [
-        f"{text_of_call(index.recording, got[-1])} got {counted(got[-1].moved or 0, 'byte')} in step {got[-1].last}, "
+        f"{text_of_call(index.recording, reads[-1])} got {counted(reads[-1].moved or 0, 'byte')} in step "
+        f"{reads[-1].last}, "
         "and nothing was written to "
         f"socket {socket} since."
     ]

@@ -55,8 +55,8 @@ def left_reader(index: Index, call: Call, other: int, position: int) -> list[str
     dropped it, and the other end has written nothing more."""
     stacks, calls = index.recording.lines, index.by_socket[call.socket]
     reads = [earlier for earlier in calls if earlier.name == "Read" and earlier.moved and 0 < earlier.last < call.first]
-    wrote = index.last_use(other, position, ("Write",))
-    if not reads or wrote is None or wrote.first > reads[-1].last:
+    write = index.last_use(other, position, ("Write",))
+    if not reads or write is None or write.first > reads[-1].last:
         return []
     inside = functions_of(index, call)
     if raw := past_a_reader(index, call, other, reads[-1], position):
@@ -103,8 +103,8 @@ def lines_in(index: Index, call: Call) -> tuple[LineCall, ...]:
 
 def since_an_answer(reads: list[Call], calls: list[Call]) -> list[Call]:
     """The last Read on a socket, followed by the earlier Reads after which nothing was written there, latest first."""
-    wrote = max((write.first for write in calls if write.name == "Write" and write.moved), default=0)
-    return [read for read in reversed(reads) if read is reads[-1] or read.last > wrote]
+    last_write = max((write.first for write in calls if write.name == "Write" and write.moved), default=0)
+    return [read for read in reversed(reads) if read is reads[-1] or read.last > last_write]
 
 
 def lost_with(index: Index, file: str, line: int, read: Call, last: Call, why: str) -> str:
@@ -170,6 +170,6 @@ def waits_on(index: Index, other: int, read: Call, answer: Call, position: int) 
     Read."""
     calls = list(back(index.by_socket.get(other, ()), position))
     now: Optional[Call] = next((call for call in calls if call.name == "Read"), None)
-    wrote = next((call for call in calls if call.name == "Write" and call.moved), None)
-    got = any(call.name == "Read" and call.moved and call.last > answer.first for call in calls)
-    return bool(now and not 0 < now.last <= position and wrote and wrote.first < read.last and got)
+    write = next((call for call in calls if call.name == "Write" and call.moved), None)
+    is_read = any(call.name == "Read" and call.moved and call.last > answer.first for call in calls)
+    return bool(now and not 0 < now.last <= position and write and write.first < read.last and is_read)

@@ -23,9 +23,9 @@ def kept_says(recording: Recording, balances: list[Balance]) -> list[str]:
         for balance in kept
     ]
     statements = {goid: known.made for goid, known in recording.lines.goroutines.items()}
-    gave = {balance.name for balance in balances if balance.missing == 0} - {balance.name for balance in kept}
+    givers = {balance.name for balance in balances if balance.missing == 0} - {balance.name for balance in kept}
     others = [
-        goid for name in gave
+        goid for name in givers
         if statements.get(goid := name.number if name.is_goid else recording.lines.goid_of(name.number))
     ]  # fmt: skip
     others = [goid for goid in others if statements[goid] in map(statements.get, goids)]

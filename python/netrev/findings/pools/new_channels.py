@@ -29,8 +29,8 @@ def channel_since(recording: Recording, wait: Waiting) -> int:
     makes = re.compile(rf"\b{re.escape(name[1])}\b(?:, \w+)? :?= (?:\w+, )?make\(chan\b")
     maker = next((number for number in within if number < own[0].line and makes.search(lines[number - 1])), 0)
     calls = index_of(recording).by_goroutine.get(wait.name.number, [])
-    wrote = [call for call in calls if call.name == "Write" and call.first <= wait.first]
-    frames = recording.lines.of(wrote[-1].first).calls if maker and wrote else ()
+    writes = [call for call in calls if call.name == "Write" and call.first <= wait.first]
+    frames = recording.lines.of(writes[-1].first).calls if maker and writes else ()
     line = next((call.line for call in frames if call.function == own[0].function), 0)
     is_once = maker < line < own[0].line and max(loop_round(lines, within, at) for at in (line, own[0].line)) <= maker
-    return wrote[-1].first if maker and is_once else 0
+    return writes[-1].first if maker and is_once else 0

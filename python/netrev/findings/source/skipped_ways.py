@@ -78,24 +78,24 @@ class Walk(NamedTuple):
     ways: list[Way]
     given: list[str]
 
-    def body(self, statements: list[Statement], state: State, got: str) -> Result:
-        """The state after some statements (None if no path passes all of them), and the exits. `got` is the variable
+    def body(self, statements: list[Statement], state: State, flag: str) -> Result:
+        """The state after some statements (None if no path passes all of them), and the exits. `flag` is the variable
         that says whether something was taken; empty if no variable does."""
         exits, now = list[Exit](), state
         for statement in statements:
-            after, left = self.block(statement, now, got) if statement.kind else self.simple(statement, now)
+            after, left = self.block(statement, now, flag) if statement.kind else self.simple(statement, now)
             exits += left
             if after is None:
                 return None, exits
-            now, got = after, self.got_by(statement, got)
+            now, flag = after, self.flag_after(statement, flag)
         return now, exits
 
-    def got_by(self, statement: Statement, got: str) -> str:
+    def flag_after(self, statement: Statement, flag: str) -> str:
         """The variable that says, after a statement, whether something was taken."""
         if statement.kind:
-            return got
+            return flag
         name = name_of(statement.text)
-        return name if self.does_begin(statement.text) else "" if name == got else got
+        return name if self.does_begin(statement.text) else "" if name == flag else flag
 
     def does_begin(self, text: str) -> bool:
         return "func(" not in text and self.begins(text)
@@ -120,18 +120,18 @@ class Walk(NamedTuple):
             return None, [Exit(found[1], statement.number, now)]
         return now, []
 
-    def block(self, statement: Statement, now: State, got: str) -> Result:
+    def block(self, statement: Statement, now: State, flag: str) -> Result:
         """The same as `body`, for a block."""
         if statement.kind == "for":
-            return self.loop(statement, now, got)
+            return self.loop(statement, now, flag)
         now, exits = self.of_text(statement.text, now), list[Exit]()
-        is_taken = self.is_taken(statement, got)
+        is_taken = self.is_taken(statement, flag)
         afters = [] if statement.is_whole or is_missing(statement.text, now) else [BEFORE if is_taken else now]
         for branch in statement.branches:
             begin = now if branch.number == statement.number else self.of_text(branch.text, now)
             begin = BEFORE if branch.number == statement.number and is_taken is False else begin
-            mine = name_of(branch.text) if self.does_begin(branch.text) else got
-            after, left = self.body(branch.body, begin, mine)
+            own_flag = name_of(branch.text) if self.does_begin(branch.text) else flag
+            after, left = self.body(branch.body, begin, own_flag)
             afters += [after] if after is not None else []
             if statement.kind != "if":
                 afters += [exit.state for exit in left if exit.kind == "break"]
@@ -139,25 +139,25 @@ class Walk(NamedTuple):
             exits += left
         return joined(afters, statement.number), exits
 
-    def is_taken(self, statement: Statement, got: str) -> Optional[bool]:
+    def is_taken(self, statement: Statement, flag: str) -> Optional[bool]:
         """True if the first branch of a block runs exactly when something was taken, False if it runs exactly when
         nothing was; else None."""
         head, _, condition = statement.text.removesuffix(" {").removeprefix("if ").rpartition("; ")
         begins = self.does_begin(statement.text)
-        if statement.kind != "if" or (head and not begins and name_of(head) == got):
+        if statement.kind != "if" or (head and not begins and name_of(head) == flag):
             return None
         if begins and not head:
             return not condition.startswith("!")
-        name = name_of(head) if begins else got
+        name = name_of(head) if begins else flag
         is_error = name.startswith("err")
         if not name or condition not in (name, f"!{name}", f"{name} == nil", f"{name} != nil"):
             return None
         return (condition in (name, f"{name} != nil")) is not is_error
 
-    def loop(self, statement: Statement, now: State, got: str) -> Result:
+    def loop(self, statement: Statement, now: State, flag: str) -> Result:
         """The same as `body`, for a loop. In each iteration, a loop should give back what it took in that iteration."""
         begins = self.does_begin(statement.text) and not now.is_deferred
-        after, left = self.body(statement.branches[-1].body, OPEN if begins else now, got)
+        after, left = self.body(statement.branches[-1].body, OPEN if begins else now, flag)
         left += [Exit("end", statement.number, after)] if after is not None else []
         exits = [exit for exit in left if exit.kind not in ("continue", "break", "end")]
         rounds = [exit for exit in left if exit.kind in ("continue", "end")]

@@ -54,8 +54,8 @@ def half_closes(index: Index, socket: int, position: int) -> list[str]:
 
 def is_served(index: Index, socket: int, position: int) -> bool:
     """Whether the last goroutine that wrote to a socket is still in a handler of net/http, and so may write more."""
-    wrote = index.last_use(socket, position, ("Write",))
-    wait = waits_of(index.recording).at(Name(wrote.goroutine), position) if wrote else None
+    write = index.last_use(socket, position, ("Write",))
+    wait = waits_of(index.recording).at(Name(write.goroutine), position) if write else None
     return wait is not None and contains(wait.stack, SERVE)
 
 

@@ -77,22 +77,23 @@ def unasked(index: Index, call: Call) -> list[str]:
         return []
     if index.recording.lines and index.recording.lines.of(call.first).own() not in firsts:
         return []  # the goroutine is in the middle of an answer
-    wrote = last.writes[-1]
+    write = last.writes[-1]
     return [
         f"Before each of its {len(found)} answers there goroutine {call.goroutine} wrote; since the last of them it has written nothing: its last "
-        f"Write was{place_of(index.recording, wrote.first)} (step {wrote.first}). Perhaps the request is still in a buffer that wasn't flushed."
+        f"Write was{place_of(index.recording, write.first)} (step {write.first}). Perhaps the request is still in a "
+        "buffer that wasn't flushed."
     ]
 
 
 def unanswered(index: Index, call: Call, other: int, position: int) -> list[str]:
     """Sentences about a Read whose request was read and not answered: the goroutine that read the request had answered
     earlier requests. After the last request, that goroutine read again or did something else, without a Write."""
-    wrote = index.last_use(call.socket, call.first, ("Write",))
-    if wrote is None or wrote.goroutine != call.goroutine or not wrote.moved:
+    request = index.last_use(call.socket, call.first, ("Write",))
+    if request is None or request.goroutine != call.goroutine or not request.moved:
         return []
     if not is_client(index, call.goroutine, call.socket):
         return []
-    read = reader_of(index, other, wrote, position)
+    read = reader_of(index, other, request, position)
     if read is None:
         return []
     written = [
@@ -111,18 +112,18 @@ def unanswered(index: Index, call: Call, other: int, position: int) -> list[str]
     if now is None or now.name != "Read" or now.socket != other or now.first <= read.first:
         return []
     if not answers:
-        return unended(index, wrote, read, now)
+        return unended(index, request, read, now)
     if len(answers) < FEWEST and not ways_round_a_flush(index.recording, index.recording.lines.of(now.first)):
         return []
     return [
-        f"The request, {text_of_call(index.recording, wrote)} in {wrote.steps()}, was read by "
+        f"The request, {text_of_call(index.recording, request)} in {request.steps()}, was read by "
         f"{text_of_call(index.recording, read)} in step {read.last}. "
         f"That goroutine has written there {counted(len(answers), 'time')} before; now it reads on since step {now.first}, without an answer."
         + perhaps_why(index, call, now)
     ]
 
 
-def unended(index: Index, wrote: Call, read: Call, now: Call) -> list[str]:
+def unended(index: Index, request: Call, read: Call, now: Call) -> list[str]:
     """Sentences about a first request that was read but not answered: its reader still looks for the end of a line."""
     line = line_reader_of(index, now)
     if not line or line_reader_of(index, read) != line:
@@ -130,7 +131,8 @@ def unended(index: Index, wrote: Call, read: Call, now: Call) -> list[str]:
     recording, maker = index.recording, never_flushed(index.recording, now)
     kept = f"the answer is in the buffer that {maker} makes, and no line flushes it; or " if maker else ""
     return [
-        f"The request, {text_of_call(recording, wrote)} in {wrote.steps()}, was read by {text_of_call(recording, read)} "
+        f"The request, {text_of_call(recording, request)} in {request.steps()}, was read by "
+        f"{text_of_call(recording, read)} "
         f"in step {read.last}, and nothing has been "
         f"written there yet. That goroutine reads on since step {now.first}: {line} looks for the end of a line. Perhaps {kept}the request lacks "
         "that."
@@ -178,13 +180,14 @@ def are_alike(index: Index, writes: list[Call], others: list[Call]) -> bool:
     return places[0] == places[1]
 
 
-def reader_of(index: Index, other: int, wrote: Call, position: int) -> Optional[Call]:
+def reader_of(index: Index, other: int, request: Call, position: int) -> Optional[Call]:
     """The last Read at the other end that got bytes from a Write."""
     reads = (call for call in back(index.by_socket.get(other, ()), position) if call.name == "Read")
     read = next(
-        (candidate for candidate in reads if candidate.moved and candidate.last and candidate.last > wrote.first), None
+        (candidate for candidate in reads if candidate.moved and candidate.last and candidate.last > request.first),
+        None,
     )
-    return read if read and read.goroutine != wrote.goroutine else None
+    return read if read and read.goroutine != request.goroutine else None
 
 
 def lacking(index: Index, call: Call, other: int) -> list[str]:
@@ -194,22 +197,22 @@ def lacking(index: Index, call: Call, other: int) -> list[str]:
     stack = recording.lines.of(call.first)
     if call.name != "Read" or not any(frame.function == READ_FULL for frame in stack.calls):
         return []
-    sizes, wrote = read_sizes_of(recording), index.last_use(other, recording.length, ("Write",))
+    sizes, write = read_sizes_of(recording), index.last_use(other, recording.length, ("Write",))
     rest, begin = sizes.of(call), begin_of_full(index, sizes, call)
     whole = sizes.of(begin)
     if (
         not rest
         or not whole
-        or not wrote
-        or not wrote.last
-        or (begin is call and rest < MOST_ASKED and rest <= size_of(index, wrote))
+        or not write
+        or not write.last
+        or (begin is call and rest < MOST_ASKED and rest <= size_of(index, write))
     ):
         return []
     is_of_a_buffer = rest & (rest - 1) == 0 and any(frame.function.startswith("bufio.") for frame in stack.calls)
     if begin is call and is_of_a_buffer and is_of_a_body(recording, call):
         return [
-            f"It waits for the rest of a message: {text_of_call(recording, wrote)} was the last there.",
-            *length_says(recording, wrote, call),
+            f"It waits for the rest of a message: {text_of_call(recording, write)} was the last there.",
+            *length_says(recording, write, call),
         ]
     if begin is call and (rest < FEW_ASKED or is_of_a_buffer):
         return []
@@ -219,9 +222,10 @@ def lacking(index: Index, call: Call, other: int) -> list[str]:
             if begin is call
             else [
                 f"Perhaps fewer bytes were sent than it was told to read: it asked for {whole} and has {whole - rest}, so {rest} more must come. "
-                f"{text_of_call(recording, wrote)}, the last there, ended in step {wrote.last}, and nobody writes there "
+                f"{text_of_call(recording, write)}, the last there, ended in step {write.last}, and nobody writes there "
+                ""
                 "now.",
-                *length_says(recording, wrote, begin),
+                *length_says(recording, write, begin),
             ]
         )
     if moved_at(index, call.socket, "Read", recording.length) != moved_at(index, other, "Write", recording.length):
@@ -229,15 +233,15 @@ def lacking(index: Index, call: Call, other: int) -> list[str]:
     if begin is call:
         return [
             f"It asks for {'at least ' if rest >= MOST_ASKED else ''}{counted(rest, 'byte')}: "
-            f"{text_of_call(recording, wrote)}, the last there, put {counted(size_of(index, wrote), 'byte')}, and all "
+            f"{text_of_call(recording, write)}, the last there, put {counted(size_of(index, write), 'byte')}, and all "
             "of them are read.",
-            *length_says(recording, wrote, begin),
+            *length_says(recording, write, begin),
         ]
     return [
-        f"It asked for {counted(whole, 'byte')} and has {whole - rest}: {text_of_call(recording, wrote)}, the last "
-        f"there, put {counted(size_of(index, wrote), 'byte')}, and all of them are read. "
+        f"It asked for {counted(whole, 'byte')} and has {whole - rest}: {text_of_call(recording, write)}, the last "
+        f"there, put {counted(size_of(index, write), 'byte')}, and all of them are read. "
         f"{counted(rest, 'byte')} more must come.",
-        *length_says(recording, wrote, begin),
+        *length_says(recording, write, begin),
     ]
 
 

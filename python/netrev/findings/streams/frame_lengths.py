@@ -32,17 +32,17 @@ class Line(NamedTuple):
         return f"{self.file}:{self.number}"
 
 
-def length_says(recording: Recording, wrote: Call, read: Call) -> list[str]:
+def length_says(recording: Recording, write: Call, read: Call) -> list[str]:
     """Sentences about the lines that wrote and read the length that a Read asks for. The sentences say so if that
     length belongs to something other than the bytes that were written."""
-    written = length_line(recording, wrote)
+    written = length_line(recording, write)
     if written is None:
         return []
     parsed = line_of(recording, read, PARSED)
     by = f", which {parsed.place()} read" if parsed else ""
     says = [f"Perhaps that is the length that {written.place()} wrote{by}."]
     found = LENGTH.search(written.text)
-    bodies = bodies_of(recording, wrote)
+    bodies = bodies_of(recording, write)
     if found and bodies and found[1] not in bodies:
         says.append(f"It is the length of {found[1]}, and {' and '.join(sorted(bodies))} was written.")
     return says
@@ -54,18 +54,18 @@ def is_of_a_body(recording: Recording, read: Call) -> bool:
     return own is not None and parsed is not None and parsed.file == own[0].file and parsed.number < own[0].line
 
 
-def length_line(recording: Recording, wrote: Call) -> Optional[Line]:
+def length_line(recording: Recording, write: Call) -> Optional[Line]:
     """The line of a Write's function that writes a length: the length of a value, or a variable that contains the
     length."""
-    if found := line_of(recording, wrote, LENGTH):
+    if found := line_of(recording, write, LENGTH):
         return found
-    own = recording.lines.of(wrote.first).own()
+    own = recording.lines.of(write.first).own()
     lines = source_of(recording, own[0].file) if own and own[0].of == OF_THE_PROGRAM else None
     within = range_of(lines, own[0]) if lines and own else None
     names = {match[1] for number in within or () if lines and (match := IS_LENGTH.search(code_at(lines, number)))}
     if not names:
         return None
-    return line_of(recording, wrote, re.compile(rf"(?:Uint\d*\(|\bbyte\().*\b(?:{'|'.join(sorted(names))})\b"))
+    return line_of(recording, write, re.compile(rf"(?:Uint\d*\(|\bbyte\().*\b(?:{'|'.join(sorted(names))})\b"))
 
 
 def line_of(recording: Recording, call: Call, pattern: "re.Pattern[str]") -> Optional[Line]:
@@ -82,10 +82,10 @@ def line_of(recording: Recording, call: Call, pattern: "re.Pattern[str]") -> Opt
     return None
 
 
-def bodies_of(recording: Recording, wrote: Call) -> set[str]:
+def bodies_of(recording: Recording, write: Call) -> set[str]:
     """The variables whose data the function around a Write appends, copies or writes. Variables named like a header and
     slices that the function assembles are left out."""
-    own = recording.lines.of(wrote.first).own()
+    own = recording.lines.of(write.first).own()
     lines = source_of(recording, own[0].file) if own and own[0].of == OF_THE_PROGRAM else None
     within = range_of(lines, own[0]) if lines and own else None
     texts = [code_at(lines, number) for number in within or () if lines]

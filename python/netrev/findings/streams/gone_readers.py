@@ -16,7 +16,7 @@ class GoneReader(NamedTuple):
 
     read: Call
     ended: int
-    wrote: Optional[Call]
+    write: Optional[Call]
 
     def says(self, index: Index) -> list[str]:
         """The sentences about the reader."""
@@ -26,9 +26,9 @@ class GoneReader(NamedTuple):
             f"Its last was {text_of_call(recording, read)}, {read.steps()}, {result_words(recording, read)}.",
         ]
         says += long_line_says(index, read)
-        if self.wrote:
+        if self.write:
             says.append(
-                f"{text_of_call(recording, self.wrote)} came after that, in {self.wrote.steps()}: nobody has read it."
+                f"{text_of_call(recording, self.write)} came after that, in {self.write.steps()}: nobody has read it."
             )
         return says
 
@@ -36,9 +36,9 @@ class GoneReader(NamedTuple):
 def gone_readers(index: Index, position: int) -> Iterator[GoneReader]:
     """The readers that have ended at a position, except the readers of connections that were closed at this end."""
     for socket in sorted(index.recording.lines.peers):
-        gone = gone_reader(index, socket, position)
-        if gone is not None:
-            yield gone
+        reader = gone_reader(index, socket, position)
+        if reader is not None:
+            yield reader
 
 
 def gone_reader(index: Index, socket: int, position: int) -> Optional[GoneReader]:
@@ -70,23 +70,23 @@ def without_reader(index: Index) -> Iterator[Cause]:
     """Possible causes at the end of the recording: readers that ended before more bytes came, although their last Read
     neither failed nor reached the end of the stream."""
     for reader in gone_readers(index, index.recording.length):
-        if not reader.wrote or not reader.read.moved or reader.read.outcome is not Outcome.DONE:
+        if not reader.write or not reader.read.moved or reader.read.outcome is not Outcome.DONE:
             continue
         looks = [f"goto {reader.read.last}", f"calls sock {reader.read.socket}"]
-        yield Cause(reader.read, reader.says(index), [reader.read.first, reader.wrote.first], looks, reader.read.last)
+        yield Cause(reader.read, reader.says(index), [reader.read.first, reader.write.first], looks, reader.read.last)
 
 
 def ended_reader(index: Index, call: Call, other: int, position: int) -> list[str]:
     """Sentences about a Read that waits for an answer: the only goroutine that had read at the other end has ended. The
     sentences name the lines at which it left its loop."""
-    gone = gone_reader(index, other, position)
-    wrote = index.last_use(call.socket, position, ("Write",))
-    if gone is None or gone.read.outcome is not Outcome.DONE or wrote is None or wrote.goroutine != call.goroutine:
+    reader = gone_reader(index, other, position)
+    write = index.last_use(call.socket, position, ("Write",))
+    if reader is None or reader.read.outcome is not Outcome.DONE or write is None or write.goroutine != call.goroutine:
         return []
-    read = gone.read
+    read = reader.read
     return [
         f"Nobody reads at socket {other} any more: goroutine {read.goroutine}, whose last was "
         f"{text_of_call(index.recording, read)}, ended after step "
-        f"{gone.ended}{left_by(index, read)}.",
+        f"{reader.ended}{left_by(index, read)}.",
         *long_line_says(index, read),
     ]

@@ -32,45 +32,45 @@ class Part(NamedTuple):
 
 def unfinished_reply(index: Index, call: Call, other: int, position: int) -> list[str]:
     """Sentences about a waiting Read whose reply is perhaps incomplete; none if that is unknown."""
-    wrote, request = (index.last_use(socket, position, ("Write",)) for socket in (other, call.socket))
+    write, request = (index.last_use(socket, position, ("Write",)) for socket in (other, call.socket))
     if (
-        not wrote
-        or not wrote.moved
+        not write
+        or not write.moved
         or not request
         or request.goroutine != call.goroutine
-        or not has_part(index, call, wrote)
+        or not has_part(index, call, write)
     ):
         return []
-    read, now = reader_of(index, other, request, position), index.inside(wrote.goroutine, position)
-    if not read or read.goroutine != wrote.goroutine or not read.last < wrote.first:
+    read, now = reader_of(index, other, request, position), index.inside(write.goroutine, position)
+    if not read or read.goroutine != write.goroutine or not read.last < write.first:
         return []
-    if not now or now.name != "Read" or now.socket != other or now.first < wrote.last:
+    if not now or now.name != "Read" or now.socket != other or now.first < write.last:
         return []
-    part = next(parts_of(index, wrote, now), None)
+    part = next(parts_of(index, write, now), None)
     if part is None:
         return []
-    place = place_of(index.recording, wrote.first).partition(", called")[0]
+    place = place_of(index.recording, write.first).partition(", called")[0]
     return [
         f"Perhaps the reply isn't whole: its last Write was{place}, {'in' if part.is_inside else 'after'} the loop at {part.file}:{part.loop}, "
         f"where {ways_words(part.file, part.ways)} without {part.file}:{part.writes}, which writes."
     ]
 
 
-def has_part(index: Index, call: Call, wrote: Call) -> bool:
+def has_part(index: Index, call: Call, write: Call) -> bool:
     """Whether a waiting goroutine has already read part of another goroutine's last Write. It must have made that Read
     at the line at which it now waits."""
     reads = [read for read in index.by_socket[call.socket] if read.name == "Read" and read.moved and read.last]
     last = reads[-1] if reads else None
-    if last is None or last.goroutine != call.goroutine or not wrote.first < last.last < call.first:
+    if last is None or last.goroutine != call.goroutine or not write.first < last.last < call.first:
         return False
     return index.recording.lines.of(last.first).own() == index.recording.lines.of(call.first).own()
 
 
-def parts_of(index: Index, wrote: Call, now: Call) -> Iterator[Part]:
+def parts_of(index: Index, write: Call, now: Call) -> Iterator[Part]:
     """The loops in the functions that made a Write, except loops that still run."""
     lines = index.recording.lines
     running = {call.function for call in lines.of(now.first).calls}
-    for call in lines.of(wrote.first).calls:
+    for call in lines.of(write.first).calls:
         source = source_of(index.recording, call.file) if call.of == OF_THE_PROGRAM else None
         if source and call.function not in running:
             yield from loops_of(source, call)

@@ -20,12 +20,12 @@ class UnpassedEnd(NamedTuple):
     of that Write's socket."""
 
     met: Call
-    wrote: Call
+    write: Call
     waits: Call
 
     def says(self, recording: Recording) -> list[str]:
         """The sentences about the end of a stream that a relay didn't pass on."""
-        socket, reader = self.wrote.socket, text_of_call(recording, self.waits)
+        socket, reader = self.write.socket, text_of_call(recording, self.waits)
         ended = " The goroutine has ended." if has_ended(recording, Name(self.met.goroutine)) else ""
         return [
             f"The end of a stream isn't passed on: {text_of_call(recording, self.met)} met it on socket "
@@ -40,11 +40,11 @@ def unpassed_ends(index: Index) -> Iterator[UnpassedEnd]:
     for call in index.book.calls:
         if call.outcome is not Outcome.EOF or call.name != "Read" or is_of_go(index.recording, call):
             continue
-        wrote = last_write_of_relay(index, call)
-        if wrote is None or index.closing(wrote.socket, index.recording.length):
+        write = last_write_of_relay(index, call)
+        if write is None or index.closing(write.socket, index.recording.length):
             continue
-        if waits := reader_of(index, wrote.socket):
-            yield UnpassedEnd(call, wrote, waits)
+        if waits := reader_of(index, write.socket):
+            yield UnpassedEnd(call, write, waits)
 
 
 def last_write_of_relay(index: Index, met: Call) -> Optional[Call]:
@@ -57,8 +57,8 @@ def last_write_of_relay(index: Index, met: Call) -> Optional[Call]:
         return None
     if len({write.socket for write in writes}) > 1 or writes[-1].socket == met.socket:
         return None
-    got = [read for read in reads if read.moved]
-    return writes[-1] if not got or got[-1].first < writes[-1].first else None
+    data_reads = [read for read in reads if read.moved]
+    return writes[-1] if not data_reads or data_reads[-1].first < writes[-1].first else None
 
 
 def is_over(index: Index, met: Call) -> bool:

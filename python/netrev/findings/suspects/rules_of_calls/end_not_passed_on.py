@@ -20,8 +20,8 @@ def suspect_of(run: Run, end: UnpassedEnd) -> Suspect:
         Weight.LIKELY,
         [first[0].lower() + first[1:], second],
         goroutine=end.met.goroutine,
-        socket=end.wrote.socket,
-        evidence=[Evidence(run.end, f"shut {end.wrote.socket}", "0")],
+        socket=end.write.socket,
+        evidence=[Evidence(run.end, f"shut {end.write.socket}", "0")],
         looks=[f"goto {end.met.last}", f"calls gor {end.met.goroutine}"],
-        steps=[end.wrote.first, end.met.last, end.waits.first],
+        steps=[end.write.first, end.met.last, end.waits.first],
     )
