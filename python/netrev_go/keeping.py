@@ -20,7 +20,6 @@ from .go_command.running import LOGS, logs_in, process_of, still_written
 from .go_command.toolchain import Go
 from .log.ran import forget
 from .steps.converting import Wish, convert
-from .steps.forms import suspects_in
 
 
 def say(lines: list[str], stream: TextIO | None = None) -> None:
@@ -162,7 +161,7 @@ class Making:
                 continue
             count += 1
             ok = ok and outcome.taken
-            self.suspected = self.suspected or bool(suspects_in(outcome.lines))
+            self.suspected = self.suspected or bool(outcome.suspects)
             saying.rest(outcome.lines)
         if without and count == before:
             say([messages.NOTHING_TO_RECORD])

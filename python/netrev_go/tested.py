@@ -12,9 +12,11 @@ from collections.abc import Iterable
 from dataclasses import replace
 from itertools import count
 
+from netrev.connection.errors import unexpected
+from netrev.errors import NetrevError
 from netrev.messages import recorder as messages
-from netrev.system.built import netrev_program
-from netrev.system.command_lines import file_word
+from netrev.system.built import BUILT, netrev_program
+from netrev.system.command_lines import PACKAGES, file_word
 from netrev.text.plain import plain
 
 from .go_command.outputs import LONGEST_ENDING, numbered
@@ -23,10 +25,9 @@ from .go_command.toolchain import Go
 from .keeping import Saying, complain, say, unwritten
 from .log.logfile import NotALogError, read_log
 from .log.ran import Ran, Tests, of_log
-from .steps.asking import PACKAGES
-from .steps.converting import Outcome, ReadLog, Wish, converted
+from .steps.converting import ReadLog, Wish, converted
 from .steps.forms import Told
-from .steps.report import Hear, unheard
+from .steps.report import Hear, Outcome, unheard
 
 MAJOR = re.compile(r"v\d+\Z")
 UNFIT = re.compile(r"[^A-Za-z0-9_.-]+")
@@ -125,15 +126,14 @@ class Recordings:
 
     def keep(self, told: Told, name: pathlib.Path, outcome: Outcome, saying: Saying) -> None:
         """Prints the report about a recording, and stores it for the machine-readable output."""
-        told.say(outcome.lines)
-        told.accepted = outcome.taken
+        told.report(outcome)
         if name.exists():
             told.recording = str(name)
         self.suspected = self.suspected or bool(told.suspects)
         if told.is_red() or told.suspects or not outcome.taken:
             saying.rest(outcome.lines)
         if self._is_page_wanted and outcome.taken:
-            told.page = page_of(name)
+            told.page = page_of(name, outcome)
 
     def read(self, log: pathlib.Path, tests: Tests) -> ReadLog | None:
         try:
@@ -169,17 +169,18 @@ class Recordings:
         return any(told.possible for told in recorded)
 
 
-def page_of(name: pathlib.Path) -> str | None:
+def page_of(name: pathlib.Path, outcome: Outcome) -> str | None:
     """Writes the timeline of a recording as a page beside it. Returns the page's name, or None if that fails."""
-    page = name.with_suffix(".html")
-    words = [sys.executable, str(PACKAGES), "nrdb", "--timeline", file_word(page), file_word(name)]
-    run = subprocess.run(
-        words, env=nrdb_environment(), capture_output=True, text=True, stdin=subprocess.DEVNULL, check=False
-    )
-    if run.returncode != 0 or not page.exists():
-        complain(messages.NO_PAGE.format(page=page, why=run.stdout.strip()[-300:] or run.stderr.strip()[-300:]))
-        return None
-    return str(page)
+    from netrev.timeline.page import write_page_beside
+
+    try:
+        return write_page_beside(netrev_program() or str(BUILT), file_word(name), outcome.read)
+    except (NetrevError, OSError) as fault:
+        why = str(fault)
+    except Exception as error:
+        why = unexpected(error)
+    complain(messages.NO_PAGE.format(page=name.with_suffix(".html"), why=why))
+    return None
 
 
 def nrdb_environment() -> dict[str, str]:

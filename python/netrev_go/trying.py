@@ -22,7 +22,7 @@ from .go_command.running import LOG
 from .go_command.toolchain import SOURCES, Go, RecorderError, is_tried, left_out, overlay, quiet_go, tried
 from .keeping import say
 from .log.logfile import NotALogError, read_log
-from .steps.asking import check
+from .steps.analysis import check
 from .steps.compare import DIFFERS, by_the_model, differing
 from .steps.making import NothingRecordedError, Recording, UnconvertibleError, make, write, write_words
 

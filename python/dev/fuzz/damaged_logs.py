@@ -20,8 +20,9 @@ from netrev_go.log.logfile import HEADER_BYTES, NotALogError, read_log
 from netrev_go.log.points import KINDS, Log, Point
 from netrev_go.log.ran import ENDING, Tests, of_log
 from netrev_go.steps import forms, report
-from netrev_go.steps.converting import Outcome, ReadLog, Wish, convert, converted
+from netrev_go.steps.converting import ReadLog, Wish, convert, converted
 from netrev_go.steps.forms import Told
+from netrev_go.steps.report import Outcome
 
 from .generators.damage import damaged
 from .generators.logs import STACKS, binary, from_text
@@ -251,7 +252,7 @@ def tests_wrong(log: Path, tests: Tests, folder: Path) -> str:
     for at, test in enumerate(tests.ran[:TESTS]):
         name = folder / f"test-{at}.jsonl"
         outcome = converted(read, name, None, Wish(), test)
-        told[at].say(outcome.lines)
+        told[at].report(outcome)
         if said := made_wrong(outcome, name):
             return f"test {at}: {said}"
     return forms_wrong(told)

@@ -31,7 +31,7 @@ from netrev.system.built import netrev_program
 from netrev_go.go_command.running import LOG, logs_folder
 from netrev_go.go_command.toolchain import Go, RecorderError, find_go, is_tried
 from netrev_go.log.logfile import NotALogError, read_log
-from netrev_go.steps.asking import check, suspects
+from netrev_go.steps.analysis import Analysis, check
 from netrev_go.steps.compare import differing
 from netrev_go.steps.making import NoSocketError, NothingRecordedError, UnconvertibleError, make, write, write_words
 
@@ -93,7 +93,10 @@ def compared(netrev: str, result: Result) -> None:
         if differ:
             result.said += "; " + differ[0]
         if result.is_healthy:
-            result.suspects = [line for line in suspects(netrev, name) if line[:1].isdigit() and ". " in line[:4]]
+            with Analysis(netrev, name) as analysis:
+                analysis.outcome()
+                found = analysis.suspects().findings
+            result.suspects = [f"{at}. {finding.sentences[0]}" for at, finding in enumerate(found, 1)]
 
 
 class Recorder:

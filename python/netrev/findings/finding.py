@@ -14,6 +14,8 @@ from netrev.text.plain import plain
 # A file's name begins at the start of a word; otherwise a long word would be searched from each of its letters.
 PLACE = re.compile(r"(?<![\w./@+~-])([\w./@+~-]+\.go):(\d+)\b")
 
+CAUSE, INDENT, NEXT = "cause:  ", "        ", "next:   "
+
 
 class Kind(Enum):
     """The kinds of findings."""
@@ -64,3 +66,50 @@ def named_places(sentences: Sequence[str]) -> Iterator[tuple[Place, str]]:
 def command_of(evidence: Sequence[str], name: object) -> str:
     """The command line that opens a recording and runs the commands of a finding."""
     return command_line("nrdb", file_word(name), *(word for command in evidence for word in ("-ex", command)))
+
+
+class FirstFindings(NamedTuple):
+    """The failed calls and hangs that the first output shows, the number of those that it leaves out, and, if nothing
+    failed, what may be wrong."""
+
+    shown: list[Finding]
+    left_out: int
+    perhaps: list[Finding]
+
+    @property
+    def all(self) -> list[Finding]:
+        """All findings that are shown, in order."""
+        return [*self.shown, *self.perhaps]
+
+    def lines(self, name: str) -> list[str]:
+        """The lines of the first output, before `plain` is applied to them; none if no cause is found."""
+        lines = [line for finding in self.shown for line in paragraph(finding.sentences)]
+        if self.left_out:
+            lines.append(f"{INDENT}({self.left_out} more: info errors, info hangs)")
+        lines += [line for finding in self.perhaps for line in paragraph(finding.sentences)]
+        return [*lines, *(f"{NEXT}{command_of(finding.evidence, name)}" for finding in self.all[:1])]
+
+
+class SuspectFindings(NamedTuple):
+    """The suspects that are shown, worst first, and a line about the rest; the line may be empty."""
+
+    findings: list[Finding]
+    rest: str
+
+    def lines(self) -> list[str]:
+        """The lines of `info suspects`, before `plain` is applied to them."""
+        lines = [line for at, finding in enumerate(self.findings, 1) for line in suspect_lines(at, finding)]
+        return [*lines, *([self.rest] if self.rest else [])]
+
+
+def paragraph(says: Sequence[str]) -> list[str]:
+    """The lines of a cause, one sentence to a line."""
+    first, *rest = says
+    return [f"{CAUSE}{first}", *(f"{INDENT}{line}" for line in rest)]
+
+
+def suspect_lines(at: int, finding: Finding) -> list[str]:
+    """The lines of the suspect with this number: its sentence, netrev's lines and answers, notes about answers that the
+    rule didn't expect, the program's lines, and the command to type next. Only netrev's output follows `netrev:`."""
+    further = [*finding.details, f"next:   {'; '.join(finding.evidence)}"]
+    return [f"{at}. {finding.sentences[0]}", *(f"   {line}" for line in further)]

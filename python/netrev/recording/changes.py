@@ -267,6 +267,10 @@ class RecordedChanges:
         """The cells that any step changed, in the order of their first changes."""
         return list(dict.fromkeys(cell for _, cell, _ in self.texts()))
 
+    def at_end(self) -> dict[str, str]:
+        """The last value of each cell that any step changed."""
+        return {cell: value for _, cell, value in self.texts()}
+
     def texts(self) -> Iterator[tuple[str, str, str]]:
         """All changes, step by step, as texts: the step, the cell and the cell's value."""
         self._wait(None)

@@ -5,6 +5,7 @@ import subprocess
 from typing import Any, Callable, Iterable, Iterator, Optional
 
 from netrev.machine.in_place import Machine
+from netrev.messages import session as messages
 from netrev.model.changes import lines_of
 from netrev.recording.changes import IncompleteChangesError, RecordedChanges
 from netrev.recording.recording import Recording, Row
@@ -16,16 +17,60 @@ from netrev.text.vocabulary import KINDS, MOST
 AT_LEAST, A_STEP = 5, 0.00005
 
 
-def printed_changes(netrev: str, path: str, recording: Recording) -> Optional[RecordedChanges]:
-    """The changes of a recording in a file, as netrev lists them. The result is None if netrev can't be started, takes
-    longer than the model would, or refuses the recording."""
-    words, seconds = [netrev, "changes", file_word(path)], AT_LEAST + A_STEP * recording.length
-    try:
-        run = subprocess.run(words, stdin=subprocess.DEVNULL, capture_output=True, timeout=seconds, check=False)
-        changes = RecordedChanges.read([run.stdout])
-    except (OSError, subprocess.TimeoutExpired, IncompleteChangesError):
-        return None
-    return None if run.returncode or changes.fault or changes.length != recording.length else changes
+class PrintedChanges:
+    """`netrev changes` of a recording in a file. It runs in the background, and is ended when the `with` block ends."""
+
+    def __init__(self, netrev: str, path: str) -> None:
+        self._words = [netrev, "changes", file_word(path)]
+        self._process: Optional["subprocess.Popen[bytes]"] = None
+        self._fault: Optional[OSError] = None
+        self._ended: Optional[tuple[int, bytes, bytes]] = None
+
+    def __enter__(self) -> "PrintedChanges":
+        pipe = subprocess.PIPE
+        try:
+            self._process = subprocess.Popen(self._words, stdin=subprocess.DEVNULL, stdout=pipe, stderr=pipe)
+        except OSError as fault:
+            self._fault = fault
+        return self
+
+    def __exit__(self, *_: object) -> None:
+        if self._process is not None and self._ended is None:
+            self._process.kill()
+            self._process.communicate()
+
+    def ended(self, seconds: Optional[float] = None) -> tuple[int, bytes, bytes]:
+        """Waits for netrev to end, and returns its status and its two outputs; raises an OSError if it couldn't be
+        started."""
+        if self._ended is None:
+            if self._process is None:
+                assert self._fault is not None
+                raise self._fault
+            printed, errors = self._process.communicate(timeout=seconds)
+            self._ended = self._process.returncode, printed, errors
+        return self._ended
+
+    def of(self, recording: Recording) -> Optional[RecordedChanges]:
+        """The changes of the recording. The result is None if netrev can't be started, takes longer than the model
+        would, or refuses the recording."""
+        try:
+            status, printed, _ = self.ended(AT_LEAST + A_STEP * recording.length)
+            changes = RecordedChanges.read([printed])
+        except (OSError, subprocess.TimeoutExpired, IncompleteChangesError):
+            return None
+        return None if status or changes.fault or changes.length != recording.length else changes
+
+
+def read_with_changes(netrev: str, path: str) -> Recording:
+    """The recording in a file, with the changes that netrev lists. Raises an OSError or IncompleteChangesError if netrev
+    doesn't list them."""
+    with PrintedChanges(netrev, path) as printed:
+        recording = Recording.read(path)
+        status, _, _ = printed.ended()
+        recording.changes = printed.of(recording)
+    if recording.changes is None:
+        raise IncompleteChangesError(messages.ENDED_WITH.format(status=status))
+    return recording
 
 
 WIDE = Limits(MOST, MOST, MOST, MOST)  # (the steps were made within the limits)

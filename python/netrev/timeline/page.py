@@ -5,9 +5,16 @@ import sys
 from pathlib import Path
 from typing import Any, Optional
 
+from netrev.connection.beginnings import begins_at
+from netrev.connection.netrev import Own
+from netrev.connection.scout import Scout
 from netrev.messages import searches as messages
+from netrev.recording.recording import Recording
+from netrev.recording.suspect_list import SuspectList
+from netrev.run.changes import read_with_changes
 from netrev.session.files import writing
 from netrev.session.session import UsageError, Session
+from netrev.system.interrupts import Interrupts
 from netrev.system.long_passes import take_all_as_kept, without_collections
 from netrev.text.plain import plain
 
@@ -47,13 +54,36 @@ def write_timeline(session: Session, path: str, first: Optional[int] = None, las
             raise UsageError(messages.POSITIONS.format(last=recording.length))
         if last - first > MOST:
             raise UsageError(messages.PAGE_IS_FULL.format(most=MOST, path=path))
+    data = write_page(Shown.by(session, told_at_the_terminal), path, window)
+    return f"{path}: positions {data['first']} to {data['last']}, {len(data['cells'])} cells; {data['calls']['count']} calls"
+
+
+def write_page(shown: Shown, path: str, window: Optional[Window] = None) -> Data:
+    """Writes the page, and returns its data."""
     with without_collections():
-        data = collected(Shown.by(session, told_at_the_terminal), window)
-        told_at_the_terminal("")
-        with writing(path, session.path) as file:
+        data = collected(shown, window)
+        shown.tell("")
+        with writing(path, shown.path) as file:
             file.write(page(data))
         take_all_as_kept()
-    return f"{path}: positions {data['first']} to {data['last']}, {len(data['cells'])} cells; {data['calls']['count']} calls"
+    return data
+
+
+def write_page_beside(program: str, path: str, recording: Optional[Recording] = None) -> str:
+    """Writes the page beside a recording, without a session, and returns the page's path. `recording` is the file's text
+    with netrev's changes, if they are known. Raises an OSError or a NetrevError if that fails."""
+    interrupts, beside = Interrupts(), str(Path(path).with_suffix(".html"))
+    recording = recording or read_with_changes(program, path)
+    assert recording.changes is not None
+    recording.suspects = recording.suspects or SuspectList(program, path, interrupts)
+    scout = Scout(lambda: Own(program, path, interrupts))
+    shown = Shown(recording, path, scout, recording.changes, begins_at(recording), [], lambda _: None)
+    try:
+        write_page(shown, beside)
+    finally:
+        scout.drop()
+        recording.suspects.drop()
+    return beside
 
 
 def told_at_the_terminal(text: str) -> None:

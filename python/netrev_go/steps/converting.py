@@ -24,7 +24,7 @@ from netrev_go.log.sockets import MOST_MEGABYTES, MOST_SOCKETS
 from .cutting import goroutines_of, sockets_of
 from .goroutine_lines import Everybody, kept
 from .making import NoSocketError, NothingRecordedError, Part, Recording, UnconvertibleError, make, write, write_words
-from .report import Hear, report, unheard
+from .report import Hear, Outcome, report, unheard
 from .where import STEPS_A_LINE, write_where
 
 PROCESS = re.compile(r"(\.\d+){1,2}(\.snapshot)?\Z")
@@ -45,15 +45,6 @@ class Wish:
 def program_of(log: pathlib.Path, key: str) -> pathlib.Path:
     """The copy of the program beside its log."""
     return log.with_name(PROCESS.sub("", log.name) + ".program." + key)
-
-
-@dataclass(frozen=True)
-class Outcome:
-    """The result for a log: whether netrev accepts the recording, the report, and whether the log had no sockets."""
-
-    taken: bool
-    lines: list[str]
-    is_empty: bool = False
 
 
 @dataclass
@@ -127,7 +118,7 @@ def converted(
         )
     if any(recording.stacks) and not has_lines:
         recording.notes.append(messages.NO_LINES)
-    return Outcome(*report(recording, name, calls, wish.failed, hear))
+    return report(recording, name, calls, wish.failed, hear)
 
 
 def everybody_of(recording: Recording, found: Goroutines, calls: dict[int, Calls]) -> Everybody | None:

@@ -3,16 +3,16 @@
 from __future__ import annotations
 
 import json
-import re
 from collections.abc import Iterable
 from dataclasses import asdict, dataclass, field
 from xml.etree import ElementTree
 
+from netrev.findings.finding import named_places
 from netrev.text.plain import plain
 from netrev_go.log.ran import Ran, Went
 
-# A file's name begins at the start of a word; otherwise a long word would be searched from each of its letters.
-LINE = re.compile(r"(?<![\w./@+~-])([\w./@+~-]+\.go):(\d+)\b")
+from .report import Outcome, Shown
+
 WORST = (Went.FAILED, Went.UNFINISHED, Went.PASSED, Went.SKIPPED)
 
 
@@ -67,26 +67,19 @@ class Told:
             return self.file, self.line
         return (self.causes[0].file, self.causes[0].line) if self.causes else None
 
-    def say(self, lines: list[str]) -> None:
+    def report(self, outcome: Outcome) -> None:
         """Adds the report about the test's recording."""
-        self.says = lines
-        self.suspects = suspects_in(lines)
-        self.causes = causes_in(lines)
+        self.says, self.accepted = outcome.lines, outcome.taken
+        self.suspects = [plain(finding.sentences[0]) for finding in outcome.suspects]
+        self.causes = causes_in(outcome.shown)
 
 
-def suspects_in(lines: list[str]) -> list[str]:
-    """The suspects, each by its first line."""
-    return [found[1] for line in lines if (found := re.match(r"\s+\d+\. (.+)", line))]
-
-
-def causes_in(lines: list[str]) -> list[Cause]:
-    """Each source line that the report names, with the first line of the report that names it."""
-    found: dict[tuple[str, int], Cause] = {}
-    for line in lines:
-        if at := LINE.search(line):
-            cause = Cause(at[1], int(at[2]), line.strip().removeprefix("cause:").strip())
-            found.setdefault((cause.file, cause.line), cause)
-    return list(found.values())
+def causes_in(findings: list[Shown]) -> list[Cause]:
+    """Each source line that the report's findings name, with the first line of the report that names it."""
+    lines: dict[tuple[str, int], Cause] = {}
+    for place, line in named_places([line for shown in findings for line in shown.lines]):
+        lines.setdefault(place, Cause(*place, line))
+    return list(lines.values())
 
 
 def json_lines(told: Iterable[Told]) -> str:

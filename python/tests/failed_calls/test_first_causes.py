@@ -1,16 +1,15 @@
 """The causes use netrev's list of changes, and compute the changes themselves if netrev doesn't answer. Other tests are
 about `info hangs` when a session opens."""
 
-import contextlib
-import io
-import os
 import pathlib
 import tempfile
 import unittest
+from typing import Optional
 from unittest.mock import patch
 
-from netrev.findings.causes import __main__ as causes, first_words
+from netrev.findings.causes import first_words
 from netrev.findings.causes.tables import hangs_table
+from netrev.recording.changes import RecordedChanges
 from netrev.recording.recording import Recording
 from netrev.run import changes as modelled_changes
 from netrev.run import changes as printed_changes
@@ -37,11 +36,14 @@ class ByNetrev(unittest.TestCase):
         self.netrev.chmod(0o700)
 
     def printed(self) -> list[str]:
-        """The output of `netrev.findings.causes`."""
-        out = io.StringIO()
-        with patch.dict(os.environ, {"NETREV": str(self.netrev)}), contextlib.redirect_stdout(out):
-            self.assertEqual(causes.main([BAD]), 0)
-        return out.getvalue().splitlines()
+        """The first output, with the changes from the stand-in if it lists them."""
+        recording = Recording.read(BAD)
+        recording.changes = self.changes_of_netrev()
+        return first_words(recording, BAD)
+
+    def changes_of_netrev(self) -> Optional[RecordedChanges]:
+        with printed_changes.PrintedChanges(str(self.netrev), BAD) as printed:
+            return printed.of(self.recording)
 
     def test_the_words_are_the_same_without_the_model(self) -> None:
         expected = first_words(Recording.read(BAD), BAD)
@@ -62,30 +64,10 @@ class ByNetrev(unittest.TestCase):
         ):
             self.says(script)
             with self.subTest(script), patch.multiple(printed_changes, AT_LEAST=0.5, A_STEP=0):
-                self.assertIsNone(printed_changes.printed_changes(str(self.netrev), BAD, self.recording))
+                self.assertIsNone(self.changes_of_netrev())
                 self.assertEqual(self.printed(), expected)
         self.netrev.unlink()
-        self.assertIsNone(printed_changes.printed_changes(str(self.netrev), BAD, self.recording))
-
-
-class Printed(unittest.TestCase):
-    def printed(self, *words: str) -> tuple[int, str, str]:
-        """The exit status and the output of `python3 python netrev.findings.causes` with these arguments."""
-        said, complained = io.StringIO(), io.StringIO()
-        with contextlib.redirect_stdout(said), contextlib.redirect_stderr(complained):
-            status = causes.main([*words])
-        return status, said.getvalue(), complained.getvalue()
-
-    def test_without_one_file_its_usage(self) -> None:
-        for words in ((), (BAD, BAD)):
-            status, said, complained = self.printed(*words)
-            self.assertEqual((status, said), (2, ""))
-            self.assertIn("python3 python netrev.findings.causes FILE", complained)
-
-    def test_a_file_that_cannot_be_read(self) -> None:
-        status, said, complained = self.printed("none\x1b.jsonl")
-        self.assertEqual((status, said), (3, ""))
-        self.assertRegex(complained, r"^none[^\x1b]*\.jsonl: .*No such file or directory")
+        self.assertIsNone(self.changes_of_netrev())
 
 
 class AtTheStart(unittest.TestCase):

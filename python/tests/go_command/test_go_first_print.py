@@ -1,37 +1,38 @@
 """netrev-go's first output for a program that failed: why calls failed or hang, before netrev has checked the recording and long before the
 suspects are known."""
 
-import pathlib
 from unittest import mock
 
 from dev.fuzz.generators.logs import from_text
+from netrev.findings.finding import SuspectFindings
+from netrev.run import changes
+from netrev.system.time_limits import LateError
 from netrev_go import keeping
-from netrev_go.steps import report
+from netrev_go.steps.analysis import Analysis
 
 from .test_go_keeping import PYTHON, Run
 
 HUNG = PYTHON.parent / "examples/real/hung.log"
 CAUSE = "cause:  "
-CHECKS_LATE = """#!/bin/sh
-test "$1" = check || exit 0
+LATE = """#!/bin/sh
 for _ in $(seq 600); do test -e heard && echo ok 9 steps && exit 0; sleep 0.1; done
 exit 1
 """
 
 
 class FirstPrint(Run):
-    """A run of a program that hung. A stand-in for netrev checks the recording only after netrev-go has printed something."""
+    """A run of a program that hung. A stand-in for netrev ends only after netrev-go has printed something."""
 
     def setUp(self) -> None:
         super().setUp()
         self.log.write_bytes(from_text(HUNG.read_text())[0])
         self.netrev = self.folder / "netrev"
-        self.netrev.write_text(CHECKS_LATE)
+        self.netrev.write_text(LATE)
         self.netrev.chmod(0o700)
         self.said: list[list[str]] = []
 
     def hear(self, lines: list[str], stream: object = None) -> None:
-        """Receives a piece of the output, and lets the check continue."""
+        """Receives a piece of the output, and lets netrev continue."""
         self.said.append(lines)
         (self.folder / "heard").touch()
 
@@ -39,11 +40,15 @@ class FirstPrint(Run):
         """netrev-go's status if the search for suspects ends with this exception."""
         seen = list[int]()
 
-        def suspects(netrev: str, recording: pathlib.Path) -> list[str]:
+        def suspects(_: Analysis) -> SuspectFindings:
             seen.append(len(self.said))
             raise ends("it takes long")
 
-        with mock.patch.object(keeping, "say", self.hear), mock.patch.object(report, "suspects", suspects):
+        with (
+            mock.patch.object(keeping, "say", self.hear),
+            mock.patch.object(Analysis, "suspects", suspects),
+            mock.patch.multiple(changes, AT_LEAST=0.1, A_STEP=0),
+        ):
             status, _ = self.called("-o", "hung", "run", "main.go", status=3, netrev=str(self.netrev))
         self.assertEqual(len(seen), 1)
         self.assertGreaterEqual(
@@ -52,7 +57,7 @@ class FirstPrint(Run):
         return status
 
     def test_the_causes_are_printed_before_netrev_has_checked(self) -> None:
-        self.assertEqual(self.first(report.LateError), 3)
+        self.assertEqual(self.first(LateError), 3)
         self.assertTrue(self.said[0][0].startswith(CAUSE), self.said[0])
         self.assertTrue(self.said[1][0].startswith("hung.jsonl: ok 9 steps; "), self.said[1])
         self.assertTrue(any("it takes long: `" in line for line in self.said[-1]), self.said[-1])

@@ -266,11 +266,6 @@ class Statuses(Run):
         hangs = report.next_line(pathlib.Path("a.jsonl"), [], False, True)
         self.assertTrue(hangs.endswith("-ex 'info goroutines'"), hangs)
 
-    def test_suspects_that_take_too_long_are_said_to(self) -> None:
-        late = subprocess.TimeoutExpired("nrdb", 60)
-        with mock.patch("netrev_go.steps.asking.subprocess.run", side_effect=late), self.assertRaises(report.LateError):
-            report.suspects("netrev", pathlib.Path("a.jsonl"))
-
     def test_numbers_that_no_run_can_have_are_refused(self) -> None:
         for words in (["--sockets", "0"], ["--megabytes", "0"], ["-n", "nan"], ["-n", "-1"], ["--procs", "0"]):
             returned, said = self.called(*words, "run", "main.go", does=f"touch {self.folder}/ran")

@@ -17,6 +17,7 @@ from xml.etree import ElementTree
 
 import pytest
 from dev.fuzz.generators.logs import binary
+from netrev.findings.finding import Finding, Kind as FindingKind
 from netrev.recording.where import Lines
 from netrev_go import cli
 from netrev_go.cli import Status
@@ -30,6 +31,7 @@ from netrev_go.steps import converting, forms, report
 from netrev_go.steps.converting import Wish
 from netrev_go.steps.cutting import goroutines_of, sockets_of
 from netrev_go.steps.forms import Cause, Told
+from netrev_go.steps.report import Outcome, Shown
 from netrev_go.tested import Recordings, file_name, short_name
 from tests.logs.test_go_converting import Points
 from tests.support.folders import folder_of
@@ -181,6 +183,11 @@ class Cutting(unittest.TestCase):
         self.assertEqual(len(sockets_of(test, Log(points.points), found, [test])), 1)
 
 
+SUSPECTED = Shown(
+    Finding(FindingKind.SUSPECT, ("lost wake-up: 100%: step 3, so",)), ["1. lost wake-up: 100%: step 3, so"]
+)
+
+
 class Tested(Run):
     """`netrev-go test`, with a stand-in for Go that leaves a log with tests."""
 
@@ -257,7 +264,7 @@ class Kept(Tested):
         self.assertEqual(len({run[0] for run in runs}), 3)
 
     def test_suspects_fail_where_that_is_wanted(self) -> None:
-        said = (True, ["x.jsonl: ok", "  nrdb suspects:", "    1. lost wake-up: step 3", "       Go: a.go:7 net.Dial"])
+        said = Outcome(True, ["x.jsonl: ok"], shown=[SUSPECTED])
         with mock.patch.object(converting, "report", lambda *_: said):
             for what, wanted in (("suspects", Status.SUSPECTED), ("possible", 0)):
                 self.assertEqual(self.told("--fail-on", what, "test", ".", status=0)[0], wanted)
@@ -266,7 +273,11 @@ class Kept(Tested):
             self.assertEqual(self.told("--fail-on", "suspects", "run", ".", status=0)[0], Status.SUSPECTED)
 
     def test_each_form_is_read_as_its_consumer_does(self) -> None:
-        said = (True, ["x: ok 9 steps", "  a/b.go:7: net.Dial waits to read", "    1. lost wake-up: 100%: step 3, so"])
+        printed = ["x: ok 9 steps", "  a/b.go:7: net.Dial waits to read", "    1. lost wake-up: 100%: step 3, so"]
+        wait = Shown(
+            Finding(FindingKind.WAIT, ("a/b.go:7: net.Dial waits to read",)), ["a/b.go:7: net.Dial waits to read"]
+        )
+        said = Outcome(True, printed, shown=[wait, SUSPECTED])
         with mock.patch.object(converting, "report", lambda *_: said):
             _, out, _ = self.told("--json", "a.json", "--junit", "a.xml", "--github", "test", ".")
         lines = [json.loads(line) for line in (self.folder / "a.json").read_text().splitlines()]
@@ -375,7 +386,8 @@ class Forms(unittest.TestCase):
 
     def test_a_long_line_is_searched_in_no_time(self) -> None:
         begin = time.process_time()
-        self.assertEqual(forms.causes_in(["x" * 100_000, "a.go:7"]), [Cause("a.go", 7, "a.go:7")])
+        lines = Shown(Finding(FindingKind.HANG, ()), ["x" * 100_000, "a.go:7"])
+        self.assertEqual(forms.causes_in([lines]), [Cause("a.go", 7, "a.go:7")])
         self.assertLess(time.process_time() - begin, 5)
 
     def test_of_several_runs_it_is_said_in_how_many_it_failed(self) -> None:

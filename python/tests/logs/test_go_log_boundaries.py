@@ -3,6 +3,7 @@
 import argparse
 import io
 import json
+import re
 import stat
 import subprocess
 from collections.abc import Callable
@@ -14,7 +15,10 @@ from xml.etree import ElementTree
 import pytest
 
 from dev.fuzz.generators.logs import binary
+from netrev.findings.finding import Finding, Kind as FindingKind, SuspectFindings
 from netrev.messages import recorder as messages
+from netrev.recording.recording import NotARecordingError
+from netrev.system.time_limits import LateError
 from netrev_go import cli, doctor, keeping, recovery, tested, trying
 from netrev_go.go_command import calls_of_go, run_folders, running, toolchain
 from netrev_go.go_command.status import Status
@@ -28,8 +32,7 @@ from netrev_go.log.logfile import HEADER_WORDS, MOST_HOLDERS, MOST_POINTS, MOST_
 from netrev_go.log.notes import REFERENCES, WAITING, Note
 from netrev_go.log.points import Kind, Log, Point
 from netrev_go.log.sockets import BUFFER, FEW_BYTES, OUTPUT, Socket
-from netrev_go.steps import asking, compare, converting, forms, making, report
-from netrev_go.steps.asking import LateError
+from netrev_go.steps import analysis, compare, converting, forms, making, report
 
 from .test_go_logs import opened
 
@@ -305,11 +308,10 @@ def test_the_recordings_of_a_run_s_processes(
     def convert(log: Path, name: Path, go: object, wish: object, hear: object) -> Made:
         if log.name == "w":
             raise OSError(28, "full")
-        return Made(is_empty=log.name == "e", taken=log.name in "ts", lines=["suspect"] if log.name == "s" else [])
+        return Made(is_empty=log.name == "e", taken=log.name in "ts", lines=[], suspects=[""] * (log.name == "s"))
 
     monkeypatch.setattr(keeping, "logs_in", lambda folder: [Path(kind) for kind in outcomes])
     monkeypatch.setattr(keeping, "convert", convert)
-    monkeypatch.setattr(keeping, "suspects_in", lambda lines: [line for line in lines if line == "suspect"])
     monkeypatch.setattr(messages, "NOTHING_TO_RECORD", "nothing")
     monkeypatch.setattr(messages, "OPENED_NONE", "{processes}")
     made = keeping.Making(Path("logs"), Path("x"), None, cast(Any, None), 2)
@@ -347,8 +349,10 @@ def test_the_status_if_no_go_is_installed(monkeypatch: Patch, capsys: Output) ->
 )
 def test_a_goroutine_is_told_with_the_line_that_started_it(made: Call | None, says: str) -> None:
     calls = Calls((Call("main.f", "main.go", 14, "program"),), made)
-    told = report.told_of(2, "running w", "step 7", calls)
-    assert told.endswith(f"(goroutine 2, since step 7{says})") and "main.go:14" in told
+    wait = report.wait_of(2, "running w", 7, "step 7", calls)
+    (sentence,) = wait.sentences
+    assert sentence.endswith(f"(goroutine 2, since step 7{says})") and "main.go:14" in sentence
+    assert (wait.place, wait.steps, wait.goroutines) == (("main.go", 14), (7,), ((2, False),))
 
 
 def passed(*points: tuple[int, ...], begin: int = 0) -> Goroutines:
@@ -482,32 +486,49 @@ def test_a_file_that_is_no_log_is_named_and_not_everything_is_recorded(tmp_path:
     assert not recordings.all_recorded and str(tmp_path / "log.1") in capsys.readouterr().err
 
 
+def report_with(suspects: Callable[[], SuspectFindings]) -> tuple[SuspectFindings, list[str]]:
+    """The suspects of a report, and the lines about them, if the library computes them in this way."""
+    made = report.Report(cast(Any, None), Path("x.jsonl"), {}, report.unheard)
+    return made.suspects(cast(Any, Made(suspects=suspects)))
+
+
 @pytest.mark.parametrize(
-    "found, lines_of_report",
-    [([], []), (["a"], ["  nrdb suspects:", "    a"]), ([f"{n}" for n in range(13)], ["  nrdb suspects:", *(f"    {n}" for n in range(12))])],
+    "count, rest, lines_of_report",
+    [
+        (0, "", []), (0, "no suspect", ["  nrdb suspects:", "    no suspect"]),
+        (1, "", ["  nrdb suspects:", "    1. rule: a\\x07", "       next:   goto 7"]), (1, "more", ["  nrdb suspects:", "    1. rule: a\\x07", "       next:   goto 7", "    more"]),
+    ],
 )  # fmt: skip
-def test_the_suspects_of_a_report(found: list[str], lines_of_report: list[str], monkeypatch: Patch) -> None:
-    asked: list[object] = []
-
-    def suspects(*words: object) -> list[str]:
-        asked.extend(words)
-        return found
-
-    monkeypatch.setattr(report, "suspects", suspects)
-    assert report.suspect_lines("/opt/netrev", Path("x.jsonl")) == (found, lines_of_report)
-    assert asked == ["/opt/netrev", Path("x.jsonl")]
+def test_the_suspects_of_a_report(count: int, rest: str, lines_of_report: list[str]) -> None:
+    findings = [Finding(FindingKind.SUSPECT, ("rule: a\x07",), evidence=("goto 7",))] * count
+    found = SuspectFindings(findings, rest)
+    assert report_with(lambda: found) == (found, lines_of_report)
 
 
-@pytest.mark.parametrize("fault, says", [(LateError("late"), "late"), (KeyboardInterrupt(), "was interrupted")])
-def test_a_report_without_its_suspects_says_which_command_prints_them(
-    fault: BaseException, says: str, monkeypatch: Patch
-) -> None:
-    def suspects(*words: object) -> None:
+@pytest.mark.parametrize(
+    "count, details, shown", [(0, 0, []), (1, 0, [2]), (7, 0, [2] * 6), (2, 9, [11, 1]), (3, 12, [12])]
+)
+def test_a_report_has_few_lines_about_suspects(count: int, details: int, shown: list[int]) -> None:
+    findings = [Finding(FindingKind.SUSPECT, ("a",), evidence=("goto 7",), details=("netrev: x",) * details)] * count
+    assert [len(lines) for _, lines in report.shown_suspects(findings)] == shown
+    _, lines = report_with(lambda: SuspectFindings(findings, ""))
+    assert len(lines) == sum(shown) + (count > 0)
+
+
+@pytest.mark.parametrize(
+    "fault, says",
+    [
+        (LateError("late"), "  late: `.* --suspects x.jsonl` prints them"), (KeyboardInterrupt(), "  the search for suspects was interrupted: `.* --suspects x.jsonl` prints them"),
+        (KeyError(7), r"  error in nrdb, not in the recording: KeyError: 7 \(set NRDB_TRACEBACK=1 to see its traceback\)"), (NotARecordingError("no"), None),
+    ],
+)  # fmt: skip
+def test_a_report_without_its_suspects_says_why(fault: BaseException, says: str | None) -> None:
+    def suspects() -> SuspectFindings:
         raise fault
 
-    monkeypatch.setattr(report, "suspects", suspects)
-    found, told = report.suspect_lines("netrev", Path("x.jsonl"))
-    assert not found and len(told) == 1 and says in told[0] and "--suspects x.jsonl` prints them" in told[0]
+    found, lines = report_with(suspects)
+    assert not found.findings
+    assert [bool(re.fullmatch(says, line)) for line in lines] == [True] if says else not lines
 
 
 @pytest.mark.parametrize(
@@ -539,8 +560,8 @@ def test_a_go_that_can_record(
     [("9", 1), ("1", 0), ("8", 0), ("0", 0), (f"{1 + 8 * (2**20 - 1)}", 2**20 - 1), (f"{1 + 8 * 2 + 2**23}", 2), (f"{1 + 2**23}", 0), ("none", 0)],
 )  # fmt: skip
 def test_a_closed_socket_with_references_is_never_closed(word: str, references: int) -> None:
-    values = {("lock", 3): word, ("gor", 4): "9"}
-    assert asking.never_closed(values) == ({3: references} if references else {})
+    values = {"lock 3": word, "gor 4": "9"}
+    assert analysis.never_closed(values) == ({3: references} if references else {})
 
 
 @pytest.mark.parametrize(
@@ -593,7 +614,7 @@ def test_recordings_of_a_running_program_are_numbered(monkeypatch: Patch) -> Non
 
     def convert(log: Path, name: Path, *words: object, **more: object) -> Made:
         names.append(name.name)
-        return Made(is_empty=False, taken=True, lines=[])
+        return Made(is_empty=False, taken=True, lines=[], suspects=[])
 
     monkeypatch.setattr(keeping, "logs_in", lambda folder: [Path("log.1"), Path("log.2")])
     monkeypatch.setattr(keeping, "convert", convert)

@@ -14,10 +14,10 @@ from netrev_go.log import lines
 from netrev_go.log.lines import Call, Calls, Roots, lines_of, looked_up
 from netrev_go.log.logfile import HEADER_BYTES, NotALogError, read_log
 from netrev_go.log.points import Kind, Log, Point
-from netrev_go.steps import asking, converting
+from netrev_go.steps import converting
 from netrev_go.steps.converting import Wish, convert
 from netrev_go.steps.making import NothingRecordedError, UnconvertibleError, make, write
-from netrev_go.steps.report import next_line, told_of
+from netrev_go.steps.report import Outcome, next_line, wait_of
 from netrev_go.steps.where import own_line, write_where
 from tests.session.test_strange import OBEYED, unseen
 
@@ -325,8 +325,8 @@ class Told(unittest.TestCase):
     def test_a_programs_words_are_not_obeyed_by_a_terminal(self) -> None:
         calls = Calls((Call("main.\x1b[2Jf", "m\u202e.go", 3, "program"),), None)
         self.assertEqual(
-            told_of(1, "parked 0 r", "step 9", calls),
-            "  m\\u202e.go:3: main.\\x1b[2Jf waits to read (goroutine 1, since step 9)",
+            wait_of(1, "parked 0 r", 9, "step 9", calls).sentences[0],
+            "m\\u202e.go:3: main.\\x1b[2Jf waits to read (goroutine 1, since step 9)",
         )
 
     def test_a_logs_name_is_not_obeyed_by_a_terminal(self) -> None:
@@ -339,28 +339,14 @@ class Told(unittest.TestCase):
             self.assertEqual(unseen("\n".join(outcome.lines)), [])
             self.assertIn("too short for a log", outcome.lines[0])
 
-    def test_suspects_are_told_where_nrdb_has_them(self) -> None:
-        for printed, told in (
-            ("(netrev) continue\nat 9 end\n(netrev) info suspects\n| 1. late\n|    at 7\n", ["1. late", "   at 7"]),
-            ("(netrev) continue\nat 9 end\n(netrev) info suspects\nfault 202 bad argument\n| info wants\n", []),
-            ("", []),
+    def test_the_next_line_has_the_commands_of_the_first_suspect(self) -> None:
+        for evidence, words in (
+            ((), "a.jsonl -ex continue -ex 'info goroutines'"),
+            (("goto 7", "history wd 2"), "a.jsonl -ex 'goto 7' -ex 'history wd 2'"),
         ):
-            with mock.patch.object(asking.subprocess, "run", return_value=mock.Mock(stdout=printed)):
-                self.assertEqual(asking.suspects("netrev", pathlib.Path("a.jsonl")), told)
-
-    def test_the_next_line_looks_at_the_first_suspect(self) -> None:
-        none: list[str] = []
-        for told, words in (
-            (none, "a.jsonl -ex continue -ex 'info goroutines'"),
-            (
-                ["1. late", "   next:   goto 7; history wd 2", "   next: goto 9"],
-                "a.jsonl -ex 'goto 7' -ex 'history wd 2'",
-            ),
-        ):
-            self.assertTrue(next_line(pathlib.Path("a.jsonl"), told).endswith(f"nrdb {words}"))
-            is_named = any("next:" in line for line in told)
-            explores = next_line(pathlib.Path("a.jsonl"), told, True).endswith("nrdb --explore a.jsonl")
-            self.assertEqual(explores, not is_named)
+            self.assertTrue(next_line(pathlib.Path("a.jsonl"), evidence).endswith(f"nrdb {words}"))
+            explores = next_line(pathlib.Path("a.jsonl"), evidence, True).endswith("nrdb --explore a.jsonl")
+            self.assertEqual(explores, not evidence)
 
     def test_addresses_become_lines(self) -> None:
         told = "main.f\n/p/main.go:14\n?\n?:0\n"
@@ -369,7 +355,7 @@ class Told(unittest.TestCase):
 
     def test_without_go_there_is_a_recording_without_lines(self) -> None:
         with tempfile.TemporaryDirectory() as folder, mock.patch.object(
-            converting, "report", lambda *told: (True, list(told[:1]))
+            converting, "report", lambda *_: Outcome(True, [])
         ):
             log, name = pathlib.Path(folder, "log.1"), pathlib.Path(folder, "made.jsonl")
             log.write_bytes(from_text((REAL / "past.log").read_text())[0])

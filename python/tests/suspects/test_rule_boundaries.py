@@ -29,7 +29,7 @@ from netrev.session.session import UsageError, Session
 from netrev.timeline.drawing import LETTER, Drawing, fitted
 from netrev.timeline.trace import END, write_events
 from netrev_go import cli as recorder
-from netrev_go.steps.asking import hanging, never_closed
+from netrev_go.steps.analysis import hanging, never_closed
 from nrdb.cli import session_of
 from nrdb.dap.moving import Moves
 from nrdb.dap.view.looking import NETWORK, thread_of
@@ -41,11 +41,11 @@ from nrdb.prompt.answers import answer_display
 
 def test_goroutines_that_are_not_at_rest() -> None:
     values = {
-        ("gor", 0): "idle",
-        ("gor", 1): "parked 0 r",
-        ("gor", 2): "gone",
-        ("gor", 3): "absent",
-        ("lock", 4): "parked 1 r",
+        "gor 0": "idle",
+        "gor 1": "parked 0 r",
+        "gor 2": "gone",
+        "gor 3": "absent",
+        "lock 4": "parked 1 r",
     }
     assert hanging(values) == {1: "parked 0 r"}
 
@@ -58,7 +58,7 @@ def test_goroutines_that_are_not_at_rest() -> None:
     ],
 )  # fmt: skip
 def test_closed_sockets_with_references_left(word: str, left: Optional[int]) -> None:
-    assert never_closed({("lock", 3): word, ("gor", 3): "9"}) == ({} if left is None else {3: left})
+    assert never_closed({"lock 3": word, "gor 3": "9"}) == ({} if left is None else {3: left})
 
 
 # words and lines

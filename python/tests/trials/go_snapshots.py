@@ -26,7 +26,7 @@ from netrev.system.built import netrev_program
 from netrev_go.go_command.running import places
 from netrev_go.go_command.toolchain import Go, overlay, quiet_go
 from netrev_go.log.logfile import NotALogError, copy_of, log_of
-from netrev_go.steps.asking import check
+from netrev_go.steps.analysis import check
 from netrev_go.steps.compare import by_the_model, differing
 from netrev_go.steps.making import NothingRecordedError, Recording, UnconvertibleError, make, write, write_words
 

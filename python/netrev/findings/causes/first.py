@@ -3,12 +3,12 @@ hanging goroutines wait for. If nothing failed and nothing hangs, it shows what 
 command to type next."""
 
 from collections import defaultdict
-from typing import Callable, Hashable, NamedTuple, Sequence, Union
+from typing import Callable, Hashable, Union
 
 from netrev.findings.evidence.ended_goroutines import goid_of
 from netrev.findings.evidence.index import READING, WRITING, Cause, Index, index_of, with_more, with_others
 from netrev.findings.evidence.words import is_of_go, place_in, waits_words
-from netrev.findings.finding import Finding, Kind, command_of, place_of
+from netrev.findings.finding import CAUSE, NEXT, Finding, FirstFindings, Kind, paragraph, place_of
 from netrev.findings.hangs.hang_words import hang_looks, hang_says, tree_lines
 from netrev.findings.hangs.joins import Topic, joined
 from netrev.findings.hangs.wait_graph import Hang, WaitGraph, graph_at, is_at_mutex, waiters_of
@@ -32,29 +32,6 @@ from .leftovers import leftovers_of
 from .repeated_failures import repeated_says
 
 MOST_FAILED, MOST_HANGS, MOST_PERHAPS = 4, 3, 2
-CAUSE, INDENT, NEXT = "cause:  ", "        ", "next:   "
-
-
-class FirstFindings(NamedTuple):
-    """The failed calls and hangs that the first output shows, the number of those that it leaves out, and, if nothing
-    failed, what may be wrong."""
-
-    shown: list[Finding]
-    left_out: int
-    perhaps: list[Finding]
-
-    @property
-    def all(self) -> list[Finding]:
-        """All findings that are shown, in order."""
-        return [*self.shown, *self.perhaps]
-
-    def lines(self, name: str) -> list[str]:
-        """The lines of the first output, before `plain` is applied to them; none if no cause is found."""
-        lines = [line for finding in self.shown for line in paragraph(finding.sentences)]
-        if self.left_out:
-            lines.append(f"{INDENT}({self.left_out} more: info errors, info hangs)")
-        lines += [line for finding in self.perhaps for line in paragraph(finding.sentences)]
-        return [*lines, *(f"{NEXT}{command_of(finding.evidence, name)}" for finding in self.all[:1])]
 
 
 def first_words(recording: Recording, name: str) -> list[str]:
@@ -317,12 +294,6 @@ def hang_lines(graph: WaitGraph, hang: Hang, shown: set[int]) -> list[str]:
 def alike(recording: Recording, step: int, other: int) -> bool:
     """Whether two steps are at the same line of the program."""
     return recording.lines.of(step).own() == recording.lines.of(other).own()
-
-
-def paragraph(says: Sequence[str]) -> list[str]:
-    """The lines of a cause, one sentence to a line."""
-    first, *rest = says
-    return [f"{CAUSE}{first}", *(f"{INDENT}{line}" for line in rest)]
 
 
 def is_telling(recording: Recording, call: Call) -> bool:

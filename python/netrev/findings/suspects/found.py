@@ -3,7 +3,10 @@ it."""
 
 from dataclasses import dataclass, field
 from enum import IntEnum
-from typing import NamedTuple, Optional
+from typing import Iterable, NamedTuple, Optional
+
+from netrev.findings.finding import Finding, Kind, Place
+from netrev.recording.waits import Name
 
 
 class Weight(IntEnum):
@@ -63,3 +66,9 @@ class Suspect:
     def sentence(self) -> str:
         """The whole sentence."""
         return "; ".join(self.says)
+
+    def finding(self, place: Optional[Place], details: Iterable[str]) -> Finding:
+        """The finding for the suspect, at this place and with these details."""
+        names = () if self.goroutine is None else (Name(self.goroutine),)
+        sentences, steps = (f"{self.rule}: {self.sentence()}",), (self.step, *self.steps)
+        return Finding(Kind.SUSPECT, sentences, place, steps, names, tuple(self.looks), tuple(details))

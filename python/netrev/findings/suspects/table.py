@@ -1,9 +1,9 @@
 """The table of `info suspects`."""
 
-from typing import Optional
+from typing import Optional, Protocol, Sequence
 
 from netrev.connection.output import Row, Table, Values
-from netrev.connection.scout import Scout
+from netrev.findings.finding import Finding, SuspectFindings, place_of, suspect_lines
 from netrev.recording.notes import Timeout
 from netrev.recording.recording import Recording
 from netrev.recording.where import OF_GO
@@ -15,13 +15,27 @@ from .ranking import Ranked, all_suspects_of
 MOST = 12  # the most suspects that are shown
 
 
-def suspects_table(scout: Scout, recording: Recording, ranked: Optional[Ranked] = None) -> Table:
+class Answers(Protocol):
+    """Netrev's values at positions: a second netrev, or the changes that netrev listed."""
+
+    def values(self, position: int, cells: Sequence[str]) -> list[str]:
+        """The values of the cells at the position."""
+
+
+def suspect_findings(answers: Answers, recording: Recording) -> SuspectFindings:
+    """The suspects of a recording, each with netrev's answers at the positions in question."""
+    ranked = all_suspects_of(recording)
+    shown = shown_of(ranked)
+    findings = [_finding(recording, suspect, *_evidence(answers, suspect)) for suspect in shown]
+    return SuspectFindings(findings, _rest(recording, ranked, len(shown)))
+
+
+def suspects_table(answers: Answers, recording: Recording, ranked: Optional[Ranked] = None) -> Table:
     """The table of the suspects, worst first, each with netrev's answers at the positions in question."""
     ranked = ranked or all_suspects_of(recording)
     shown = shown_of(ranked)
-    rows = [row for at, suspect in enumerate(shown, 1) for row in _rows(scout, recording, at, suspect)]
-    timeouts = [timeout for timeout in ranked.timeouts if not is_by_go(recording, timeout)]
-    return Table("suspects", rows, _rest(len(shown), len(ranked.suspects) - len(shown), timeouts))
+    rows = [row for at, suspect in enumerate(shown, 1) for row in _rows(answers, recording, at, suspect)]
+    return Table("suspects", rows, _rest(recording, ranked, len(shown)))
 
 
 def shown_of(ranked: Ranked) -> list[Suspect]:
@@ -36,12 +50,9 @@ def is_by_go(recording: Recording, timeout: Timeout) -> bool:
     return timeout.passing.kind == "setdeadline" and bool(calls) and all(call.of == OF_GO for call in calls)
 
 
-def _rows(scout: Scout, recording: Recording, at: int, suspect: Suspect) -> list[Row]:
-    """A suspect's rows: its sentence, netrev's lines and answers, notes about answers that the rule didn't expect, the
-    program's lines, and the command to type next. Only netrev's output follows `netrev:`."""
-    answers, doubts = _evidence(scout, suspect)
-    evidence = [*suspect.listed, *answers]
-    lines = _lines(recording, suspect)
+def _rows(answers: Answers, recording: Recording, at: int, suspect: Suspect) -> list[Row]:
+    """A suspect's rows. The first has the values, and the others are further lines."""
+    evidence, doubts = _evidence(answers, suspect)
     values: Values = {
         "rule": suspect.rule,
         "weight": int(suspect.weight),
@@ -49,25 +60,30 @@ def _rows(scout: Scout, recording: Recording, at: int, suspect: Suspect) -> list
         "says": suspect.sentence(),
         "netrev": evidence,
         "doubts": doubts,
-        "lines": lines,
+        "lines": _lines(recording, suspect),
         "looks": suspect.looks,
     }
-    further = [f"   netrev: {'; '.join(evidence)}", *(f"   take care: {doubt}" for doubt in doubts)]
-    further += [*(f"   Go:     {line}" for line in lines), f"   next:   {'; '.join(suspect.looks)}"]
-    first = Row(values, f"{at}. {suspect.rule}: {suspect.sentence()}")
-    return [first, *(Row({}, line) for line in further)]
+    first, *further = suspect_lines(at, _finding(recording, suspect, evidence, doubts))
+    return [Row(values, first), *(Row({}, line) for line in further)]
 
 
-def _evidence(scout: Scout, suspect: Suspect) -> tuple[list[str], list[str]]:
-    """netrev's answers at the positions in question, and a sentence for each answer that differs from the rule's
-    expectation."""
-    answers, doubts = [], []
+def _finding(recording: Recording, suspect: Suspect, evidence: list[str], doubts: list[str]) -> Finding:
+    """The finding for a suspect."""
+    lines = [f"Go:     {line}" for line in _lines(recording, suspect)]
+    details = [f"netrev: {'; '.join(evidence)}", *(f"take care: {doubt}" for doubt in doubts), *lines]
+    return suspect.finding(place_of(recording.lines.of(suspect.step)), details)
+
+
+def _evidence(answers: Answers, suspect: Suspect) -> tuple[list[str], list[str]]:
+    """netrev's lines, its answers at the positions in question, and a sentence for each answer that differs from the
+    rule's expectation."""
+    evidence, doubts = list(suspect.listed), []
     for position, cell, expected in suspect.evidence:
-        answer = scout.values(position, [cell])[0]
-        answers.append(f"at {position} {cell} = {answer}")
+        answer = answers.values(position, [cell])[0]
+        evidence.append(f"at {position} {cell} = {answer}")
         if expected not in (None, answer):
             doubts.append(f"the rule expects {cell} = {expected} at {position}")
-    return answers, doubts
+    return evidence, doubts
 
 
 def _lines(recording: Recording, suspect: Suspect) -> list[str]:
@@ -79,8 +95,10 @@ def _lines(recording: Recording, suspect: Suspect) -> list[str]:
     return lines
 
 
-def _rest(shown: int, others: int, timeouts: list[Timeout]) -> str:
+def _rest(recording: Recording, ranked: Ranked, shown: int) -> str:
     """The line about the suspects that aren't shown, and about the timeouts."""
+    others = len(ranked.suspects) - shown
+    timeouts = [timeout for timeout in ranked.timeouts if not is_by_go(recording, timeout)]
     rest = [] if shown else ["no suspect"]
     if others:
         rest.append(f"{others} of little weight left out")

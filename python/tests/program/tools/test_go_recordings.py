@@ -8,7 +8,7 @@ import unittest
 from dev.fuzz.generators.logs import binary, from_text
 from netrev_go.log.logfile import read_log
 from netrev_go.log.points import Kind
-from netrev_go.steps.asking import at_the_end, check, hanging, never_closed
+from netrev_go.steps.analysis import Analysis, check, hanging, never_closed
 from netrev_go.steps.compare import differing
 from netrev_go.steps.making import make, write, write_words
 from netrev_go.steps.report import report
@@ -65,9 +65,9 @@ class Recorded(unittest.TestCase):
         steps = [json.loads(str(line)) for line in recording.lines]
         wrong = [number for number, step in enumerate(steps, 1) if step[0] == "parkcommit" and step[-1] == "no"]
         self.assertEqual(check(str(NETREV), self.name), (False, f"step {wrong[-1]}: fault 109 answer"))
-        taken, said = report(recording, self.name, {})
-        self.assertFalse(taken)
-        self.assertIn("netrev rejects this recording", said[-1])
+        outcome = report(recording, self.name, {})
+        self.assertFalse(outcome.taken)
+        self.assertIn("netrev rejects this recording", outcome.lines[-1])
 
     def test_ordinary_programs_are_taken(self) -> None:
         self.accepted(
@@ -93,10 +93,8 @@ class Recorded(unittest.TestCase):
         self.assertEqual((recording.sockets, check(str(NETREV), self.name)[0]), (16, True))
 
     def test_who_hangs_and_what_never_closes(self) -> None:
-        for name, cells, waiting, held in (
-            ("past", ["gor 0", "gor 2"], {2: "parked 1 r"}, {}),
-            ("leak", ["gor 2", "lock 2"], {}, {2: 1}),
-        ):
+        for name, waiting, held in (("past", {2: "parked 1 r"}, {}), ("leak", {}, {2: 1})):
             self.made(name)
-            values = at_the_end(str(NETREV), self.name, 1000, cells)
+            with Analysis(str(NETREV), self.name) as analysis:
+                values = analysis.values()
             self.assertEqual((hanging(values), never_closed(values)), (waiting, held))

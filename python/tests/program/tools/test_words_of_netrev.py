@@ -11,9 +11,11 @@ from unittest import mock
 
 import pytest
 from netrev.findings.suspects import table
+from netrev.findings.suspects.found import Evidence, Suspect
 from netrev.recording.recording import Recording
 from netrev_go.steps import forms, report
 from netrev_go.steps.forms import Told
+from netrev_go.steps.report import Outcome
 from tests.program.nrdb.common.support import netrev, nrdb
 from tests.program.support.sharing import NETREV
 from tests.support.examples import EXAMPLES
@@ -57,7 +59,7 @@ def labels(text: str) -> list[str]:
     return [found[1] for line in text.splitlines() if (found := LABEL.match(line))]
 
 
-def told_by_netrev_go(path: Path, is_failed: bool = True) -> list[str]:
+def reported_by_netrev_go(path: Path, is_failed: bool = True) -> Outcome:
     """netrev-go's output about the recording of a program that failed."""
     recording = Recording.read(str(path))
     steps = [recording.step(number) for number in range(1, recording.length + 1)]
@@ -71,25 +73,25 @@ def told_by_netrev_go(path: Path, is_failed: bool = True) -> list[str]:
         stacks=[0] * len(steps),
     )  # fmt: skip
     with mock.patch.object(report, "netrev_program", lambda: str(NETREV)):
-        taken, lines = report.report(recorded, path, {}, is_failed)
-    assert taken, lines
-    return lines
+        outcome = report.report(recorded, path, {}, is_failed)
+    assert outcome.taken, outcome.lines
+    return outcome
 
 
 @pytest.fixture(scope="module")
-def reported() -> dict[Path, list[str]]:
+def reported() -> dict[Path, Outcome]:
     """What netrev-go prints about each recording."""
-    return {path: told_by_netrev_go(path) for path in (SUSPECT, FAILED, HUNG)}
+    return {path: reported_by_netrev_go(path) for path in (SUSPECT, FAILED, HUNG)}
 
 
-def outputs(reported: dict[Path, list[str]], folder: Path) -> Iterator[tuple[Path, str]]:
+def outputs(reported: dict[Path, Outcome], folder: Path) -> Iterator[tuple[Path, str]]:
     """Every output that may contain netrev's name, with the recording that it is about."""
-    for path, lines in reported.items():
-        yield path, "\n".join(lines)
-        outcome = Told("example.org/toy", "TestRed", "failed", 1, 1)
-        outcome.say(lines)
-        yield path, "\n".join(forms.github_lines([outcome])).replace("%0A", "\n").replace("%25", "%")
-        yield path, forms.junit([outcome])
+    for path, outcome in reported.items():
+        yield path, "\n".join(outcome.lines)
+        test = Told("example.org/toy", "TestRed", "failed", 1, 1)
+        test.report(outcome)
+        yield path, "\n".join(forms.github_lines([test])).replace("%0A", "\n").replace("%25", "%")
+        yield path, forms.junit([test])
     yield SUSPECT, nrdb("--suspects", SUSPECT, status=4)
     yield HUNG, nrdb("--batch", "-ex", "continue", "-ex", "info suspects", "-ex", "info hangs", HUNG)
     yield FAILED, nrdb("--batch", "-ex", "continue", "-ex", "info errors", FAILED)
@@ -107,7 +109,7 @@ def nrdb_page(path: Path, folder: Path) -> str:
     return found[1]
 
 
-def test_only_netrevs_own_answers_follow_its_name(reported: dict[Path, list[str]], tmp_path: Path) -> None:
+def test_only_netrevs_own_answers_follow_its_name(reported: dict[Path, Outcome], tmp_path: Path) -> None:
     seen = 0
     for path, text in outputs(reported, tmp_path):
         assert foreign_words(text, path) == [], text
@@ -115,17 +117,17 @@ def test_only_netrevs_own_answers_follow_its_name(reported: dict[Path, list[str]
     assert seen > 5
 
 
-def test_the_command_to_type_is_printed_once(reported: dict[Path, list[str]]) -> None:
-    for lines in reported.values():
-        commands = [line.split() for line in lines if line.startswith("next:")]
+def test_the_command_to_type_is_printed_once(reported: dict[Path, Outcome]) -> None:
+    for outcome in reported.values():
+        commands = [line.split() for line in outcome.lines if line.startswith("next:")]
         assert commands and all(commands.count(command) == 1 for command in commands)
 
 
-def test_causes_follow_cause_and_commands_next(reported: dict[Path, list[str]]) -> None:
-    for lines in reported.values():
-        assert labels("\n".join(lines))[:2] == ["cause", "next"]
-        assert "look" not in labels("\n".join(lines))
-    assert [cause.text for cause in forms.causes_in(["cause:  Read at a.go:7"])] == ["Read at a.go:7"]
+def test_causes_follow_cause_and_commands_next(reported: dict[Path, Outcome]) -> None:
+    for outcome in reported.values():
+        assert labels("\n".join(outcome.lines))[:2] == ["cause", "next"]
+        assert "look" not in labels("\n".join(outcome.lines))
+        assert all(not LABEL.match(cause.text) for cause in forms.causes_in(outcome.shown))
     assert labels(nrdb("--suspects", SUSPECT, status=4)) == ["netrev", "next"]
 
 
@@ -139,12 +141,10 @@ def test_kept_schedules_carry_netrevs_answer_alone(tmp_path: Path, monkeypatch: 
 
 
 def test_a_doubt_about_a_rule_is_nrdbs_own_line() -> None:
-    suspect = mock.Mock(
-        listed=["at 3 x"], evidence=[(3, "rd 0", "-1")], rule="r", weight=1, step=3, steps=[3], looks=["goto 3"]
-    )
-    suspect.sentence.return_value = "s"
+    suspect = Suspect(3, 1, ["s"], listed=["at 3 x"], evidence=[Evidence(3, "rd 0", "-1")], looks=["goto 3"], rule="r")
     recording = mock.Mock()
     recording.lines.words.return_value = ""
+    recording.lines.of.return_value.own.return_value = None
     scout = mock.Mock(values=lambda *_: ["7"])
     rows = [row.text.strip() for row in table._rows(scout, recording, 1, suspect)]
     says = "netrev: at 3 x; at 3 rd 0 = 7"
