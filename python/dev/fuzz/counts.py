@@ -3,7 +3,7 @@
 from collections import Counter
 from typing import Any, Iterator, Mapping
 
-from netrev.machine.debugger import Asked, Reply
+from netrev.machine.debugger import Request, Reply
 from netrev.machine.observer import Observer
 from netrev.text.contents import Answer
 from netrev.text.vocabulary import KINDS
@@ -42,8 +42,8 @@ class Met(Observer):
         """Counts a fault of a recording, without its line or step."""
         self.faults[fault.split(": ", 1)[1].split(" reason")[0]] += 1
 
-    def asked(self, asked: Asked, reply: Reply) -> None:
-        self.commands[asked.sort] += 1
+    def replied(self, request: Request, reply: Reply) -> None:
+        self.commands[request.sort] += 1
         self.replies[first_words(reply[0])] += 1
 
     def lines(self) -> Iterator[str]:

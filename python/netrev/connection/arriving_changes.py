@@ -28,7 +28,7 @@ class ArrivingChanges(RecordedChanges):
         self._words, self._interrupts, self._tell = [program, "changes", path], interrupts, tell
         self._process: Optional["subprocess.Popen[bytes]"] = None
         self._reader: Optional[Thread] = None
-        self._came = Condition()
+        self._arrival = Condition()
         self._wanted: Optional[int] = 0  # the position up to which a caller waits for changes; None for all
         self._failure = ""
 
@@ -68,8 +68,8 @@ class ArrivingChanges(RecordedChanges):
         until, self._wanted = time.monotonic() + SILENCE, position
         while not self._is_settled(position):
             self._interrupts.check()
-            with self._came:
-                self._came.wait_for(lambda: self._is_settled(position), LOOKS)
+            with self._arrival:
+                self._arrival.wait_for(lambda: self._is_settled(position), LOOKS)
             if until and time.monotonic() > until:
                 self._tell(messages.COMPUTING_CHANGES)
                 until = 0
@@ -122,8 +122,8 @@ class ArrivingChanges(RecordedChanges):
             while self._is_current() and (piece := process.stdout.read(READ)):
                 self.take(piece)
                 if self.has(self._wanted):
-                    with self._came:
-                        self._came.notify_all()
+                    with self._arrival:
+                        self._arrival.notify_all()
                 if len(piece) < READ:
                     time.sleep(PAUSE)
         except IncompleteChangesError as wrong:
@@ -136,9 +136,9 @@ class ArrivingChanges(RecordedChanges):
             return
         if not failure and (not self.is_whole or self._fault):
             failure = self._fault or messages.ENDED_WITH.format(status=status)
-        with self._came:
+        with self._arrival:
             self._failure = failure
-            self._came.notify_all()
+            self._arrival.notify_all()
 
     def _is_current(self) -> bool:
         return self._reader is current_thread()

@@ -17,7 +17,7 @@ class Collecting(TextPrinter):
 
     def take(self) -> str:
         """The output since the last call."""
-        said = self.kept.getvalue()
+        output = self.kept.getvalue()
         self.kept.seek(0)
         self.kept.truncate()
-        return said
+        return output

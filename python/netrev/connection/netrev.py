@@ -68,16 +68,16 @@ class Lines:
         self._whole: deque[bytes] = deque()
         self._rest = b""
 
-    def next(self, asked: str) -> Optional[str]:
+    def next(self, sent: str) -> Optional[str]:
         """The next line, without its line feed; None at the end. If a line has no end, raises StrangeReplyError with the line
         that was sent."""
         while not self._whole:
             if len(self._rest) > LONGEST:
-                raise StrangeReplyError(asked, self._rest[:READ].decode("latin-1"))
-            came = self._read()
-            if not came:
+                raise StrangeReplyError(sent, self._rest[:READ].decode("latin-1"))
+            piece = self._read()
+            if not piece:
                 return None
-            *whole, self._rest = (self._rest + came).split(b"\n")
+            *whole, self._rest = (self._rest + piece).split(b"\n")
             self._whole.extend(whole)
         self._silent = None
         return self._whole.popleft().decode("utf-8", "surrogateescape")
@@ -113,10 +113,10 @@ class Netrev:
         """The reply to this line: a stored reply to the same query if no other line was sent since, else netrev's."""
         if self._ahead and self._ahead[0][0] == line:
             self._interrupts.check_given_up()
-            _, came = self._ahead.popleft()
-            if isinstance(came, Exception):
-                raise came
-            return came
+            _, reply = self._ahead.popleft()
+            if isinstance(reply, Exception):
+                raise reply
+            return reply
         return self._answers([line])[0]
 
     def ask_ahead(self, queries: Sequence[str]) -> None:
@@ -168,10 +168,10 @@ class Netrev:
             return [self._reply(line) for line in batch]
         new = [line for line in dict.fromkeys(batch) if line not in self._kept]
         self._begin(new)
-        came = {line: self._reply(line) for line in new}
-        replies = [came.get(line) or self._kept[line] for line in batch]
-        if len(self._kept) + len(came) <= MOST_KEPT:
-            self._kept.update((line, reply) for line, reply in came.items() if is_kept(reply))
+        new_replies = {line: self._reply(line) for line in new}
+        replies = [new_replies.get(line) or self._kept[line] for line in batch]
+        if len(self._kept) + len(new_replies) <= MOST_KEPT:
+            self._kept.update((line, reply) for line, reply in new_replies.items() if is_kept(reply))
         return replies
 
     def _begin(self, lines: list[str]) -> None:
@@ -192,8 +192,8 @@ class Netrev:
         self._unread -= 1
         return Reply(first, entries)
 
-    def _line(self, asked: str) -> str:
-        line = self._next(asked)
+    def _line(self, sent: str) -> str:
+        line = self._next(sent)
         if line is None:
             raise NetrevEndedError(self.close())
         return line
@@ -203,7 +203,7 @@ class Netrev:
         end."""
         raise NotImplementedError
 
-    def _next(self, asked: str) -> Optional[str]:
+    def _next(self, sent: str) -> Optional[str]:
         """netrev's next line in reply to a line; None if netrev has ended."""
         raise NotImplementedError
 
@@ -233,8 +233,8 @@ class Own(Netrev):
             self._commands.write(text)
             self._commands.flush()
 
-    def _next(self, asked: str) -> Optional[str]:
-        return self._lines.next(asked)
+    def _next(self, sent: str) -> Optional[str]:
+        return self._lines.next(sent)
 
     def close(self) -> Optional[int]:
         for stream in (self._commands, self._replies):
@@ -266,8 +266,8 @@ class Joined(Netrev):
         with suppress(OSError):
             self._socket.sendall(text)
 
-    def _next(self, asked: str) -> Optional[str]:
-        return self._lines.next(asked)
+    def _next(self, sent: str) -> Optional[str]:
+        return self._lines.next(sent)
 
     def close(self) -> Optional[int]:
         with suppress(OSError):

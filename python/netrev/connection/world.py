@@ -47,9 +47,9 @@ class World:
         (shown,) = self.netrev.looks([f"dump {dump} {socket}"])
         return [] if shown in ("-", "absent") else [int(word) for word in shown.split()]
 
-    def made(self, of: Of) -> int:
+    def count(self, of: Of) -> int:
         """The number of goroutines, sockets or descriptors that exist. Each kind of object is numbered from 0."""
-        return made_at(self.netrev, of, room_for(self.recording, of))
+        return count_at(self.netrev, of, room_for(self.recording, of))
 
     def sockets_of_open(self) -> dict[int, int]:
         """The open descriptors, each with its socket."""
@@ -60,7 +60,7 @@ class Opened:
     """The descriptors that are open after the openings and closings so far."""
 
     def __init__(self, earlier: Optional["Opened"] = None) -> None:
-        self.made: int = earlier.made if earlier else 0
+        self.count: int = earlier.count if earlier else 0
         self.free: list[int] = earlier.free.copy() if earlier else []
         self.now: dict[int, int] = earlier.now.copy() if earlier else {}
 
@@ -77,13 +77,13 @@ class Opened:
 
     def next(self) -> int:
         """The number that `pollopen` takes: the number of the descriptor freed last, or the next new number."""
-        return self.free[-1] if self.free else self.made
+        return self.free[-1] if self.free else self.count
 
     def take(self) -> int:
         if self.free:
             return self.free.pop()
-        self.made += 1
-        return self.made - 1
+        self.count += 1
+        return self.count - 1
 
 
 @lru_cache(maxsize=128)
@@ -126,7 +126,7 @@ def room_for(recording: Recording, of: Of) -> int:
     return int(recording.limits[LIMITS[of]])
 
 
-def made_at(netrev: Netrev, of: Of, most: int) -> int:
+def count_at(netrev: Netrev, of: Of, most: int) -> int:
     """The number of goroutines, sockets or descriptors that exist at netrev's position; `most` if more of them
     exist."""
     count, size = 0, AT_FIRST

@@ -46,14 +46,14 @@ def value(world: World, name: str, number: Optional[int] = None) -> object:
     if name in SHOWS_ALL:
         return SHOWS_ALL[name](world)
     assert number is not None
-    made: tuple[Any, ...]
-    for shows, made in (
+    objects: tuple[Any, ...]
+    for shows, objects in (
         (SHOWS_GOROUTINE, world.goroutines),
         (SHOWS_SOCKET, world.sockets),
         (SHOWS_DESC, world.descs),
     ):
         if name in shows:
-            return shows[name](made[number]) if number < len(made) else "absent"
+            return shows[name](objects[number]) if number < len(objects) else "absent"
     raise KeyError(name)
 
 
@@ -67,9 +67,9 @@ def dumped(world: World, name: str, s: int) -> str:
     return " ".join(map(str, socket.queues[at(name[0])])) or "-"
 
 
-def look(world: World, asked: str) -> str:
+def look(world: World, query: str) -> str:
     """The reply to a query: `print CELL` or `dump WHAT S`, with single spaces."""
-    verb, name, *rest = asked.split()
+    verb, name, *rest = query.split()
     numbers = [int(number) for number in rest]
     shown = value(world, name, *numbers) if verb == "print" else dumped(world, name, numbers[0])
     return f"{' '.join((name, *map(str, numbers)))} = {shown}"

@@ -34,7 +34,7 @@ Reply = tuple[str, ...]  # the lines of a reply
 Marks = tuple[tuple[int, str], ...]  # the number of each, and its text in `info breakpoints`
 
 
-class Asked(NamedTuple):
+class Request(NamedTuple):
     """The meaning of a line: a command, which goes into the journal, a query, or a line with the same reply in every state."""
 
     sort: str
@@ -56,59 +56,59 @@ Answered = tuple[State, Reply]
 COMMANDS = {"step", "seek", "turn", "mark", "delete", "checkpoint", "restart", "forget"}
 
 
-def read_line(line: bytes) -> Optional[Asked]:
+def read_line(line: bytes) -> Optional[Request]:
     """The meaning of a line of bytes without its newline; None for a blank line."""
     if len(line) > MOST_LINE:
-        return Asked("fault", TOO_LONG)
+        return Request("fault", TOO_LONG)
     text = line.removesuffix(b"\r").decode("latin-1")
     words = [word for word in text.split(" ") if word]
     if not words:
         return None
     first = SHORT.get(words[0], words[0])
     if first not in OF_NETREV:
-        return Asked("fault", UNKNOWN)
-    return read_words(first, words[1:]) or Asked("fault", BAD)
+        return Request("fault", UNKNOWN)
+    return read_words(first, words[1:]) or Request("fault", BAD)
 
 
-def read_words(first: str, rest: list[str]) -> Optional[Asked]:
+def read_words(first: str, rest: list[str]) -> Optional[Request]:
     """The meaning of a line's words if the first word is known; None if the other words are wrong."""
     number = number_of(rest[0]) if len(rest) == 1 else None
     match first:
         case "stepi" | "reverse-stepi":
             count = 1 if not rest else number
-            return Asked("step", (count, first == "reverse-stepi")) if count else None
+            return Request("step", (count, first == "reverse-stepi")) if count else None
         case "continue" | "reverse-continue" if not rest:
-            return Asked("seek", first == "reverse-continue")
+            return Request("seek", first == "reverse-continue")
         case "set" if rest in (["exec-direction", "forward"], ["exec-direction", "reverse"]):
-            return Asked("turn", rest[1] == "reverse")
+            return Request("turn", rest[1] == "reverse")
         case "break" | "tbreak" if place := break_of(rest):
-            return Asked("mark", f"{first} {place}")
+            return Request("mark", f"{first} {place}")
         case "watch" if cell := cell_of(rest):
-            return Asked("mark", f"watch {cell}")
+            return Request("mark", f"watch {cell}")
         case "delete" if number is not None:
-            return Asked("delete", number)
+            return Request("delete", number)
         case "delete" if len(rest) == 2 and rest[0] == "checkpoint" and number_of(rest[1]) is not None:
-            return Asked("forget", number_of(rest[1]))
+            return Request("forget", number_of(rest[1]))
         case "checkpoint" if not rest:
-            return Asked("checkpoint")
+            return Request("checkpoint")
         case "restart" if number is not None:
-            return Asked("restart", number)
+            return Request("restart", number)
         case "print" if cell := cell_of(rest):
-            return Asked("look", f"print {cell}")
+            return Request("look", f"print {cell}")
         case "dump" if len(rest) == 2 and rest[0] in DUMPS and number_of(rest[1]) is not None:
-            return Asked("look", f"dump {rest[0]} {number_of(rest[1])}")
+            return Request("look", f"dump {rest[0]} {number_of(rest[1])}")
         case "info" if rest in (["position"], ["breakpoints"], ["checkpoints"]):
-            return Asked("info", rest[0])
+            return Request("info", rest[0])
         case "resume" if not rest:
-            return Asked("fault", "nothing owed")
+            return Request("fault", "nothing owed")
         case "quit" if not rest:
-            return Asked("quit")
+            return Request("quit")
     return None
 
 
-def is_command(asked: Optional[Asked]) -> bool:
+def is_command(request: Optional[Request]) -> bool:
     """Whether a line is a command, which takes a place in the journal."""
-    return asked is not None and asked.sort in COMMANDS
+    return request is not None and request.sort in COMMANDS
 
 
 @dataclass(frozen=True, eq=False)
@@ -179,9 +179,9 @@ class Recording:
         at = bisect_left(hits, position)
         return at < len(hits) and hits[at] == position
 
-    def answer(self, state: State, asked: Asked) -> Answered:
+    def answer(self, state: State, request: Request) -> Answered:
         """The state after a line, and the lines of its reply."""
-        return getattr(self, f"answer_{asked.sort}")(state, asked.what)
+        return getattr(self, f"answer_{request.sort}")(state, request.what)
 
     def answer_fault(self, state: State, text: str) -> Answered:
         return state, (text,)
@@ -204,12 +204,12 @@ class Recording:
     def answer_step(self, state: State, what: tuple[int, bool]) -> Answered:
         count, backwards = what
         if backwards or state.reverse:
-            there = max(state.position - count, 0)
-            reply = "at 0 start" if count > state.position else f"at {there}"
+            position = max(state.position - count, 0)
+            reply = "at 0 start" if count > state.position else f"at {position}"
         else:
-            there = min(state.position + count, self.length)
-            reply = f"at {there} end" if state.position + count > self.length else f"at {there}"
-        return moved(state, there), (reply,)
+            position = min(state.position + count, self.length)
+            reply = f"at {position} end" if state.position + count > self.length else f"at {position}"
+        return moved(state, position), (reply,)
 
     def answer_seek(self, state: State, backwards: bool) -> Answered:
         reverse = backwards or state.reverse
@@ -218,8 +218,8 @@ class Recording:
             hit, numbers = found
             reply = " ".join(["at", str(hit), "by", *map(str, numbers)])
             return moved(state._replace(marks=left_standing(state.marks, numbers)), hit), (reply,)
-        there = 0 if reverse else self.length
-        return moved(state, there), ("at 0 start" if reverse else f"at {there} end",)
+        position = 0 if reverse else self.length
+        return moved(state, position), ("at 0 start" if reverse else f"at {position} end",)
 
     def answer_turn(self, state: State, reverse: bool) -> Answered:
         reply = "direction reverse" if reverse else "direction forward"

@@ -73,12 +73,12 @@ class Machine:
 
     def copy(self: Itself) -> Itself:
         """A copy of the machine, without any step to undo."""
-        made = object.__new__(type(self))
+        copy = object.__new__(type(self))
         for name in STATE:
             value = getattr(self, name)
-            setattr(made, name, list(value) if name in ONE_OF_MANY else value)
-        made.steps, made._changes, made._seats = deque(maxlen=self.steps.maxlen), [], dict(self._seats)
-        return made
+            setattr(copy, name, list(value) if name in ONE_OF_MANY else value)
+        copy.steps, copy._changes, copy._seats = deque(maxlen=self.steps.maxlen), [], dict(self._seats)
+        return copy
 
     def world(self) -> World:
         """A snapshot of the machine."""

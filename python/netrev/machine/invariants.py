@@ -86,9 +86,9 @@ def free_descriptors(world: World) -> Iterator[str]:
 def limits(world: World) -> Iterator[str]:
     """No count exceeds the recording's limits, and no buffer exceeds its capacity."""
     most = world.limits
-    made = (len(world.goroutines), len(world.sockets), len(world.descs), len(world.firings))
-    if any(count > limit for count, limit in zip(made, (most.gor, most.sock, most.desc, 2 * most.desc))):
-        yield f"made are {made}, within {most}"
+    counts = (len(world.goroutines), len(world.sockets), len(world.descs), len(world.firings))
+    if any(count > limit for count, limit in zip(counts, (most.gor, most.sock, most.desc, 2 * most.desc))):
+        yield f"made are {counts}, within {most}"
     for s, socket in enumerate(world.sockets):
         if any(len(held) > capacity for held, capacity in zip(socket.buffers, socket.capacities)):
             yield f"a buffer of socket {s} is past its capacity"

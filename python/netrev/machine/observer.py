@@ -7,7 +7,7 @@ from typing import TYPE_CHECKING
 from netrev.text.contents import Answer
 
 if TYPE_CHECKING:
-    from .debugger import Asked, Reply
+    from .debugger import Request, Reply
 
 
 class Observer:
@@ -25,5 +25,5 @@ class Observer:
     def printed(self, fault: str) -> None:
         """Called if a recording has this fault."""
 
-    def asked(self, asked: Asked, reply: Reply) -> None:
-        """Called after a line got this answer; `asked` is the line's meaning."""
+    def replied(self, request: Request, reply: Reply) -> None:
+        """Called after a line got this answer; `request` is the line's meaning."""

@@ -19,19 +19,19 @@ def need(holds: object, reason: int) -> None:
         raise StepRefusedError(reason)
 
 
-def there(world: World, g: int) -> Status:
+def status_of(world: World, g: int) -> Status:
     """The status of an existing goroutine."""
     need(g < len(world.goroutines) and world.goroutines[g] != GONE, 1)
     return world.goroutines[g]
 
 
 def idle(world: World, g: int) -> None:
-    need(there(world, g) == IDLE, 2)
+    need(status_of(world, g) == IDLE, 2)
 
 
 def within(world: World, g: int, place: str) -> Status:
     """The descriptor and side of a goroutine's wait; the goroutine must be at this place of the wait."""
-    status = there(world, g)
+    status = status_of(world, g)
     need(status[0] == place, 2)
     return status[1:]
 
@@ -139,7 +139,7 @@ def decref(world: World, g: int, s: int) -> Outcome:
 
 
 def rwlock(world: World, g: int, s: int, side: str) -> Outcome:
-    need(there(world, g) in (IDLE, ("relock", s, side)), 2)
+    need(status_of(world, g) in (IDLE, ("relock", s, side)), 2)
     return operate(world, g, s, lockword.rwlock, side)
 
 

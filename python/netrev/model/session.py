@@ -14,12 +14,12 @@ ROOM = 65_536
 class Looked:
     """The results of one query, by position."""
 
-    def __init__(self, worlds: Sequence[World], asked: str) -> None:
+    def __init__(self, worlds: Sequence[World], query: str) -> None:
         self.worlds = worlds
-        self.asked = asked
+        self.query = query
 
     def __getitem__(self, position: int) -> str:
-        return look(self.worlds[position], self.asked)
+        return look(self.worlds[position], self.query)
 
 
 class Shown(dict[str, Looked]):
@@ -29,9 +29,9 @@ class Shown(dict[str, Looked]):
         super().__init__()
         self.worlds = worlds
 
-    def __missing__(self, asked: str) -> Looked:
-        self[asked] = Looked(self.worlds, asked)
-        return self[asked]
+    def __missing__(self, query: str) -> Looked:
+        self[query] = Looked(self.worlds, query)
+        return self[query]
 
 
 def recording_of(steps: Sequence[Step], worlds: Sequence[World]) -> Recording:
@@ -49,15 +49,15 @@ class Session:
 
     def answer(self, line: bytes) -> Optional[Reply]:
         """The reply to a line; None for a blank line."""
-        asked = read_line(line)
-        if asked is None:
+        request = read_line(line)
+        if request is None:
             return None
         reply: Reply = (FULL,)
-        if not is_command(asked) or self.placed < ROOM:
-            self.placed += is_command(asked)
-            self.state, reply = self.recording.answer(self.state, asked)
-        self._observer.asked(asked, reply)
-        self.has_ended = asked.sort == "quit"
+        if not is_command(request) or self.placed < ROOM:
+            self.placed += is_command(request)
+            self.state, reply = self.recording.answer(self.state, request)
+        self._observer.replied(request, reply)
+        self.has_ended = request.sort == "quit"
         return reply
 
     def close(self) -> None:

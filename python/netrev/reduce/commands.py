@@ -19,10 +19,10 @@ def reduced_file(session: Session, words: list[str]) -> str:
     """Writes the reduced recording to the file that the first word names, and returns the lines about the file."""
     if not words or not words[0].endswith(".jsonl"):
         raise UsageError(messages.REDUCE.format(usage=USAGE))
-    made = reduced(session, words[0], wanted_by(session, words[1:]))
-    said = made.words(session.text().length)
-    found = [suspect for suspect in suspects_of(Recording.read(made.path)).suspects if suspect.is_shown]
-    return "\n".join([said, *(f"{one.rule}: {one.sentence()}" for one in found[:1])])
+    result = reduced(session, words[0], wanted_by(session, words[1:]))
+    summary = result.words(session.text().length)
+    found = [suspect for suspect in suspects_of(Recording.read(result.path)).suspects if suspect.is_shown]
+    return "\n".join([summary, *(f"{suspect.rule}: {suspect.sentence()}" for suspect in found[:1])])
 
 
 def answer_reduce(session: Session, words: list[str]) -> None:
@@ -36,12 +36,12 @@ def answer_report(session: Session, words: list[str]) -> None:
     if story:
         return report_hang(session, words[0], story)
     wanted = wanted_by(session, words[1:])
-    made = reduced(session, str(Path(words[0]).with_suffix(".jsonl")), wanted)
-    text, picture = report_of(session, wanted, made)
+    result = reduced(session, str(Path(words[0]).with_suffix(".jsonl")), wanted)
+    text, picture = report_of(session, wanted, result)
     drawn = str(Path(words[0]).with_suffix(".svg"))
     written(drawn, session.path, picture.encode())
     written(words[0], session.path, text.encode())
-    session.printer.note(f"{words[0]} with {Path(drawn).name}, and {made.words(session.text().length)}")
+    session.printer.note(f"{words[0]} with {Path(drawn).name}, and {result.words(session.text().length)}")
 
 
 def has_suspects(session: Session) -> bool:

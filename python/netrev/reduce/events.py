@@ -87,7 +87,7 @@ class Events:
 
     def _event(self, notes: Notes, number: int, kind: str, arguments: list[Any], answer: Any) -> Event:
         """The event for a step."""
-        told = (answer,) if isinstance(answer, str) else tuple(answer)
+        parts = (answer,) if isinstance(answer, str) else tuple(answer)
         timer, behind, named = None, 0, list(arguments)
         for at, form in enumerate(KINDS[kind].arguments):
             if form == "d":
@@ -99,6 +99,6 @@ class Events:
         elif kind == "pollevent":
             behind = int(notes.changes.value(f"fdseq {arguments[0]}", number)) - arguments[1]
         elif kind == "pollopen":
-            self._of[told[1]] = len(self.uses)
-            self.uses.append(Use(told[1], arguments[1], number))
-        return Event(number, kind, tuple(named), told, timer, behind)
+            self._of[parts[1]] = len(self.uses)
+            self.uses.append(Use(parts[1], arguments[1], number))
+        return Event(number, kind, tuple(named), parts, timer, behind)

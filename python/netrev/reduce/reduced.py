@@ -43,8 +43,10 @@ class Reduced(NamedTuple):
 
     def words(self, steps: int) -> str:
         """The size of the result, and what the reduction removed, as text."""
-        said = [f"{self.left_out[sort]} {sort.value[self.left_out[sort] != 1]}" for sort in Sort if self.left_out[sort]]
-        left = f"left out {', '.join(said)}" if said else "nothing could be left out"
+        parts = [
+            f"{self.left_out[sort]} {sort.value[self.left_out[sort] != 1]}" for sort in Sort if self.left_out[sort]
+        ]
+        left = f"left out {', '.join(parts)}" if parts else "nothing could be left out"
         more = "" if self.is_done else "; stopped early, so reduce what is left once more"
         return f"{self.path}: {len(self.numbers)} of {steps} steps, accepted by netrev; {left}{more}"
 

@@ -74,8 +74,8 @@ class Player:
     def _common(self, wanted: list[int]) -> int:
         """The number of events at the start of this replay that are the same as in the last replay."""
         at = 0
-        for one, other in zip(self.chosen, wanted):
-            if one != other:
+        for number, other in zip(self.chosen, wanted):
+            if number != other:
                 break
             at += 1
         return at

@@ -74,8 +74,8 @@ def report_of(session: Session, wanted: Wanted, reduced: Reduced) -> tuple[str, 
 
 def _diagram(recording: Recording, story: Optional[Data]) -> list[str]:
     """The steps as a diagram, unless the recording has too many steps."""
-    told = sequence(recording, story)
-    return [f"```mermaid\n{told}\n```"] if told else []
+    diagram = sequence(recording, story)
+    return [f"```mermaid\n{diagram}\n```"] if diagram else []
 
 
 def _of_cell(scout: Scout, recording: Recording, wanted: Wanted) -> list[str]:
@@ -92,9 +92,9 @@ def _of_suspect(session: Session, table: Table, wanted: Wanted) -> list[str]:
     whole = [row.values for row in before if row.values][wanted.suspect - 1]
     here = next(row.values for row in table.rows if row.values and row.values["rule"] == whole["rule"])
     parts = [f"# {here['rule']}", shown(f"{here['says'][:1].upper()}{here['says'][1:]}.")]
-    parts.append("\n".join(f"- netrev: `{one}`" for one in here["netrev"]))
+    parts.append("\n".join(f"- netrev: `{line}`" for line in here["netrev"]))
     if here["lines"]:
-        parts.append("\n".join(f"- {shown(one)}" for one in here["lines"]))
+        parts.append("\n".join(f"- {shown(line)}" for line in here["lines"]))
     parts.append(f"In the whole recording: {shown(whole['says'])}.")
     return parts
 
@@ -102,22 +102,23 @@ def _of_suspect(session: Session, table: Table, wanted: Wanted) -> list[str]:
 def _steps(recording: Recording, reduced: Reduced) -> list[str]:
     """The table rows of the steps."""
     steps = [recording.step(number) for number in range(1, recording.length + 1)]
-    who = sorted({g for step in steps if (g := step.argument("g")) is not None})
-    is_wide = len(who) <= MOST_COLUMNS
-    columns = [*(f"goroutine {g}" for g in who), "others"] if is_wide else ["step"]
+    goroutines = sorted({g for step in steps if (g := step.argument("g")) is not None})
+    is_wide = len(goroutines) <= MOST_COLUMNS
+    columns = [*(f"goroutine {g}" for g in goroutines), "others"] if is_wide else ["step"]
     heads = ["", "was", *columns, *(["line"] if recording.lines else [])]
     rows = [f"| {' | '.join(heads)} |", f"|{'--:|--:|' + '---|' * (len(heads) - 2)}"]
     for step, was in zip(steps, reduced.numbers):
-        at = who.index(step.argument("g")) if step.argument("g") in who else len(who)
+        at = goroutines.index(step.argument("g")) if step.argument("g") in goroutines else len(goroutines)
         cells = [
-            f"`{_told(step, is_wide)}`" if column == (at if is_wide else 0) else "" for column in range(len(columns))
+            f"`{_step_text(step, is_wide)}`" if column == (at if is_wide else 0) else ""
+            for column in range(len(columns))
         ]
         line = [shown(recording.lines.words(step.number))] if recording.lines else []
         rows.append(f"| {' | '.join([str(step.number), str(was), *cells, *line])} |")
     return rows
 
 
-def _told(step: Step, is_wide: bool) -> str:
+def _step_text(step: Step, is_wide: bool) -> str:
     """A step with its answer. The goroutine is left out if it has a column of its own."""
     words = str(step).split()
     if is_wide and step.kind in OF_A_GOROUTINE:

@@ -43,14 +43,14 @@ class SuspectTarget(Target):
 
     def shows(self, player: Player) -> bool:
         ranked = suspects_of(PlayedSteps(step for step, _ in player.steps))
-        found = [one for one in ranked.suspects[: self.rank] if one.is_shown]
+        found = [suspect for suspect in ranked.suspects[: self.rank] if suspect.is_shown]
         named = (("g", self.goroutine), ("s", self.socket), ("d", self.use))
         mine = [None if which is None else player.numbers[form].get(which, -1) for form, which in named]
         return any(
-            one.rule == self.suspect.rule
-            and one.weight >= self.suspect.weight
-            and [one.goroutine, one.socket, one.descriptor] == mine
-            for one in found
+            suspect.rule == self.suspect.rule
+            and suspect.weight >= self.suspect.weight
+            and [suspect.goroutine, suspect.socket, suspect.descriptor] == mine
+            for suspect in found
         )
 
 
@@ -69,7 +69,7 @@ class CellTarget(Target):
             self.which = int(number[0])
             self.goroutine = self.which if self.of is Of.GOROUTINE else None
             self.socket = self.which if self.of is Of.SOCKET else None
-        self._descriptors = {use: one.descriptor for use, one in enumerate(events.uses)}
+        self._descriptors = {use: descriptor_use.descriptor for use, descriptor_use in enumerate(events.uses)}
 
     def shows(self, player: Player) -> bool:
         number = None
@@ -79,10 +79,10 @@ class CellTarget(Target):
             number = player.numbers[LETTER[self.of]].get(self.which)
             if number is None:
                 return False
-        value = self._told(player, str(value_of_cell(player.world, self.name, number)))
+        value = self._with_recorded_numbers(player, str(value_of_cell(player.world, self.name, number)))
         return fnmatchcase(value, self.wanted) or fnmatchcase(in_words(self.name, value), self.wanted)
 
-    def _told(self, player: Player, value: str) -> str:
+    def _with_recorded_numbers(self, player: Player, value: str) -> str:
         """A value with the recording's numbers."""
         if self.name in ("rg", "wg") and value.startswith("g"):
             return f"g{_back(player.numbers['g'], int(value[1:]))}"

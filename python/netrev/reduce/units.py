@@ -64,14 +64,14 @@ def _frees(events: Events, calls: Optional[list[Unit]], event: Event) -> bool:
 def _others(events: Events) -> list[Unit]:
     """The units of the network, of timers and of new objects."""
     units: list[Unit] = []
-    came: dict[tuple[int, str], list[int]] = {}
+    arrivals: dict[tuple[int, str], list[int]] = {}
     firings: list[Unit] = []  # the firings that haven't run yet, in the machine's order
     for place, event in enumerate(events.all):
         if event.kind in SIDE_OF:
-            came.setdefault((event.arguments[0], SIDE_OF[event.kind]), []).append(place)
+            arrivals.setdefault((event.arguments[0], SIDE_OF[event.kind]), []).append(place)
         elif event.kind == "pollevent":
             socket = events.uses[event.arguments[0]].socket
-            before = [one for side in event.arguments[2] for one in came.pop((socket, side), ())]
+            before = [arrival for side in event.arguments[2] for arrival in arrivals.pop((socket, side), ())]
             units.append(Unit(Sort.NETWORK, sorted((*before, place))))
         elif event.kind == "pop":
             assert event.timer
@@ -83,7 +83,7 @@ def _others(events: Events) -> list[Unit]:
         elif event.kind not in OF_A_GOROUTINE:
             sort = {"spawn": Sort.GOROUTINE, "sockopen": Sort.SOCKET}.get(event.kind, Sort.TICK)
             units.append(Unit(sort, [place]))
-    return units + [Unit(Sort.NETWORK, [place]) for places in came.values() for place in places]
+    return units + [Unit(Sort.NETWORK, [place]) for places in arrivals.values() for place in places]
 
 
 class Needs:

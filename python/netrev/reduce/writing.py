@@ -35,16 +35,16 @@ def taken(program: str, player: Player, has_answers: bool) -> bytes:
     """The text of the replayed steps, in the form that netrev accepts. If the recording has answers, the text has
     netrev's own answers."""
     text = text_of(player.world, player.limits.buf, player.steps, has_answers)
-    status, said = answered_by(program, "upgrade" if has_answers else "check", text)
+    status, output = answered_by(program, "upgrade" if has_answers else "check", text)
     if status:
-        fault = said.decode("utf-8", "replace").strip()
+        fault = output.decode("utf-8", "replace").strip()
         raise UsageError(messages.REDUCED_REFUSED.format(fault=fault))
-    return said if has_answers else text
+    return output if has_answers else text
 
 
 def text_of(world: World, buf: int, steps: Sequence[tuple[Step, Answer]], has_answers: bool) -> bytes:
     """The text of the steps that led to this state, with the limits that the steps need."""
-    gor, sock, desc = (max(len(made), 1) for made in (world.goroutines, world.sockets, world.descs))
+    gor, sock, desc = (max(len(objects), 1) for objects in (world.goroutines, world.sockets, world.descs))
     limits = Limits(gor, sock, desc, buf)
     header = {"netrev": 2 if has_answers or _needs_answers(steps) else 1, **limits._asdict()}
     lines = [json.dumps(header, separators=(",", ":"))]
@@ -61,7 +61,7 @@ def where_text(lines: Lines, numbers: Sequence[int]) -> str:
     """NAME.where for these steps, which are renumbered from 1."""
     calls: dict[Call, int] = {}
     stacks: dict[Stack, int] = {}
-    told: list[dict[str, Any]] = [{"where": 1, "steps": len(numbers)}]
+    rows: list[dict[str, Any]] = [{"where": 1, "steps": len(numbers)}]
     of_steps = []
     for number in numbers:
         stack = lines.of(number)
@@ -72,16 +72,16 @@ def where_text(lines: Lines, numbers: Sequence[int]) -> str:
             for call in (*stack.calls, *([stack.made] if stack.made else [])):
                 if call not in calls:
                     calls[call] = len(calls) + 1
-                    told.append({"call": calls[call], **call._asdict()})
+                    rows.append({"call": calls[call], **call._asdict()})
             stacks[stack] = len(stacks) + 1
-            made = {"made": calls[stack.made]} if stack.made else {}
-            told.append({"stack": stacks[stack], "calls": [calls[call] for call in stack.calls], **made})
+            origin = {"made": calls[stack.made]} if stack.made else {}
+            rows.append({"stack": stacks[stack], "calls": [calls[call] for call in stack.calls], **origin})
         of_steps.append(stacks[stack])
-    told.append({"step": 1, "stacks": of_steps})
+    rows.append({"step": 1, "stacks": of_steps})
     if lines.times:
         times = [lines.times[number - 1] for number in numbers]
-        told.append({"times": [after - before for before, after in zip([0, *times], times)]})
-    return "".join(f"{json.dumps(one, separators=(',', ':'))}\n" for one in told)
+        rows.append({"times": [after - before for before, after in zip([0, *times], times)]})
+    return "".join(f"{json.dumps(row, separators=(',', ':'))}\n" for row in rows)
 
 
 def write_recording(path: str, of: str, data: bytes, lines: Lines, numbers: Sequence[int]) -> None:

@@ -40,13 +40,13 @@ class Breaks:
 
     def add(self, place: Place, is_temporary: bool) -> Break:
         self.given += 1
-        made = Break(f"{LETTER}{self.given}", place, is_temporary)
-        self.standing[made.number] = made
-        return made
+        mark = Break(f"{LETTER}{self.given}", place, is_temporary)
+        self.standing[mark.number] = mark
+        return mark
 
     def nearest(self, position: int, forwards: bool) -> Optional[int]:
         """The nearest later (or, backwards, earlier) position at which a break stops."""
-        near = [one for mark in self.standing.values() if (one := self._next(mark, position, forwards)) is not None]
+        near = [stop for mark in self.standing.values() if (stop := self._next(mark, position, forwards)) is not None]
         return (min if forwards else max)(near, default=None)
 
     def _next(self, mark: Break, position: int, forwards: bool) -> Optional[int]:
@@ -58,15 +58,15 @@ class Breaks:
 
     def at(self, position: int) -> list[Break]:
         """The breaks that stop at a position."""
-        here = (one for one in self.standing.values() if position in one.place.positions)
-        return [one for one in here if self.is_met(one.number, position)]
+        here = (mark for mark in self.standing.values() if position in mark.place.positions)
+        return [mark for mark in here if self.is_met(mark.number, position)]
 
     def hit(self, position: int) -> list[Break]:
         """Returns the breaks that stop at a position, and deletes the temporary breaks among them."""
         found = self.at(position)
-        for one in found:
-            if one.is_temporary:
-                del self.standing[one.number]
+        for mark in found:
+            if mark.is_temporary:
+                del self.standing[mark.number]
         return found
 
 

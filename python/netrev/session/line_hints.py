@@ -18,9 +18,9 @@ def hint(words: list[str], fault: str) -> str:
     if number == "201":
         return unknown(words)
     if number == "202":
-        said = ADVICE[words[0]](words[1:]) if words[0] in ADVICE else ""
+        advice = ADVICE[words[0]](words[1:]) if words[0] in ADVICE else ""
         usage = f"{COMMANDS[words[0]].usage}: {COMMANDS[words[0]].says}" if words[0] in COMMANDS else ""
-        return said or usage
+        return advice or usage
     return messages.FAULTS.get(number, messages.HELP).format(most=MOST_LINE)
 
 

@@ -78,9 +78,9 @@ def lines_together(stream: TextIO) -> Iterator[list[str]]:
     begun: list[str] = []  # the beginning of a line whose end hasn't arrived
     is_open = True
     while is_open:
-        came = raw.read1(AT_ONCE)
-        is_open = bool(came)
-        *lines, rest = decoder.decode(came, not is_open).split("\n")
+        data = raw.read1(AT_ONCE)
+        is_open = bool(data)
+        *lines, rest = decoder.decode(data, not is_open).split("\n")
         if lines:
             lines[0] = "".join((*begun, lines[0]))
             begun = []

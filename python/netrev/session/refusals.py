@@ -60,10 +60,10 @@ def fault_of(program: str, path: str) -> str:
 def step_explained(program: str, recording: Recording, number: int, reason: int) -> list[str]:
     """The lines that explain why a step doesn't apply."""
     step = recording.step(number)
-    said = [line_of(step), f"reason {reason}: {REASONS[reason]}"]
+    lines = [line_of(step), f"reason {reason}: {REASONS[reason]}"]
     if reason in messages.REASONS:
-        said.append(messages.REASONS[reason])
-    return said + [f"just before: {told}" for told in before(program, recording, step)]
+        lines.append(messages.REASONS[reason])
+    return lines + [f"just before: {value}" for value in before(program, recording, step)]
 
 
 def line_of(step: Step) -> str:
@@ -75,15 +75,15 @@ def answer_explained(program: str, recording: Recording, number: int) -> list[st
     """The recorded answer of a step next to the machine's answer, with a hint about where to look."""
     step = recording.step(number)
     shown = before(program, recording, step)
-    said = [line_of(step), f"recorded: {with_meaning(step.kind, step.answer)}"]
-    said += [
+    lines = [line_of(step), f"recorded: {with_meaning(step.kind, step.answer)}"]
+    lines += [
         f"machine:  {with_meaning(step.kind, answer)}"
         for answer in likely(recording, step, shown)
         if is_taken(program, recording, step, answer)
     ]
-    if told := meaning(step.kind, step.answer):
-        said.append(told)
-    return said + [f"just before: {told}" for told in shown]
+    if words := meaning(step.kind, step.answer):
+        lines.append(words)
+    return lines + [f"just before: {value}" for value in shown]
 
 
 def with_meaning(kind: str, answer: Any) -> str:
@@ -119,7 +119,7 @@ def count_of(recording: Recording, step: Step, shown: list[str]) -> int:
 
 def held(shown: list[str], cell: str) -> int:
     """The number of bytes that a buffer holds, from the values just before a step."""
-    return next(int(told.split()[3]) for told in shown if told.startswith(f"{cell} "))
+    return next(int(value.split()[3]) for value in shown if value.startswith(f"{cell} "))
 
 
 def is_taken(program: str, recording: Recording, step: Step, answer: Any) -> bool:
@@ -148,8 +148,8 @@ def before(program: str, recording: Recording, step: Step) -> list[str]:
         cut = os.path.join(folder, "cut.jsonl")
         with open(cut, "wb") as file:
             file.write(recording.before_line(step.line))
-        asked = "".join(f"{line}\n" for line in lines).encode()
-        shown = subprocess.run([program, "run", cut], input=asked, capture_output=True, check=False).stdout
+        queries = "".join(f"{line}\n" for line in lines).encode()
+        shown = subprocess.run([program, "run", cut], input=queries, capture_output=True, check=False).stdout
     replies = shown.decode().splitlines()[1:]
     return [with_words(reply) for reply in replies]
 

@@ -196,16 +196,16 @@ class Session:
             self.printer.note(hint(words, reply.first))
         elif words == ["info", "breakpoints"]:
             self.note_marks(reply.entries)
-        elif made := MARK.fullmatch(reply.first):
-            self.latest = made[1]
+        elif mark := MARK.fullmatch(reply.first):
+            self.latest = mark[1]
         return reply.first != "bye"
 
     def note_marks(self, entries: Sequence[str]) -> None:
         """Prints what `info breakpoints` adds to netrev's marks: the lines that run when a mark is hit, the breaks at
         lines and functions of the program, and the conditions of marks."""
         standing = [*(entry.split()[0] for entry in entries), *self.breaks.standing]
-        conditions = [one.says(number) for number, one in self.conditions.items() if number in standing]
-        breaks = [one.words() for one in self.breaks.standing.values()]
+        conditions = [condition.says(number) for number, condition in self.conditions.items() if number in standing]
+        breaks = [mark.words() for mark in self.breaks.standing.values()]
         for line in (*self.attached.listed(entries), *breaks, *conditions):
             self.printer.note(line)
 

@@ -21,9 +21,9 @@ def text_round(recording: Recording, path: Path, line: int) -> list[str]:
     lines = lines_of(path)
     if lines is None:
         return []
-    told = [
+    rows = [
         f"{'=>' if number == line else '  '} {number:>5}  {lines[number - 1].expandtabs(4)}"
         for number in range(max(1, line - ROUND), min(len(lines), line + ROUND) + 1)
     ]
     changed = os.stat(path).st_mtime > recording.lines.written
-    return [*told, messages.SOURCE_CHANGED.format(file=path.name)] if changed and told else told
+    return [*rows, messages.SOURCE_CHANGED.format(file=path.name)] if changed and rows else rows

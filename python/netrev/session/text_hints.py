@@ -30,9 +30,9 @@ MOST_STEPS = 1_000_000
 def text_hint(recording: Recording, number: int, fault: int) -> str:
     """The hint for line `number`, in which netrev found this fault."""
     line = recording.line(number)
-    for magic, said in messages.MAGIC.items():
+    for magic, message in messages.MAGIC.items():
         if line.startswith(magic):
-            return said
+            return message
     if len(line) > MOST_BYTES:
         return messages.LONG_LINE.format(bytes=len(line), most=MOST_BYTES)
     if fault == 106:
@@ -98,16 +98,16 @@ def header_hint(value: Any) -> str:
         return messages.NOT_A_HEADER.format(example=HEADER_EXAMPLE)
     version = value.get("netrev", VERSIONS[0])
     limits = HEADERS[version if version in VERSIONS else VERSIONS[-1]]
-    said = [
+    faults = [
         messages.KEY_IS_MISSING.format(key=key, says=limit.says) for key, limit in limits.items() if key not in value
     ]
-    said += [messages.KEY_IS_UNKNOWN.format(key=key) for key in value if key not in limits]
+    faults += [messages.KEY_IS_UNKNOWN.format(key=key) for key in value if key not in limits]
     for key, limit in limits.items():
         given = value.get(key, limit.least)
         if not (type(given) is int and limit.least <= given <= limit.greatest):
             words = limits_words(key, limit)
-            said.append(messages.KEY_IS_WRONG.format(key=key, given=json.dumps(given), limits=words))
-    return "; ".join(said)
+            faults.append(messages.KEY_IS_WRONG.format(key=key, given=json.dumps(given), limits=words))
+    return "; ".join(faults)
 
 
 def limits_words(key: str, limit: Limit) -> str:

@@ -33,5 +33,5 @@ def netrev_program() -> Optional[str]:
     """The program that NETREV names. By default, it is the program that was built here, the program that is installed
     beside the running program, or another installed netrev, in this order."""
     beside = Path(sys.argv[0]).resolve().with_name("netrev")
-    there = [str(path) for path in (BUILT, beside, INSTALLED) if path.is_file() and not is_launcher(path)]
-    return os.environ.get("NETREV") or next(iter(there), None) or on_the_path()
+    programs = [str(path) for path in (BUILT, beside, INSTALLED) if path.is_file() and not is_launcher(path)]
+    return os.environ.get("NETREV") or next(iter(programs), None) or on_the_path()

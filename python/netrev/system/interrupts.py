@@ -21,7 +21,7 @@ class Interrupts:
     """Delays Ctrl-C in the context `held`."""
 
     def __init__(self) -> None:
-        self._came = False
+        self._is_pressed = False
         self._is_given_up = False
         self._stops_at_once = False
         self._shields = 0
@@ -31,7 +31,7 @@ class Interrupts:
     def held(self, first: Callable[[], None] = lambda: None) -> Iterator[None]:
         """Context in which Ctrl-C is remembered and reported by `check`; a second Ctrl-C raises SessionAbandonedError. `first` is
         called at the first Ctrl-C."""
-        self._came, self._first = False, first
+        self._is_pressed, self._first = False, first
         before = signal.signal(signal.SIGINT, self._handle)
         try:
             yield
@@ -61,32 +61,32 @@ class Interrupts:
 
     def clear(self) -> None:
         """Forgets an earlier Ctrl-C after the interrupted work has ended."""
-        self._came = False
+        self._is_pressed = False
 
     def give_up(self) -> None:
         """Raises SessionAbandonedError, as does each later request."""
         self._is_given_up = True
         self.check_given_up()
 
-    def came(self) -> None:
+    def press(self) -> None:
         """Handles a Ctrl-C."""
-        if self._came:
+        if self._is_pressed:
             self._is_given_up = True
-        self._came = True
+        self._is_pressed = True
         self.check_given_up()
         if self._stops_at_once and not self._shields:
             self.check()
 
     def _handle(self, *_: object) -> None:
-        if not self._came:
+        if not self._is_pressed:
             self._first()
-        self.came()
+        self.press()
 
     def check(self) -> None:
         """Raises SearchInterruptedError if Ctrl-C was pressed, and SessionAbandonedError if it was pressed twice."""
         self.check_given_up()
-        if self._came:
-            self._came = False
+        if self._is_pressed:
+            self._is_pressed = False
             raise SearchInterruptedError
 
     def check_given_up(self) -> None:

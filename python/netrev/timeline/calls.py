@@ -43,7 +43,7 @@ def state_of(index: Index, call: Call) -> int:
 def shown_calls(recording: Recording, window: Window) -> list[Call]:
     """The calls of a window, in the order of their first steps."""
     calls = index_of(recording).book.calls
-    return [one for one in calls if one.first <= window.last and (not one.last or one.last >= window.first)]
+    return [call for call in calls if call.first <= window.last and (not call.last or call.last >= window.first)]
 
 
 WIDTHS = (
@@ -106,17 +106,17 @@ class Telling:
         texts."""
         stack = self._stack(call.first)
         if not call.last or call.outcome is not Outcome.DONE:
-            return self._told(call, stack)
+            return self._texts_of(call, stack)
         alike = call.name, call.moved, stack
         if alike not in self._known:
-            self._known[alike] = self._told(call, stack)
+            self._known[alike] = self._texts_of(call, stack)
         return self._known[alike]
 
-    def _told(self, call: Call, stack: int) -> tuple[int, ...]:
-        came, state = self.texts[self._came(call)], state_of(self._index, call)
-        return self.texts[name_of(self._recording, call)], came, self._line(stack), state, self._calls_of(stack)
+    def _texts_of(self, call: Call, stack: int) -> tuple[int, ...]:
+        result, state = self.texts[self._result(call)], state_of(self._index, call)
+        return self.texts[name_of(self._recording, call)], result, self._line(stack), state, self._calls_of(stack)
 
-    def _came(self, call: Call) -> str:
+    def _result(self, call: Call) -> str:
         """The result of a call, as text. A call that accepts a connection has no bytes."""
         if not call.last or (call.name == "Read" and not call.outcome.is_error and self._index.is_listening(call)):
             return ""
@@ -164,4 +164,4 @@ def runs_in(stack: Stack, of: Optional[str] = None) -> Optional[str]:
     """The outermost function in a stack; with `of`, the outermost function of that kind. The compiler's wrapper of a
     `go` or `defer` statement doesn't count."""
     functions = (call.function for call in reversed(stack.calls) if of in (None, call.of))
-    return next((one for one in functions if not WRAPPER.search(one)), None)
+    return next((function for function in functions if not WRAPPER.search(function)), None)

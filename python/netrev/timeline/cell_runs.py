@@ -7,7 +7,7 @@ from typing import Iterable, Iterator
 
 from netrev.connection.netrev import Netrev
 from netrev.connection.scout import Scout
-from netrev.connection.world import COUNTED_BY, made_at, room_for
+from netrev.connection.world import COUNTED_BY, count_at, room_for
 from netrev.messages import searches as messages
 from netrev.recording.changes import RecordedChanges
 from netrev.recording.recording import Recording
@@ -38,7 +38,7 @@ class Window:
 def runs_of(recording: Recording, scout: Scout, changes: RecordedChanges, window: Window) -> tuple[Runs, int]:
     """The runs of all cells and queues, and the number of positions at which the runs were compared with netrev's
     answers."""
-    cells = scout.look(window.last, partial(cells_made, recording))
+    cells = scout.look(window.last, partial(existing_cells, recording))
     start = dict(zip(cells, shown_of(scout, cells, window.first)))
     queues = Queues(start)
     runs: Runs = {cell: [(window.first, value)] for cell, value in start.items()}
@@ -51,10 +51,10 @@ def runs_of(recording: Recording, scout: Scout, changes: RecordedChanges, window
     return runs, len((first, *compared))
 
 
-def cells_made(recording: Recording, netrev: Netrev) -> list[str]:
+def existing_cells(recording: Recording, netrev: Netrev) -> list[str]:
     """All cells of the objects that exist at netrev's position, and the queues."""
-    made = {of: made_at(netrev, of, room_for(recording, of)) for of in COUNTED_BY}
-    numbered = (f"{name} {number}" for of, count in made.items() for number in range(count) for name in NAMES[of])
+    counts = {of: count_at(netrev, of, room_for(recording, of)) for of in COUNTED_BY}
+    numbered = (f"{name} {number}" for of, count in counts.items() for number in range(count) for name in NAMES[of])
     return [*NAMES[Of.ALL], *numbered]
 
 
@@ -84,9 +84,9 @@ class Queues:
         touched: dict[str, None] = {}
         for cell, value in changed:
             if cell.startswith("lock ") and f"rq {cell[5:]}" not in self._standing:
-                made = [f"{queue} {cell[5:]}" for queue in QUEUES]
-                self._standing |= {queue: [] for queue in made}
-                touched |= dict.fromkeys(made)
+                new_queues = [f"{queue} {cell[5:]}" for queue in QUEUES]
+                self._standing |= {queue: [] for queue in new_queues}
+                touched |= dict.fromkeys(new_queues)
             if cell.startswith("gor "):
                 touched |= dict.fromkeys(self._moved(cell, value))
         return ((queue, self.shown(queue)) for queue in touched)
@@ -112,8 +112,8 @@ def _queue(status: str) -> str:
 def _compare(scout: Scout, runs: Runs, position: int) -> None:
     """Compares all cells and queues with netrev's values at a position; raises UsageError if any value differs."""
     for (cell, run), shown in zip(runs.items(), shown_of(scout, runs, position)):
-        if shown != (told := value_at(run, position)):
-            words = {"cell": cell, "answer": shown, "position": position, "value": told}
+        if shown != (expected := value_at(run, position)):
+            words = {"cell": cell, "answer": shown, "position": position, "value": expected}
             raise UsageError(messages.VALUE_DIFFERS.format(**words))
 
 

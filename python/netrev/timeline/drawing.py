@@ -70,8 +70,8 @@ class Drawing:
         high = self._y + 10
         ground = f'<rect class="ground" width="{WIDE}" height="{high}"/>'
         head = f'<svg xmlns="http://www.w3.org/2000/svg" width="{WIDE}" height="{high}" viewBox="0 0 {WIDE} {high}" role="img">'
-        told = f"<title>{escape(plain(says))}</title><style>{STYLE}</style>"
-        return "\n".join([head, told, ground, *self._parts, "</svg>", ""])
+        title = f"<title>{escape(plain(says))}</title><style>{STYLE}</style>"
+        return "\n".join([head, title, ground, *self._parts, "</svg>", ""])
 
     def _x(self, position: float) -> float:
         return round(LEFT + (WIDE - LEFT - EDGE) * position / (self._recording.length + 1), 2)
@@ -107,13 +107,13 @@ class Drawing:
         peer = self._index.other_end(socket)
         self._parts.append(f'<rect class="head" y="{self._y + 1}" width="{WIDE}" height="{HIGH - 2}"/>')
         is_bad = self._story is not None and self._story["s"] == socket
-        told = f"connection {socket}" + ("" if peer is None else f" · other end: connection {peer}")
-        self._write(8, self._y + HIGH / 2, told, "bad" if is_bad else "soft")
+        heading = f"connection {socket}" + ("" if peer is None else f" · other end: connection {peer}")
+        self._write(8, self._y + HIGH / 2, heading, "bad" if is_bad else "soft")
         self._y += HIGH
         calls = self._index.by_socket[socket]
         for g in dict.fromkeys(call.goroutine for call in calls):
             self._write(12, self._y + HIGH / 2, fitted(f"g{g} {self._names.get(g, '')}", LEFT - 16), "name")
-            for call in (one for one in calls if one.goroutine == g):
+            for call in (call for call in calls if call.goroutine == g):
                 self._call(call)
             self._y += HIGH
         for use in Connections(self._recording, self._window).uses:
@@ -128,8 +128,8 @@ class Drawing:
             self._bar(begin, until, self._y + HIGH - 5.5, 3, "on" if state == FAILED else "sleep")
         wide = self._x(end) - self._x(call.first - 1)
         line = self._recording.lines.of(call.first).place()
-        came = ENDS.get(state) or call.came()
-        words = " · ".join(filter(None, (name_of(self._recording, call), came, line)))
+        result = ENDS.get(state) or call.came()
+        words = " · ".join(filter(None, (name_of(self._recording, call), result, line)))
         if shown := fitted(words, wide - 8):
             self._write(self._x(call.first - 1) + 4, self._y + HIGH / 2, shown, "on" if state == FAILED else "")
         elif state in (HANGS, FAILED):  # (in front of the bar, which is too short for the text)
@@ -146,7 +146,7 @@ class Drawing:
         """Draws the deadlines of a use of a descriptor, in a row for each side that has a deadline."""
         last = ends or self._recording.length + 1
         for side, name in (("rd", "read"), ("wd", "write")):
-            changes = [one for one in self._changes.changes_of(f"{side} {d}") if begins <= one[0] < last]
+            changes = [change for change in self._changes.changes_of(f"{side} {d}") if begins <= change[0] < last]
             spans = zip(changes, [*(step for step, _ in changes[1:]), last])
             shown = [(begin, end, value) for (begin, value), end in spans if value not in ("0", "absent")]
             if not shown:

@@ -27,7 +27,7 @@ def beside(recording: Recording, changes: RecordedChanges, scout: Scout) -> Iter
     suspects, causes = stories_data(scout, recording)
     begins = begins_at(recording)
     changed = by_cell(searched(changes, DEADLINES_AND_CLOCK))
-    cells = {cell: since(told, begins) for cell, told in changed.items()}
+    cells = {cell: since(run, begins) for cell, run in changed.items()}
     clock = cells.pop("clock", [])
     stories = chain.from_iterable(story_events(story, begins) for story in (*suspects, *causes))
     return chain(
@@ -35,10 +35,10 @@ def beside(recording: Recording, changes: RecordedChanges, scout: Scout) -> Iter
     )
 
 
-def since(told: Changed, begins: int) -> Changed:
+def since(run: Changed, begins: int) -> Changed:
     """The changes of a cell since a position, beginning with the cell's value at that position."""
-    before = [value for step, value in told if step <= begins]
-    return [(begins, before[-1]), *(one for one in told if one[0] > begins)] if begins and before else told
+    before = [value for step, value in run if step <= begins]
+    return [(begins, before[-1]), *(change for change in run if change[0] > begins)] if begins and before else run
 
 
 def call_events(recording: Recording) -> Iterator[str]:
@@ -73,8 +73,8 @@ class Telling:
             self._names[named] = name_of(self._recording, call)
         if stack not in self._lines:
             self._lines[stack] = of_json(plain(self._recording.lines.words(call.first)))
-        came = call.came()
-        name = f"{self._names[named]} on socket {call.socket}{': ' if came else ''}{came}"
+        result = call.came()
+        name = f"{self._names[named]} on socket {call.socket}{': ' if result else ''}{result}"
         if name not in self._texts:
             self._texts[name] = of_json(name)
         return self._texts[name], self._lines[stack]
@@ -88,9 +88,9 @@ class Telling:
 def deadline_events(cells: dict[str, Changed], length: int) -> Iterator[str]:
     """A thread for each side of a descriptor that has a deadline at any time, with a slice for each deadline."""
     named = False
-    for thread, (cell, told) in enumerate(cells.items()):
-        ends = [*(step for step, _ in told[1:]), length + 1]
-        slices = [(begin, end, value) for (begin, value), end in zip(told, ends) if value not in ("0", "absent")]
+    for thread, (cell, run) in enumerate(cells.items()):
+        ends = [*(step for step, _ in run[1:]), length + 1]
+        slices = [(begin, end, value) for (begin, value), end in zip(run, ends) if value not in ("0", "absent")]
         if not slices:
             continue
         if not named:

@@ -54,7 +54,7 @@ def write_timeline(session: Session, path: str, first: Optional[int] = None, las
             raise UsageError(messages.POSITIONS.format(last=recording.length))
         if last - first > MOST:
             raise UsageError(messages.PAGE_IS_FULL.format(most=MOST, path=path))
-    data = write_page(Shown.by(session, told_at_the_terminal), path, window)
+    data = write_page(Shown.by(session, show_progress), path, window)
     return f"{path}: positions {data['first']} to {data['last']}, {len(data['cells'])} cells; {data['calls']['count']} calls"
 
 
@@ -86,7 +86,7 @@ def write_page_beside(program: str, path: str, recording: Optional[Recording] = 
     return beside
 
 
-def told_at_the_terminal(text: str) -> None:
+def show_progress(text: str) -> None:
     """Prints the progress on a line of the terminal, which the next call overwrites. Prints nothing if errors don't go
     to a terminal."""
     if sys.stderr.isatty():
@@ -96,10 +96,10 @@ def told_at_the_terminal(text: str) -> None:
 
 def page(data: Data) -> str:
     """The HTML page for this data."""
-    told = plain_json(data).replace("<", "\\u003c")
+    json_text = plain_json(data).replace("<", "\\u003c")
     script = "\n".join(read_part(f"{name}.js") for name in SCRIPTS)
     text = read_part("timeline.html").replace("/*STYLE*/", read_part("timeline.css")).replace("/*SCRIPT*/", script)
-    return text.replace("/*DATA*/", told)
+    return text.replace("/*DATA*/", json_text)
 
 
 def read_part(name: str) -> str:
@@ -109,9 +109,9 @@ def read_part(name: str) -> str:
 
 def plain_json(value: Any) -> str:
     """The value in JSON. Each text in the value is escaped."""
-    told = of_json(value)
+    json_text = of_json(value)
     # (if a character of a text must be escaped, its JSON has a backslash)
-    return of_json(plainly(value)) if "\\" in told else told
+    return of_json(plainly(value)) if "\\" in json_text else json_text
 
 
 def plainly(value: Any) -> Any:
@@ -119,7 +119,7 @@ def plainly(value: Any) -> Any:
     if isinstance(value, str):
         return plain(value)
     if isinstance(value, dict):
-        return {plainly(key): plainly(one) for key, one in value.items()}
+        return {plainly(key): plainly(item) for key, item in value.items()}
     if not isinstance(value, (list, tuple)):
         return value
-    return value if NUMBERS.issuperset(map(type, value)) else [plainly(one) for one in value]  # (columns are long)
+    return value if NUMBERS.issuperset(map(type, value)) else [plainly(item) for item in value]  # (columns are long)

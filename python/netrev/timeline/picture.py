@@ -99,7 +99,7 @@ def whole_of(shown: Shown) -> Data:
         "peers": recording.lines.peers,
         "ticks": ticks_of(shown.changes),
         "times": times_of(recording, every, MOST_TIMES),
-        "shades": {name: vars(one) | {"of": one.of.value} for name, one in SHADES.items()},
+        "shades": {name: vars(shade) | {"of": shade.of.value} for name, shade in SHADES.items()},
         "suspects": suspects,
         "causes": causes,
     }
@@ -134,7 +134,7 @@ def steps_of(recording: Recording, window: Window) -> list[str]:
     behind = -1 if recording.has_answers else None
 
     def text_of(values: list[Any]) -> str:
-        return " ".join(shortened(str(one)) for one in values[:behind])
+        return " ".join(shortened(str(value)) for value in values[:behind])
 
     texts = [*([] if window.first else [""]), *recording.rows(text_of, max(window.first, 1), window.last + 1)]
     return texts + [""] * (window.last + 2 - window.first - len(texts))
@@ -159,6 +159,7 @@ def words_of(runs: Runs) -> dict[str, dict[str, str]]:
         if (name := cell.split()[0]) in CELLS:
             shown.setdefault(name, {}).update((value, None) for _, value in run)
     words = {
-        name: {value: said for value in values if (said := in_words(name, value))} for name, values in shown.items()
+        name: {value: meaning for value in values if (meaning := in_words(name, value))}
+        for name, values in shown.items()
     }
-    return {name: said for name, said in words.items() if said}
+    return {name: meaning for name, meaning in words.items() if meaning}

@@ -24,7 +24,9 @@ def sequence(recording: Recording, story: Optional[Data]) -> str:
 
 def spelled(text: str) -> str:
     """Text from outside, escaped for Mermaid: each character that has a meaning in Mermaid is written as a number."""
-    return "".join(one if one.isalnum() or one in PLAIN else f"#{ord(one)};" for one in plain(text))
+    return "".join(
+        character if character.isalnum() or character in PLAIN else f"#{ord(character)};" for character in plain(text)
+    )
 
 
 def _lines(recording: Recording, story: Optional[Data]) -> Iterator[str]:
@@ -39,14 +41,14 @@ def _lines(recording: Recording, story: Optional[Data]) -> Iterator[str]:
     numbers = {step: number for number, step in enumerate(story["steps"], 1)} if story else {}
     for number in range(1, recording.length + 1):
         step, g, s = recording.step(number), whose.goroutines[number - 1], whose.sockets[number - 1]
-        who = NETWORK if g < 0 else f"g{g}"
-        yield f"{who}->>{who if s < 0 else f's{s}'}: {number} {spelled(_told(step, recording))}"
+        participant = NETWORK if g < 0 else f"g{g}"
+        yield f"{participant}->>{participant if s < 0 else f's{s}'}: {number} {spelled(_step_text(step, recording))}"
         if number in numbers:
             line = recording.lines.words(number)
-            yield f"Note over {who}: {numbers[number]}. {spelled(line or step.kind)}"
+            yield f"Note over {participant}: {numbers[number]}. {spelled(line or step.kind)}"
 
 
-def _told(step: Step, recording: Recording) -> str:
+def _step_text(step: Step, recording: Recording) -> str:
     """A step as text, with its line, if known."""
     place = recording.lines.of(step.number).own()
     return str(step) + (f" ({place[0].place()})" if place else "")

@@ -19,11 +19,11 @@ class Shade:
 
 
 def _shades(of: Of, rows: str) -> dict[str, Shade]:
-    made = {}
+    shades = {}
     for row in rows.strip().splitlines():
         name, light, dark, says = row.split(None, 3)
-        made[name] = Shade(light, dark, says, of)
-    return made
+        shades[name] = Shade(light, dark, says, of)
+    return shades
 
 
 SHADES = {

@@ -44,7 +44,7 @@ def causes_data(recording: Recording) -> Iterator[Data]:
     hangs = graph.shown[:MOST_CAUSES]
     index = index_of(recording)
     first = failures_of(recording)[:MOST_CAUSES]
-    said = {cause.call.first for cause in first}
+    first_steps = {cause.call.first for cause in first}
     quiet = {hang.root.since for hang in hangs if hang.is_quiet} - {0}  # (hangs that may be normal share one story)
     for cause in first:
         yield cause_data(recording, cause, {*cause.steps, cause.call.last})
@@ -52,7 +52,7 @@ def causes_data(recording: Recording) -> Iterator[Data]:
         own = {waiter.since for waiter in hang.roots} - {0}
         yield hang_data(graph, hang, (quiet if hang.is_quiet else own) or {1})
     others = (call for call in failed_at(index, recording.length) if not is_by_go(recording, call))
-    for call in islice((call for call in others if call.first not in said), MOST_CAUSES):
+    for call in islice((call for call in others if call.first not in first_steps), MOST_CAUSES):
         cause = cause_of(index, call)
         yield cause_data(recording, cause, {*cause.steps, call.last})
 
@@ -84,8 +84,8 @@ def story_data(recording: Recording, rule: str, step: int, says: list[str], look
         for number in steps["steps"]
         if (words := recording.lines.words(number))
     ]
-    told = {"rule": rule, "step": step, "says": " ".join(says), "netrev": [], "lines": lines, "looks": looks}
-    return {**told, **steps}
+    story = {"rule": rule, "step": step, "says": " ".join(says), "netrev": [], "lines": lines, "looks": looks}
+    return {**story, **steps}
 
 
 def steps_data(recording: Recording, steps: set[int]) -> Data:

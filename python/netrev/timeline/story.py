@@ -121,10 +121,10 @@ def times_of(recording: Recording, window: Window, most: int) -> Data:
         return {}
     every = -(-(window.last - window.first) // most) or 1
     positions = [*range(window.first, window.last, every), window.last]
-    told = [times[max(position, 1) - 1] for position in positions]  # (the first time is that of the first step)
+    chosen = [times[max(position, 1) - 1] for position in positions]  # (the first time is that of the first step)
     return {
         "first": window.first,
         "last": window.last,
         "every": every,
-        "ns": [after - before for before, after in zip([0, *told], told)],
+        "ns": [after - before for before, after in zip([0, *chosen], chosen)],
     }

@@ -97,8 +97,8 @@ def _compared(scout: Scout, recording: Recording, changes: RecordedChanges) -> i
             statuses[cell] = value
             step, cell, value = next(changed, END)
         for cell_there, shown in zip(goroutines, scout.values(position, goroutines)):
-            if shown != (said := statuses[cell_there]):
-                words = {"cell": cell_there, "answer": shown, "position": position, "value": said}
+            if shown != (expected := statuses[cell_there]):
+                words = {"cell": cell_there, "answer": shown, "position": position, "value": expected}
                 raise UsageError(messages.STATUS_DIFFERS.format(**words))
     return len(compared)
 
@@ -122,7 +122,7 @@ class Tracing:
     def events_together(self, name: str, check: Callable[[], None]) -> Iterator[list[str]]:
         """All events in groups: names first, then slices and flows, step by step. Calls `check` for each group."""
         yield list(map(of_json, self._names(name)))
-        rows = zip(self.recording.rows(self._told), told_lines(self.recording.lines, self.recording.length))
+        rows = zip(self.recording.rows(self._step_parts), slice_ends(self.recording.lines, self.recording.length))
         steps = islice(rows, self.begins, None)
         changed = self._changed()
         upcoming, statuses, ticked = next(changed)
@@ -152,7 +152,7 @@ class Tracing:
         if self._since:
             yield [self._status(g, self._statuses[g], self.recording.length + 1) for g in sorted(self._since)]
 
-    def _told(self, values: list[Any]) -> tuple[Optional[int], str, str, str]:
+    def _step_parts(self, values: list[Any]) -> tuple[Optional[int], str, str, str]:
         """The parts of a step's line: the step's goroutine, its thread in the trace, the text up to the time, and the
         text up to the number."""
         words = values[:-1] if self._has_answers else values
@@ -161,7 +161,7 @@ class Tracing:
         process, thread = (GOROUTINES, mine) if mine is not None else (NETWORK, _thread(kind, words[1:]))
         text = " ".join(map(str, words))
         if len(text) > SHOWN:
-            text = " ".join([kind, *(shortened(str(one)) for one in words[1:])])
+            text = " ".join([kind, *(shortened(str(word)) for word in words[1:])])
         where = f'"pid":{process},"tid":{thread}'
         what = f',"dur":1,"name":{of_json(text)},"cat":"step","args":{{"step":'
         return mine, where, f'{{"ph":"X",{where},"ts":', what
@@ -248,9 +248,9 @@ def _thread(kind: str, arguments: list[Any]) -> int:
     return {"pollevent": POLLER, "pop": TIMERS, "fire": TIMERS}.get(kind, CLOCK)
 
 
-def told_lines(lines: Lines, length: int) -> Iterator[str]:
+def slice_ends(lines: Lines, length: int) -> Iterator[str]:
     """The end of each step's slice as text, with the program's line, if known. The text of each stack is made only
     once."""
     texts = {number: stack.words() for number, stack in lines.stacks.items()}
-    told = {number: f',"line":{of_json(plain(text))}}}}}' if text else "}}" for number, text in texts.items()}
-    return chain(map(told.__getitem__, lines.steps), repeat("}}", length - len(lines.steps)))
+    ends = {number: f',"line":{of_json(plain(text))}}}}}' if text else "}}" for number, text in texts.items()}
+    return chain(map(ends.__getitem__, lines.steps), repeat("}}", length - len(lines.steps)))

@@ -25,23 +25,23 @@ def tables_beside(
         yield timers
     if hit:
         yield marks_table(changes, hit, position)
-    told = [mark.what for mark in hit if mark.sort == "watch"]
-    if (changed := changed_table(changes, position, told)) and changed.rows:
+    watched = [mark.what for mark in hit if mark.sort == "watch"]
+    if (changed := changed_table(changes, position, watched)) and changed.rows:
         yield changed
 
 
-def changed_table(changes: RecordedChanges, position: int, told: Collection[str] = ()) -> Optional[Table]:
+def changed_table(changes: RecordedChanges, position: int, watched: Collection[str] = ()) -> Optional[Table]:
     """One line with the changes made by the step that led to the position, without the changes that were printed
     already; None at the start."""
     if not position:
         return None
     cells = sorted((cell for cell, _ in changes.at(position)), key=_order)
     changed = [(cell, *(changes.value(cell, at) for at in (position - 1, position))) for cell in cells]
-    said = dict.fromkeys(_spelled(*change) for change in changed if change[0] not in told)
-    if not said:
+    texts = dict.fromkeys(_spelled(*change) for change in changed if change[0] not in watched)
+    if not texts:
         return Table("changed", [] if changed else [Row({}, NOTHING)])
     rows = [Row({"cell": cell, "old": old, "new": new}, "") for cell, old, new in changed]
-    rows[0] = Row(rows[0].values, f"changed: {', '.join(said)}")
+    rows[0] = Row(rows[0].values, f"changed: {', '.join(texts)}")
     return Table("changed", rows)
 
 

@@ -63,8 +63,8 @@ def _numbers(recording: Recording, subject: Subject, position: int) -> Iterator[
         return
     book = book_of(recording).whose
     whose = {"gor": book.goroutines, "sock": book.sockets, "desc": book.descriptors}[subject.name]
-    for number, one in enumerate(whose[:position], 1):
-        if one == subject.number:
+    for number, owner in enumerate(whose[:position], 1):
+        if owner == subject.number:
             yield number
 
 
@@ -78,9 +78,9 @@ def _step_row(recording: Recording, step: Step) -> Row:
     timer, at = timer_of(recording, step), recording.lines.words(step.number)
     values = {"step": step.number, "line": step.line, "does": str(step), "timer": timer and timer._asdict()}
     answered = f", answered {answer_text(step.answer)}" if step.answer not in (None, "done") else ""
-    told = f"{step.number:>7}  {step}{answered}"
+    text = f"{step.number:>7}  {step}{answered}"
     return Row(
-        values | ({"at": at} if recording.lines else {}), f"{told:<56} {at or timer_words(recording, step)}".rstrip()
+        values | ({"at": at} if recording.lines else {}), f"{text:<56} {at or timer_words(recording, step)}".rstrip()
     )
 
 
@@ -116,8 +116,8 @@ def call_row(recording: Recording, call: Call, position: int) -> Row:
         "bytes": seen.moved,
         "outcome": seen.outcome.value if seen.last else None,
     }
-    told = f"gor {seen.goroutine:<4} {seen.words()}"
-    return Row(values | ({"at": at} if recording.lines else {}), f"{told:<72} {at}".rstrip())
+    text = f"gor {seen.goroutine:<4} {seen.words()}"
+    return Row(values | ({"at": at} if recording.lines else {}), f"{text:<72} {at}".rstrip())
 
 
 class NoDestinationError(NetrevError):

@@ -16,10 +16,10 @@ def grouped(rows: list[Row], who_has: Callable[[int, str], str]) -> list[Row]:
     alike: dict[Hashable, list[Row]] = {}
     for at, row in enumerate(rows):
         alike.setdefault(_likeness(row.values) or at, []).append(row)
-    told: list[Row] = []
+    result: list[Row] = []
     for some in alike.values():
-        told += [_group(some, who_has)] if len(some) >= MANY else some
-    return told
+        result += [_group(some, who_has)] if len(some) >= MANY else some
+    return result
 
 
 def _likeness(values: dict[str, Any]) -> Optional[Hashable]:
@@ -83,5 +83,5 @@ def _runs(numbers: list[int]) -> str:
             runs[-1][1] = number
         else:
             runs.append([number, number])
-    told = [str(first) if first == last else f"{first} to {last}" for first, last in runs[:RUNS]]
-    return ", ".join(told) + (" .." if len(runs) > RUNS else "")
+    ranges = [str(first) if first == last else f"{first} to {last}" for first, last in runs[:RUNS]]
+    return ", ".join(ranges) + (" .." if len(runs) > RUNS else "")

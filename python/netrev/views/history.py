@@ -32,9 +32,9 @@ def _row(recording: Recording, cell: str, number: int, old: str, new: str) -> Ro
     step = recording.step(number)
     words = in_words(cell, new)
     values = {"cell": cell, "step": number, "line": step.line, "does": str(step), "old": old, "new": new}
-    told = f"{number:>7}  {str(step):<30} {old} -> {new}"
+    text = f"{number:>7}  {str(step):<30} {old} -> {new}"
     behind = [f"({words})" if words else "", timer_words(recording, step)]
-    return Row({**values, "words": words or None}, "   ".join([told, *filter(None, behind)]))
+    return Row({**values, "words": words or None}, "   ".join([text, *filter(None, behind)]))
 
 
 def marks_table(changes: RecordedChanges, marks: Sequence[Listed], position: int) -> Table:
@@ -50,8 +50,8 @@ def marks_table(changes: RecordedChanges, marks: Sequence[Listed], position: int
         if what in before:
             values.update(old=before[what], new=now[what])
             words = in_words(what, now[what])
-            told = f"mark {number}: {what}: {before[what]} -> {now[what]}" + (f"   ({words})" if words else "")
+            text = f"mark {number}: {what}: {before[what]} -> {now[what]}" + (f"   ({words})" if words else "")
         else:
-            told = f"mark {number}: {sort} {what}"
-        rows.append(Row(values, told))
+            text = f"mark {number}: {sort} {what}"
+        rows.append(Row(values, text))
     return Table("marks", rows)

@@ -51,8 +51,8 @@ def holders_of(recording: Recording, changes: RecordedChanges, socket: int, posi
 
 def _given(held: list[Holding], goroutine: int, side: list[str]) -> Holding:
     """The reference that a step gives back: the newest reference of the same goroutine, if the goroutine has any."""
-    fits = [one for one in held if one.side == side]
-    own = [one for one in fits if one.goroutine == goroutine]
+    fits = [holding for holding in held if holding.side == side]
+    own = [holding for holding in fits if holding.goroutine == goroutine]
     return (own or fits or held)[-1]
 
 
@@ -68,6 +68,6 @@ def holders_table(world: World, changes: RecordedChanges, socket: int) -> Table:
 def _row(world: World, held: Reference) -> Row:
     status = world.value(f"gor {held.goroutine}")
     step = held.step
-    took = " ".join((step.kind, *(SIDES[side] for side in held.side)))
+    words = " ".join((step.kind, *(SIDES[side] for side in held.side)))
     values = {"goroutine": held.goroutine, "step": step.number, "line": step.line, "took": str(step), "status": status}
-    return Row(values, f"gor {held.goroutine:<4} since step {step.number} ({took}), now {status}")
+    return Row(values, f"gor {held.goroutine:<4} since step {step.number} ({words}), now {status}")

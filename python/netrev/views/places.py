@@ -14,7 +14,7 @@ DESCRIPTOR_CELLS = ("info", "rg", "wg", "rd", "wd", "fdseq")
 
 def sockets_table(world: World, numbers: Optional[Iterable[int]] = None, is_all: bool = False) -> Table:
     """The table of the sockets that aren't at rest, of all sockets, or of the sockets with these numbers."""
-    every = list(range(world.made(Of.SOCKET)) if numbers is None else numbers)
+    every = list(range(world.count(Of.SOCKET)) if numbers is None else numbers)
     cells = world.of_each(every, *SOCKET_CELLS)
     owners = {socket: descriptor for descriptor, socket in world.sockets_of_open().items()}
     rows = []
@@ -37,23 +37,23 @@ def _says_something(values: list[str], queues: list[list[int]]) -> bool:
 
 def _socket_row(number: int, values: list[str], queues: list[list[int]], descriptor: Optional[int]) -> Row:
     named = dict(zip(SOCKET_CELLS, values))
-    told = {"socket": number, **named, "rq": queues[0], "wq": queues[1], "descriptor": descriptor}
+    row_values = {"socket": number, **named, "rq": queues[0], "wq": queues[1], "descriptor": descriptor}
     if named["lock"] == "absent":
-        return Row(told, f"sock {number:<3} doesn't exist yet")
-    said = [lock_words(named["lock"])]
-    said += [f"queued to {SIDES[side]}: {' '.join(map(str, queue))}" for side, queue in zip("rw", queues) if queue]
-    said += [f"{sem} {named[sem]}" for sem in ("rsem", "wsem") if named[sem] != "0"]
-    said.append(f"in {counted(int(named['in']), 'byte')}, out {counted(int(named['out']), 'byte')}")
+        return Row(row_values, f"sock {number:<3} doesn't exist yet")
+    parts = [lock_words(named["lock"])]
+    parts += [f"queued to {SIDES[side]}: {' '.join(map(str, queue))}" for side, queue in zip("rw", queues) if queue]
+    parts += [f"{sem} {named[sem]}" for sem in ("rsem", "wsem") if named[sem] != "0"]
+    parts.append(f"in {counted(int(named['in']), 'byte')}, out {counted(int(named['out']), 'byte')}")
     if named["shut"] == "1":
-        said.append("write side shut")
-    said.append("no descriptor" if descriptor is None else f"descriptor {descriptor}")
-    return Row(told, f"sock {number:<3} {'; '.join(said)}")
+        parts.append("write side shut")
+    parts.append("no descriptor" if descriptor is None else f"descriptor {descriptor}")
+    return Row(row_values, f"sock {number:<3} {'; '.join(parts)}")
 
 
 def descriptors_table(world: World, numbers: Optional[Iterable[int]] = None, is_all: bool = False) -> Table:
     """The table of the open descriptors, of all descriptors, or of the descriptors with these numbers."""
     sockets = world.sockets_of_open()
-    every = list(range(world.made(Of.DESCRIPTOR)) if numbers is None else numbers)
+    every = list(range(world.count(Of.DESCRIPTOR)) if numbers is None else numbers)
     shown = [number for number in every if is_all or numbers is not None or number in sockets]
     cells = world.of_each(shown, *DESCRIPTOR_CELLS)
     rows = [_descriptor_row(number, cells[number], sockets.get(number)) for number in shown]
@@ -70,19 +70,19 @@ def rest_words(every: list[int], left: int, name: str, all_of_them: str) -> str:
 
 def _descriptor_row(number: int, values: list[str], socket: Optional[int]) -> Row:
     named = dict(zip(DESCRIPTOR_CELLS, values))
-    told: Values = {"descriptor": number, "open": socket is not None, "socket": socket, **named}
+    row_values: Values = {"descriptor": number, "open": socket is not None, "socket": socket, **named}
     if named["info"] == "absent":
-        return Row(told, f"desc {number:<3} doesn't exist yet")
+        return Row(row_values, f"desc {number:<3} doesn't exist yet")
     whose = "free" if socket is None else f"open for socket {socket}"
-    said = [
+    parts = [
         whose,
         f"rg {named['rg']}, wg {named['wg']}",
         f"rd {named['rd']}, wd {named['wd']}",
         f"use {named['fdseq']}",
     ]
     if named["info"] != "0":
-        said.append(info_words(named["info"]))
-    return Row(told, f"desc {number:<3} {'; '.join(said)}")
+        parts.append(info_words(named["info"]))
+    return Row(row_values, f"desc {number:<3} {'; '.join(parts)}")
 
 
 def timers_table(world: World) -> Table:
@@ -91,8 +91,8 @@ def timers_table(world: World) -> Table:
     values = dict(zip(names, world.values(list(names))))
     clock = int(values["clock"])
     first = "none is due" if values["least"] == "absent" else f"the first is due at {values['least']}"
-    said = f"clock {clock}; {values['timers']} armed, {first}; started and not run yet: {values['firings']}"
-    rows = [Row(values, said)]
+    text = f"clock {clock}; {values['timers']} armed, {first}; started and not run yet: {values['firings']}"
+    rows = [Row(values, text)]
     due = [
         (int(deadline), descriptor, side)
         for descriptor, deadlines in world.of_each(world.sockets_of_open(), "rd", "wd").items()
@@ -101,6 +101,6 @@ def timers_table(world: World) -> Table:
     ]
     for deadline, descriptor, side in sorted(due):
         when = f"in {deadline - clock} ns" if deadline > clock else "due"
-        told: Values = {"descriptor": descriptor, "side": side, "deadline": deadline}
-        rows.append(Row(told, f"{deadline:>10}  the {SIDES[side]} deadline of descriptor {descriptor}, {when}"))
+        row_values: Values = {"descriptor": descriptor, "side": side, "deadline": deadline}
+        rows.append(Row(row_values, f"{deadline:>10}  the {SIDES[side]} deadline of descriptor {descriptor}, {when}"))
     return Table("timers", rows)

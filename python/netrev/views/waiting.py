@@ -100,12 +100,14 @@ class Waits:
         """The goroutine's place in the queue of a lock, and the lock's holder."""
         queue = self._queues[socket, side]
         place = queue.places.get(goroutine)
-        said = f"place {place} of {len(queue.places)}, " if place else ""
+        place_words = f"place {place} of {len(queue.places)}, " if place else ""
         taking = queue.taking if queue.is_taken else None
         if taking:
-            return f"{said}goroutine {taking.argument('g')} has the lock since step {taking.number}"
+            return f"{place_words}goroutine {taking.argument('g')} has the lock since step {taking.number}"
         return (
-            f"{said}the lock is taken" if queue.is_taken else f"{said}nobody has that lock{self._owed(socket, queue)}"
+            f"{place_words}the lock is taken"
+            if queue.is_taken
+            else f"{place_words}nobody has that lock{self._owed(socket, queue)}"
         )
 
     def _owed(self, socket: int, queue: Queue) -> str:
@@ -124,26 +126,26 @@ class Waits:
     def _wait_words(self, descriptor: int, side: str) -> list[str]:
         """Describes a wait: the socket and its unread bytes, an event that the goroutine hasn't taken, and the
         deadline."""
-        world, said = self._world, []
+        world, parts = self._world, []
         if descriptor in self._sockets:
             socket = self._sockets[descriptor]
-            said.append(f"socket {socket}")
+            parts.append(f"socket {socket}")
             if side == "r" and (unread := world.number(f"in {socket}")):
-                said[-1] += f", whose input holds {counted(unread, 'byte')} unread"
+                parts[-1] += f", whose input holds {counted(unread, 'byte')} unread"
         word, deadline = world.values([f"{side}g {descriptor}", f"{side}d {descriptor}"])
         if word == "ready":
-            said.append("an event has come that it hasn't taken")
+            parts.append("an event has come that it hasn't taken")
         if deadline == "0":
-            return [*said, "no deadline"]
+            return [*parts, "no deadline"]
         if deadline.startswith("-"):
-            return [*said, f"the {SIDES[side]} deadline has passed"]
-        return [*said, f"deadline at {deadline}, now it is {world.value('clock')}"]
+            return [*parts, f"the {SIDES[side]} deadline has passed"]
+        return [*parts, f"deadline at {deadline}, now it is {world.value('clock')}"]
 
 
 def goroutines_table(world: World, numbers: Optional[Iterable[int]] = None, is_all: bool = False) -> Table:
     """The table of the goroutines that do something or wait, of all goroutines, or of the goroutines with these
     numbers. Waiting goroutines without a step in the recording come last."""
-    every = list(range(world.made(Of.GOROUTINE)) if numbers is None else numbers)
+    every = list(range(world.count(Of.GOROUTINE)) if numbers is None else numbers)
     statuses = {number: status for number, (status,) in world.of_each(every, "gor").items()}
     elsewhere = {wait.name: wait for wait in waits_of(world.recording).all_at(world.position)}
     shown = [

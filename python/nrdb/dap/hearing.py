@@ -115,7 +115,7 @@ class Hearing:
             self._interrupts.give_up()
         if not self._is_told and any(stops(request, one) for one in heard):
             self._is_told = True
-            self._interrupts.came()
+            self._interrupts.press()
 
     def _read(self) -> None:
         """Reads, in the thread, until the editor has gone or disconnects."""

@@ -2,7 +2,7 @@
 
 from typing import Callable, Optional
 
-from netrev.connection.world import made_at
+from netrev.connection.world import count_at
 from netrev.recording.recording import Recording
 from netrev.recording.where import OF_THE_PROGRAM
 from netrev.session.commands import COMMANDS, DIRECTIONS, PAGINATION, TOPICS, AmbiguousWordError, whole_words
@@ -34,7 +34,7 @@ def completions(line: str, session: Session) -> list[str]:
 
 def numbers_in(session: Session, of: Of) -> list[str]:
     """The numbers in use at the session's position."""
-    return [str(number) for number in range(made_at(session.netrev, of, MOST_NUMBERS))]
+    return [str(number) for number in range(count_at(session.netrev, of, MOST_NUMBERS))]
 
 
 def places_in(recording: Optional[Recording]) -> list[str]:

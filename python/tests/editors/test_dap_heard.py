@@ -304,7 +304,7 @@ class Pieces(unittest.TestCase):
 
             def paused(position: int, length: int) -> None:
                 if position >= 30:
-                    self.interrupts.came()
+                    self.interrupts.press()
 
             moves.tells = paused
             stop = moves.run(True)

@@ -160,7 +160,7 @@ def test_an_interrupted_wait_can_be_begun_anew(netrev: Path, tmp_path: Path) -> 
     script = f"echo 1 gor 1 = idle; while ! [ -e {tmp_path}/go ]; do sleep 0.05; done; echo ok 1 steps"
     changes, _ = arriving(netrev, script, interrupts)
     with interrupts.held():
-        interrupts.came()
+        interrupts.press()
         with pytest.raises(SearchInterruptedError):
             changes.steps_of("gor 1")
     assert changes.value("gor 1", 0) == "absent"

@@ -30,18 +30,18 @@ COMMANDS = (
 
 def once(weather: Weather[Modelled], netrev: Modelled) -> None:
     """Presses Ctrl-C."""
-    weather.interrupts.came()
+    weather.interrupts.press()
 
 
 def twice(weather: Weather[Modelled], netrev: Modelled) -> None:
     """Presses Ctrl-C twice, with nothing in between."""
-    weather.interrupts.came()
-    weather.interrupts.came()
+    weather.interrupts.press()
+    weather.interrupts.press()
 
 
 def twice_apart(weather: Weather[Modelled], netrev: Modelled) -> None:
     """Presses Ctrl-C, and presses it again a line later."""
-    weather.interrupts.came()
+    weather.interrupts.press()
     weather.left, weather.action = 0, once
 
 

@@ -112,7 +112,7 @@ def test_an_interrupted_wait_can_be_begun_anew(netrev: Path, tmp_path: Path) -> 
     script = f'echo "{LOST}"; while ! [ -e {tmp_path}/go ]; do sleep 0.05; done; echo ok 22 steps'
     listed = list_of(netrev, script, interrupts)
     with interrupts.held():
-        interrupts.came()
+        interrupts.press()
         with pytest.raises(SearchInterruptedError):
             listed.of(22)
     (tmp_path / "go").touch()

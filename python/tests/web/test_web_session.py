@@ -209,7 +209,7 @@ class Completed(Played):
 class Stopped(Played):
     def test_a_walk_is_stopped_and_the_session_goes_on(self) -> None:
         def stopped(_: Optional[int]) -> None:
-            self.interrupts.came()  # Ctrl-C in nrdb's terminal
+            self.interrupts.press()  # Ctrl-C in nrdb's terminal
             self.interrupts.check()
 
         with mock.patch.object(CHANGES, "_wait", stopped):

@@ -33,14 +33,14 @@ class Others:
 
     def is_as(self, other: "Others") -> bool:
         """Whether both have made the same progress."""
-        return self._untold() == other._untold() and self.places == other.places
+        return self._unreported() == other._unreported() and self.places == other.places
 
     def is_the_same_as(self, other: "Others") -> bool:
         """Whether both continue in exactly the same way."""
         mine = self.places, self.events, self.fresh, self.closed, self.tries
         return mine == (other.places, other.events, other.fresh, other.closed, other.tries)
 
-    def _untold(self) -> set[tuple[int, str]]:
+    def _unreported(self) -> set[tuple[int, str]]:
         return {which for which, is_fresh in self.fresh.items() if is_fresh and which[0] not in self.closed}
 
     def _row(self, actor: int, which: int) -> list[Item]:

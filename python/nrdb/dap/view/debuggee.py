@@ -86,7 +86,7 @@ class Debuggee:
 
     def numbers(self, of: Of) -> list[str]:
         """The numbers of the objects that exist at the position."""
-        return [str(number) for number in range(self.session.world().made(of))]
+        return [str(number) for number in range(self.session.world().count(of))]
 
     def say_nothing_yet(self) -> None:
         """Drops output that hasn't been shown."""

@@ -125,7 +125,7 @@ class Looks:
         network with the clock. The name of a goroutine's thread says what the goroutine does and, if known, its
         function and line in the program."""
         world, recording = self._world, self._debuggee.recording
-        statuses = world.of_each(range(world.made(Of.GOROUTINE)), "gor")
+        statuses = world.of_each(range(world.count(Of.GOROUTINE)), "gor")
         there = [goroutine for goroutine, (status,) in statuses.items() if status != "gone"]
         waits = {wait.name: wait for wait in waits_of(recording).all_at(self._debuggee.position)}
         stacks = self._stacks(there) if recording.lines else {}
@@ -257,9 +257,9 @@ class Looks:
         """All objects of a kind, each with its cells inside. A goroutine has only one cell."""
         world = self._world
         if of is Of.GOROUTINE:
-            return self.cells([f"gor {number}" for number in range(world.made(of))])
+            return self.cells([f"gor {number}" for number in range(world.count(of))])
         if of is Of.SOCKET:
-            rows = [(number, f"lock {number}") for number in range(world.made(of))]
+            rows = [(number, f"lock {number}") for number in range(world.count(of))]
         else:
             rows = [(number, f"info {number}") for number in world.sockets_of_open()]
         shown = self.cells([cell for _, cell in rows])

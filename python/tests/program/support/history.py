@@ -23,7 +23,7 @@ from itertools import accumulate
 from typing import Any, NamedTuple, Optional, Sequence
 
 from netrev.errors import NetrevError
-from netrev.machine.debugger import CHECKPOINTS_FULL, FULL, MARKS_FULL, Asked, Recording, Reply, State, is_command
+from netrev.machine.debugger import CHECKPOINTS_FULL, FULL, MARKS_FULL, Request, Recording, Reply, State, is_command
 
 from .sharing import Exchange
 

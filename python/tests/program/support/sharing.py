@@ -18,7 +18,7 @@ from itertools import count
 from pathlib import Path
 
 from netrev.errors import NetrevError
-from netrev.machine.debugger import FULL, Asked, Reply, is_command, read_line
+from netrev.machine.debugger import FULL, Request, Reply, is_command, read_line
 
 ROOT = Path(__file__).resolve().parents[4]
 NETREV = os.path.abspath(os.environ.get("NETREV", ROOT / "crates/netrev/out/netrev"))
@@ -31,7 +31,7 @@ class Exchange:
     """A line and its reply. `sent` and `read` say when the line was sent and its reply was read, as numbers that count
     these events over all fronts."""
 
-    asked: Asked
+    asked: Request
     line: bytes
     sent: int
     reply: Reply = ()
