@@ -161,8 +161,8 @@ def refused(wanted: argparse.Namespace, netrev: Netrev, first: str, printer: Pri
     if wanted.join and not first.startswith("fault "):
         raise StrangeReplyError("info position", first)
     printer.reply("", Reply(first), "")
-    for told in explained(wanted.netrev, wanted.file, first) if wanted.file else ():
-        printer.note(told)
+    for line in explained(wanted.netrev, wanted.file, first) if wanted.file else ():
+        printer.note(line)
     return netrev.close() or REFUSED
 
 
@@ -187,7 +187,7 @@ def played(session: Session, wanted: argparse.Namespace) -> int:
         return unless_stopped(session, lambda: schedules_tried(session, wanted.explore_failures))
     for name, write in WRITERS.items():
         if (file := getattr(wanted, name)) is not None:
-            return unless_stopped(session, partial(made, session, file, write, wanted.part))
+            return unless_stopped(session, partial(write_file, session, file, write, wanted.part))
     if wanted.web is not None:
         from .web import serve_page
 
@@ -220,12 +220,12 @@ def schedules_tried(session: Session, is_of_failures: bool) -> int:
     """Explores, and returns the exit status."""
     from netrev.explore import explored
 
-    said = explored(session, is_of_failures=is_of_failures)
-    session.printer.note(said.text)
-    return SUSPECTS if said.found else DONE
+    result = explored(session, is_of_failures=is_of_failures)
+    session.printer.note(result.text)
+    return SUSPECTS if result.found else DONE
 
 
-def made(session: Session, path: str, write: Callable[..., str], part: Sequence[int]) -> int:
+def write_file(session: Session, path: str, write: Callable[..., str], part: Sequence[int]) -> int:
     """Writes a file, reports it, and returns the exit status. A timeline may show only a part of the recording."""
     session.printer.note(write(session, path, *part))
     return DONE

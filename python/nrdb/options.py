@@ -44,60 +44,60 @@ class Version(argparse.Action):
 
 def parser() -> Words:
     """The options of nrdb."""
-    made = Words(
+    options = Words(
         prog="nrdb", description=DESCRIPTION, epilog=EXAMPLE, formatter_class=argparse.RawDescriptionHelpFormatter
     )
-    made.add_argument("--version", nargs=0, action=Version, help="print the versions of nrdb and netrev, and exit")
-    made.add_argument("file", nargs="?", metavar="FILE", help="the recording")
-    made.add_argument(
+    options.add_argument("--version", nargs=0, action=Version, help="print the versions of nrdb and netrev, and exit")
+    options.add_argument("file", nargs="?", metavar="FILE", help="the recording")
+    options.add_argument(
         "-x", dest="lines", action=InOrder, const="source", metavar="FILE", help="run the commands in FILE"
     )
-    made.add_argument("-ex", dest="lines", action=InOrder, const="line", metavar="COMMAND", help="run COMMAND")
-    made.add_argument("--batch", "-batch", action="store_true", help="exit after -x and -ex instead of prompting")
-    made.add_argument("--json", action="store_true", help="print a line of JSON for each event")
-    made.add_argument(
+    options.add_argument("-ex", dest="lines", action=InOrder, const="line", metavar="COMMAND", help="run COMMAND")
+    options.add_argument("--batch", "-batch", action="store_true", help="exit after -x and -ex instead of prompting")
+    options.add_argument("--json", action="store_true", help="print a line of JSON for each event")
+    options.add_argument(
         "--suspects",
         action="store_true",
         help="print the suspects after -x and -ex, and exit; the status is 4 if there are any",
     )
-    made.add_argument(
+    options.add_argument(
         "--timeline",
         metavar="OUT.html [FROM TO]",
         help="write the timeline after -x and -ex, and exit; FROM TO limits the values to these positions",
     )
-    made.add_argument("--trace", metavar="OUT.json", help="write all steps for Perfetto after -x and -ex, and exit")
-    made.add_argument(
+    options.add_argument("--trace", metavar="OUT.json", help="write all steps for Perfetto after -x and -ex, and exit")
+    options.add_argument(
         "--reduce", metavar="OUT.jsonl", help="write the smallest recording that still has the first suspect, and exit"
     )
-    made.add_argument(
+    options.add_argument(
         "--explore",
         action="store_true",
         help="run schedules near the recorded one after -x and -ex, print those that end with a suspect, and exit; the status is 4 if "
         "there are any",
     )
-    made.add_argument(
+    options.add_argument(
         "--explore-failures",
         action="store_true",
         help="like --explore, for schedules in which a call that succeeded fails",
     )
-    made.add_argument("--join", metavar="HOST:PORT", help="join a session that `netrev serve` shares")
-    made.add_argument(
+    options.add_argument("--join", metavar="HOST:PORT", help="join a session that `netrev serve` shares")
+    options.add_argument(
         "--dap", action="store_true", help="serve an editor over standard input and output (Debug Adapter Protocol)"
     )
-    made.add_argument(
+    options.add_argument(
         "--dap-port",
         metavar="PORT",
         type=int,
         help="serve editors on a port of 127.0.0.1, one after the other; a launch needs the token that is printed",
     )
-    made.add_argument(
+    options.add_argument(
         "--web",
         metavar="PORT",
         type=int,
         help="serve a page for browsers on a port of 127.0.0.1 instead of prompting",
     )
-    made.add_argument("--netrev", default=netrev_program() or str(BUILT), metavar="PROGRAM", help="netrev's program")
-    return made
+    options.add_argument("--netrev", default=netrev_program() or str(BUILT), metavar="PROGRAM", help="netrev's program")
+    return options
 
 
 def parsed(words: Sequence[str]) -> argparse.Namespace:

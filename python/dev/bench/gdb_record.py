@@ -72,10 +72,10 @@ def measured(program, rounds, folder):
     script.write_text(SCRIPT, encoding="ascii")
     words = ["gdb", "-nx", "-batch", "-x", script, "--args", program, str(rounds)]
     ended = subprocess.run(words, stdin=subprocess.DEVNULL, capture_output=True, text=True, check=True)
-    whole, took = WHOLE.search(ended.stdout), dict(TOOK.findall(ended.stdout))
-    if not whole or len(took) < 3:
+    whole, times = WHOLE.search(ended.stdout), dict(TOOK.findall(ended.stdout))
+    if not whole or len(times) < 3:
         raise ValueError(f"gdb recorded nothing:\n{ended.stdout}{ended.stderr}")
-    return int(whole[1]), {name: float(seconds) for name, seconds in took.items()}
+    return int(whole[1]), {name: float(seconds) for name, seconds in times.items()}
 
 
 def seconds_alone(program):
@@ -91,7 +91,7 @@ def main(rounds):
         alone = min(seconds_alone(program) for _ in range(RUNS))
         runs = [measured(program, rounds, Path(folder)) for _ in range(RUNS)]
     whole = runs[0][0]
-    least = {name: min(took[name] for _, took in runs) for name in runs[0][1]}
+    least = {name: min(times[name] for _, times in runs) for name in runs[0][1]}
     print("| GDB's `record full` | a second |")
     print("|---|--:|")
     print(f"| rounds without GDB | {ALONE / alone:,.0f} |")

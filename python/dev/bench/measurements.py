@@ -29,14 +29,14 @@ def replies_to(process: "subprocess.Popen[bytes]", lines: bytes) -> bytes:
     sender = threading.Thread(target=process.stdin.write, args=(lines,))
     sender.start()
     left = lines.count(b"\n")
-    came = []
+    pieces = []
     while left > 0:
-        came.append(os.read(process.stdout.fileno(), 1 << 16))
-        if not came[-1]:
+        pieces.append(os.read(process.stdout.fileno(), 1 << 16))
+        if not pieces[-1]:
             break
-        left -= came[-1].count(b"\n")
+        left -= pieces[-1].count(b"\n")
     sender.join()
-    return b"".join(came)
+    return b"".join(pieces)
 
 
 def greatest_memory(process: "subprocess.Popen[bytes]") -> int:

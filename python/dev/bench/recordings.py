@@ -19,11 +19,11 @@ AT_A_TIME = 100
 CHECKPOINTS = 64
 RESTARTS = 1_000
 BUFFER = 65_536  # bytes, as in the headers that netrev-go writes
-Asked = tuple[str, Optional[str]]  # a line and its expected reply; None if the first program's reply is right
-LOOK: Asked = ("print lock 0", None)
+Query = tuple[str, Optional[str]]  # a line and its expected reply; None if the first program's reply is right
+LOOK: Query = ("print lock 0", None)
 
 
-def beginning(places: list[int]) -> Iterator[Asked]:
+def beginning(places: list[int]) -> Iterator[Query]:
     """Marks that never hit, and checkpoints."""
     yield from (("break @4294967295", "mark 1"), ("watch lock 4294967295", "mark 2"))
     for number, place in enumerate(places, 1):
@@ -32,7 +32,7 @@ def beginning(places: list[int]) -> Iterator[Asked]:
     yield from (("restart 0", "at 0"), LOOK)
 
 
-def walk(steps: int) -> Iterator[Asked]:
+def walk(steps: int) -> Iterator[Query]:
     """A walk to the end and back."""
     stops = [*range(0, steps, AT_A_TIME), steps]
     for before, stop in zip(stops, stops[1:]):
@@ -42,7 +42,7 @@ def walk(steps: int) -> Iterator[Asked]:
         yield from ((f"reverse-stepi {before - stop}", f"at {stop}"), LOOK)
 
 
-def restarts(places: list[int], dice: random.Random) -> Iterator[Asked]:
+def restarts(places: list[int], dice: random.Random) -> Iterator[Query]:
     for _ in range(RESTARTS):
         number = dice.randrange(len(places))
         yield from ((f"restart {number + 1}", f"at {places[number]}"), LOOK)
@@ -56,7 +56,7 @@ class Recording:
         self.name, self.file, self.steps = name, file, steps
         dice = random.Random(1)
         places = [dice.randint(1, steps) for _ in range(CHECKPOINTS)]
-        self.parts: dict[str, list[Asked]] = {
+        self.parts: dict[str, list[Query]] = {
             "begin": list(beginning(places)),
             "walk": list(walk(steps)),
             "continue": [("continue", f"at {steps} end")],
@@ -69,12 +69,12 @@ class Recording:
 
     def expect(self, program: str, part: str, replies: bytes) -> None:
         """Compares a program's replies with the expected replies."""
-        asked = self.parts[part]
-        came = replies.decode().splitlines()
-        for index, (line, right) in enumerate(asked):
-            reply = came[index] if index < len(came) else "nothing"
+        queries = self.parts[part]
+        lines = replies.decode().splitlines()
+        for index, (line, right) in enumerate(queries):
+            reply = lines[index] if index < len(lines) else "nothing"
             if right is None:
-                asked[index] = (line, reply)
+                queries[index] = (line, reply)
             elif reply != right:
                 raise WrongResultError(f"{program}: {self.file.name}: {line}: {reply}, not {right}")
 

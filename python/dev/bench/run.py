@@ -161,13 +161,17 @@ def show(text: str) -> None:
 def show_ratios(sorts: list[Sort]) -> None:
     """Prints the ratios to the baseline, by instructions and by time side by side."""
     sizes = ", ".join(f"{sort.name} at {sort.sizes[-1]:,} steps" for sort in sorts)
-    show(side_by_side(f"ratio to the baseline; {sizes}", {one.name: one.own.at(one.sizes[-1]) for one in sorts}, True))
+    show(
+        side_by_side(
+            f"ratio to the baseline; {sizes}", {sort.name: sort.own.at(sort.sizes[-1]) for sort in sorts}, True
+        )
+    )
     for sockets in SOCKETS:
-        large = {one.name: one.large[sockets] for one in sorts}
+        large = {sort.name: sort.large[sockets] for sort in sorts}
         show(side_by_side(f"{sockets} sockets; each at {sorts[0].sizes[0]:,} steps", large, True))
     if sorts[0].servers:
-        show(side_by_side("runs of servers", {one.name: one.servers for one in sorts}, False))
-    show(mean_table([one.own for one in sorts]))
+        show(side_by_side("runs of servers", {sort.name: sort.servers for sort in sorts}, False))
+    show(mean_table([sort.own for sort in sorts]))
 
 
 def show_writes(programs: Programs, folder: Path, steps: int) -> None:

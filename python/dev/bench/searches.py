@@ -64,7 +64,7 @@ def search(recording, workers, sessions):
     with ThreadPoolExecutor(sessions) as pool:
         begun = [pool.submit(session, recording, STEPS, workers, RUNS, start) for _ in range(sessions)]
         seconds = [it.result() for it in begun]
-    rates = [sum(STEPS / one for one in run) for run in zip(*seconds)]
+    rates = [sum(STEPS / duration for duration in run) for run in zip(*seconds)]
     return [max(rates[number::2]) for number in (0, 1)]
 
 

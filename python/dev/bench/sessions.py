@@ -27,10 +27,10 @@ def run_piped(recording, lines, replies):
     counted."""
     seconds = []
     for count in (0, MANY // len(lines)):
-        asked = "".join(f"{line}\n" for line in lines) * count
+        queries = "".join(f"{line}\n" for line in lines) * count
         began = time.perf_counter()
         words = [NETREV, "run", recording]
-        ended = subprocess.run(words, input=asked.encode(), capture_output=True, timeout=60, check=True)
+        ended = subprocess.run(words, input=queries.encode(), capture_output=True, timeout=60, check=True)
         seconds.append(time.perf_counter() - began)
         expect("the last replies", replies(count), ended.stdout.decode().splitlines()[-len(lines) :])
     return seconds[1] - seconds[0]
@@ -59,10 +59,10 @@ def place(caller, count):
     sender.start()
     left = count
     while left:
-        came = caller.recv(1 << 16)
-        if not came:
+        data = caller.recv(1 << 16)
+        if not data:
             raise WrongResultError("a connection ended before all was answered")
-        left -= came.count(b"\n")
+        left -= data.count(b"\n")
     sender.join()
     return time.perf_counter() - began
 

@@ -76,12 +76,12 @@ def columns(with_before: bool) -> list[str]:
 
 def cells(figures: Figures, name: str, with_before: bool) -> list[str]:
     """One figure at one size in these columns; a column is empty if its program wasn't measured."""
-    there = {program: written(figures[program][name]) for program in PROGRAMS if program in figures}
+    by_column = {program: written(figures[program][name]) for program in PROGRAMS if program in figures}
     if BASELINE in figures:
-        there[f"{NOW} / {BASELINE}"] = f"{quotient(figures, name, NOW, BASELINE):.1f}"
+        by_column[f"{NOW} / {BASELINE}"] = f"{quotient(figures, name, NOW, BASELINE):.1f}"
     if BEFORE in figures:
-        there[f"{NOW} / {BEFORE}"] = f"{quotient(figures, name, NOW, BEFORE):.2f}"
-    return [there.get(column, "") for column in columns(with_before)]
+        by_column[f"{NOW} / {BEFORE}"] = f"{quotient(figures, name, NOW, BEFORE):.2f}"
+    return [by_column.get(column, "") for column in columns(with_before)]
 
 
 def grown(measured: Measurement, shape: str, name: str) -> Iterator[str]:
@@ -127,8 +127,10 @@ def mean_table(measurements: Sequence[Measurement]) -> str:
         steps = measured.sizes[-1]
         head += under(f"{measured.sort}, {steps:,} steps", measured.netrevs)
         for row in rows:
-            there = row[0] in measured.titles
-            row += [f"{measured.mean(steps, one, row[0]):.1f}" if there else "" for one in measured.netrevs]
+            is_measured = row[0] in measured.titles
+            row += [
+                f"{measured.mean(steps, version, row[0]):.1f}" if is_measured else "" for version in measured.netrevs
+            ]
     return table(head, rows)
 
 

@@ -108,17 +108,17 @@ def play(
 
 
 def main(words: Optional[Sequence[str]] = None) -> int:
-    asked = arguments(words)
+    options = arguments(words)
     netrev = os.environ.get("NETREV") or str(ROOT / "crates/netrev/out/netrev")
     if not Path(netrev).is_file():
         print(f"no program at {netrev}: `make netrev` builds it, or NETREV names another", file=sys.stderr)
         return 2
     met = Met()
-    if asked.again or asked.case:
-        return int(play_one(netrev, kept(asked.again) if asked.again else case_of(asked.case), met))
-    seed = asked.seed or f"{time.time_ns() // 1_000_000}"
-    print(f"seed {seed}, {asked.minutes:g} minutes", flush=True)
-    found = play(netrev, seed, met, asked.minutes, asked.cases, of=asked.of or "")
+    if options.again or options.case:
+        return int(play_one(netrev, kept(options.again) if options.again else case_of(options.case), met))
+    seed = options.seed or f"{time.time_ns() // 1_000_000}"
+    print(f"seed {seed}, {options.minutes:g} minutes", flush=True)
+    found = play(netrev, seed, met, options.minutes, options.cases, of=options.of or "")
     print("\n".join(met.lines()))
     commands, steps = sum(met.commands.values()), sum(met.answers.values())
     print(f"{sum(met.cases.values())} cases, {steps} steps, {commands} lines that ask: {found} differences")

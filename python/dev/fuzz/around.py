@@ -106,7 +106,7 @@ def seeds(seed: str, sorts: Sequence[str], cases: Optional[int], until: float) -
         left = [sort for sort in sorts if cases is None or played[sort] < cases]
         if not left:
             return
-        sort = min(left, key=lambda one: spent[one])
+        sort = min(left, key=lambda kind: spent[kind])
         played[sort] += 1
         begun = time.monotonic()
         yield f"{seed}-{sort}-{played[sort]}"
@@ -133,16 +133,16 @@ def main(words: Optional[Sequence[str]] = None) -> int:
     parser.add_argument("--seed", default="")
     parser.add_argument("--of", choices=tuple(SORTS), action="append", help="runs only cases of this kind")
     parser.add_argument("--case", metavar="SEED", help="runs this case")
-    asked = parser.parse_args(words)
+    options = parser.parse_args(words)
     program = os.environ.get("NETREV") or str(ROOT / "crates/netrev/out/netrev")
     if not Path(program).is_file():
         print(f"no program at {program}: `make netrev` builds it, or NETREV names another", file=sys.stderr)
         return 2
-    seed = asked.seed or f"{time.time_ns() // 1_000_000}"
-    until = time.monotonic() + 60 * asked.minutes
-    print(f"seed {asked.case or seed}", flush=True)
+    seed = options.seed or f"{time.time_ns() // 1_000_000}"
+    until = time.monotonic() + 60 * options.minutes
+    print(f"seed {options.case or seed}", flush=True)
     played, found = play(
-        program, iter([asked.case]) if asked.case else seeds(seed, asked.of or tuple(SORTS), asked.cases, until)
+        program, iter([options.case]) if options.case else seeds(seed, options.of or tuple(SORTS), options.cases, until)
     )
     print(f"{', '.join(f'{count} {sort}' for sort, count in sorted(played.items()))}: {found} faults")
     return int(found > 0)

@@ -57,7 +57,7 @@ class Watched:
     while a line is answered."""
 
     def __init__(self) -> None:
-        self.asked: list[str] = []
+        self.events: list[str] = []
         self.is_on = False
         sys.addaudithook(self._hook)
 
@@ -69,7 +69,7 @@ class Watched:
                 and os.fsdecode(named) != os.devnull
                 and not is_of_python(named)
             ):
-                self.asked.append(f"{event} {os.fsdecode(named)}")
+                self.events.append(f"{event} {os.fsdecode(named)}")
 
 
 def is_of_python(name: Any) -> bool:
@@ -80,7 +80,7 @@ def is_of_python(name: Any) -> bool:
 WATCHED = Watched()
 
 
-class Told(Streams):
+class StoredStreams(Streams):
     """Stores what is sent to browsers."""
 
     def __init__(self) -> None:
@@ -113,17 +113,17 @@ def wrong(seed: str, folder: Path, program: str) -> str:
     path = folder / "recording.jsonl"
     path.write_bytes(write_plain(recording))
     path.with_suffix(".where").write_text("mine", encoding="ascii")
-    told, here = Told(), os.getcwd()
+    streams, here = StoredStreams(), os.getcwd()
     os.chdir(folder)
     try:
         with session_over(program, path, Collecting()) as session:
-            shared = Shared.over(session, told)
-            return typed(dice, shared, told, len(recording.steps)) or files_wrong(folder)
+            shared = Shared.over(session, streams)
+            return typed(dice, shared, streams, len(recording.steps)) or files_wrong(folder)
     finally:
         os.chdir(here)
 
 
-def typed(dice: random.Random, shared: Shared, told: Told, length: int) -> str:
+def typed(dice: random.Random, shared: Shared, streams: StoredStreams, length: int) -> str:
     """Sends lines, and returns the fault of an answer, if any."""
     for _ in range(dice.choice([5, 30])):
         data = body(dice, length)
@@ -131,15 +131,15 @@ def typed(dice: random.Random, shared: Shared, told: Told, length: int) -> str:
             line = line_of(data)
         except RejectedRequestError:
             continue
-        WATCHED.asked.clear()
+        WATCHED.events.clear()
         WATCHED.is_on = True
         try:
             shared.run_for("browser 1", line)
         finally:
             WATCHED.is_on = False
-        if WATCHED.asked:
-            return f"{line!r} asks for {WATCHED.asked[0]}"
-    sent = b"".join(told.sent)
+        if WATCHED.events:
+            return f"{line!r} asks for {WATCHED.events[0]}"
+    sent = b"".join(streams.sent)
     return "" if sent.isascii() and b"\x1b" not in sent else "the output has characters that a page must not show"
 
 

@@ -91,11 +91,11 @@ def lines(dice: random.Random) -> Made:
     """Many bad lines, and bytes that aren't lines, over a short recording."""
     recording, _ = Author(dice).recording(dice.choice([0, 3, 10]))
     speaker = Speaker(dice, recording.steps)
-    said = [dice.choice(NONSENSE) if dice.random() < 0.5 else speaker.line() for _ in range(40)]
+    sent = [dice.choice(NONSENSE) if dice.random() < 0.5 else speaker.line() for _ in range(40)]
     if dice.random() < 0.3:
-        said += [b"checkpoint"] * 66 + [b"break @1"] * 66
-        dice.shuffle(said)
-    script = b"\n".join(said)
+        sent += [b"checkpoint"] * 66 + [b"break @1"] * 66
+        dice.shuffle(sent)
+    script = b"\n".join(sent)
     for _ in range(dice.randint(0, 5)):
         place = dice.randint(0, len(script))
         script = script[:place] + dice.choice([dice.randbytes(2), b"\n", b"\r\n", b" "]) + script[place:]

@@ -132,7 +132,7 @@ def followed(program: str, path: str, lines: Sequence[str], weather: Weather, ju
         for line in lines:
             out.seek(0)
             out.truncate()
-            ended = told_all(session, line)
+            ended = end_of(session, line)
             for event in map(json.loads, out.getvalue().splitlines()):
                 met["events"] += 1
                 if wrong := judge.wrong(line, event):
@@ -149,7 +149,7 @@ def followed(program: str, path: str, lines: Sequence[str], weather: Weather, ju
     return ""
 
 
-def told_all(session: Session, line: str) -> str:
+def end_of(session: Session, line: str) -> str:
     """Answers a line, and returns how the session ended, if it did."""
     try:
         heard(lambda: session.run(line))

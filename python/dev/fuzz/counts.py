@@ -52,17 +52,17 @@ class Met(Observer):
         reasons: Counter[int] = Counter()
         for (_, reason), count in self.reasons.items():
             reasons[reason] += count
-        yield f"cases: {told(self.cases)}" + (f"; not judged {self.doubted}" if self.doubted else "")
-        yield f"faults: {told(self.faults)}"
-        yield f"reasons: {told(dict(sorted(reasons.items())))}"
-        yield f"recorded answers that differ: {told(self.others)}"
+        yield f"cases: {counts_text(self.cases)}" + (f"; not judged {self.doubted}" if self.doubted else "")
+        yield f"faults: {counts_text(self.faults)}"
+        yield f"reasons: {counts_text(dict(sorted(reasons.items())))}"
+        yield f"recorded answers that differ: {counts_text(self.others)}"
         yield f"steps: {sum(self.answers.values())}, of these"
         for kind in KINDS:
             refused = {f"reason {reason}": count for (of, reason), count in sorted(self.reasons.items()) if of == kind}
-            yield f"    {kind}: {told({**kinds.get(kind, {}), **refused})}"
-        yield f"lines that ask: {told(self.commands)}"
-        yield f"replies: {told(self.replies)}"
-        yield f"sessions of nrdb: {told(self.nrdb)}"
+            yield f"    {kind}: {counts_text({**kinds.get(kind, {}), **refused})}"
+        yield f"lines that ask: {counts_text(self.commands)}"
+        yield f"replies: {counts_text(self.replies)}"
+        yield f"sessions of nrdb: {counts_text(self.nrdb)}"
 
 
 def name_of(answer: Answer) -> str:
@@ -87,5 +87,5 @@ def first_words(reply: str) -> str:
     return " ".join(word for word in reply.split() if not word.isdigit())
 
 
-def told(counts: Mapping[Any, int]) -> str:
+def counts_text(counts: Mapping[Any, int]) -> str:
     return ", ".join(f"{name} {count}" for name, count in counts.items()) or "none"

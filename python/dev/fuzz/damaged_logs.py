@@ -173,9 +173,9 @@ def log_of(seed: str) -> bytes:
         return bytes(dice.choice(OF_BYTES)(dice, bytearray(data)))
     points = dice.choice(OF_POINTS)(dice, list(log.points))
     numbered = [point._replace(number=number) for number, point in enumerate(points)]
-    made = bytearray(binary(numbered, log.stacks, log.begin, room=len(numbered) + 5))
-    struct.pack_into("<Q", made, 11 * 8, dice.randrange(2))  # whether the log has the program's orders
-    return bytes(made)
+    content = bytearray(binary(numbered, log.stacks, log.begin, room=len(numbered) + 5))
+    struct.pack_into("<Q", content, 11 * 8, dice.randrange(2))  # whether the log has the program's orders
+    return bytes(content)
 
 
 def tests_of(seed: str) -> bytes:
@@ -196,18 +196,18 @@ def wrong(seed: str, folder: Path) -> str:
     reading, writing = os.pipe()
     process = os.fork()
     if process == 0:
-        said = "it ended by itself"
+        fault = "it ended by itself"
         try:
             os.close(reading)
-            said = confined(seed, folder)
+            fault = confined(seed, folder)
         finally:
-            os.write(writing, said.encode())
+            os.write(writing, fault.encode())
             os._exit(0)
     os.close(writing)
-    with open(reading, encoding="utf-8") as told:
-        said = told.read()
+    with open(reading, encoding="utf-8") as stream:
+        fault = stream.read()
     status = os.waitstatus_to_exitcode(os.waitpid(process, 0)[1])
-    return said if status == 0 else f"it ended with status {status}: more than {SECONDS} s, or memory"
+    return fault if status == 0 else f"it ended with status {status}: more than {SECONDS} s, or memory"
 
 
 def confined(seed: str, folder: Path) -> str:
@@ -223,13 +223,13 @@ def confined(seed: str, folder: Path) -> str:
         log.write_bytes(log_of(seed))
         log.with_name(log.name + ENDING).write_bytes(tests_of(seed))
         with contextlib.redirect_stdout(io.StringIO()), contextlib.redirect_stderr(io.StringIO()):
-            said = made_wrong(convert(log, name, None, Wish()), name)
-            return said or tests_wrong(log, of_log(log), folder)
+            fault = recording_wrong(convert(log, name, None, Wish()), name)
+            return fault or tests_wrong(log, of_log(log), folder)
     except BaseException as failed:
         return repr(failed) or "it failed"
 
 
-def made_wrong(outcome: Outcome, name: Path) -> str:
+def recording_wrong(outcome: Outcome, name: Path) -> str:
     """The fault of a recording, its lines, and its report."""
     if name.exists() and name.stat().st_size > GREATEST:
         return f"the recording has {name.stat().st_size} bytes"
@@ -242,9 +242,9 @@ def made_wrong(outcome: Outcome, name: Path) -> str:
 
 def tests_wrong(log: Path, tests: Tests, folder: Path) -> str:
     """The fault of the recordings of a log's tests, or of the machine-readable outputs."""
-    told = [Told(test.package, test.name) for test in tests.ran]
-    for one, test in zip(told, tests.ran):
-        one.add(test)
+    results = [Told(test.package, test.name) for test in tests.ran]
+    for result, test in zip(results, tests.ran):
+        result.add(test)
     try:
         read = ReadLog(log, read_log(log), tests)
     except NotALogError:
@@ -252,18 +252,20 @@ def tests_wrong(log: Path, tests: Tests, folder: Path) -> str:
     for at, test in enumerate(tests.ran[:TESTS]):
         name = folder / f"test-{at}.jsonl"
         outcome = converted(read, name, None, Wish(), test)
-        told[at].report(outcome)
-        if said := made_wrong(outcome, name):
-            return f"test {at}: {said}"
-    return forms_wrong(told)
+        results[at].report(outcome)
+        if fault := recording_wrong(outcome, name):
+            return f"test {at}: {fault}"
+    return forms_wrong(results)
 
 
-def forms_wrong(told: list[Told]) -> str:
+def forms_wrong(results: list[Told]) -> str:
     """What is wrong with the machine-readable outputs: an output lacks a test or has it twice, or an annotation has the wrong form."""
-    if [json.loads(line)["test"] for line in forms.json_lines(told).splitlines()] != [one.test for one in told]:
+    if [json.loads(line)["test"] for line in forms.json_lines(results).splitlines()] != [
+        result.test for result in results
+    ]:
         return "the lines of JSON aren't the tests"
-    if sum(1 for _ in ElementTree.fromstring(forms.junit(told)).iter("testcase")) != len(told):
+    if sum(1 for _ in ElementTree.fromstring(forms.junit(results)).iter("testcase")) != len(results):
         return "the cases of JUnit aren't the tests"
-    if not all(line.startswith("::error ") and line.isprintable() for line in forms.github_lines(told)):
+    if not all(line.startswith("::error ") and line.isprintable() for line in forms.github_lines(results)):
         return "a GitHub annotation has more than one line, or the wrong form"
     return ""

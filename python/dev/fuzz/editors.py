@@ -74,7 +74,7 @@ def value(dice: random.Random, path: str, depth: int = 0) -> Any:
     if sort == 5:
         return line_of(dice, 20)
     inner = [value(dice, path, depth + 1) for _ in range(dice.randrange(3))]
-    return inner if sort == 6 else {dice.choice(NAMES): one for one in inner}
+    return inner if sort == 6 else {dice.choice(NAMES): item for item in inner}
 
 
 def request(dice: random.Random, number: int, path: str) -> dict[str, Any]:
@@ -102,9 +102,9 @@ def conversation(seed: str, path: str) -> tuple[list[dict[str, Any]], bytes]:
     """The requests of a seed, and the bytes that encode them."""
     dice = random.Random(seed)
     begun = [{"seq": 1, "type": "request", "command": "launch", "arguments": {"program": path}}]
-    asked = begun if dice.random() < 0.9 else []
-    asked = asked + [request(dice, number, path) for number in range(len(asked) + 1, dice.choice([5, 30, 60]))]
-    return asked, dice.choice(HEADERS) if dice.random() < 0.5 else b""
+    requests = begun if dice.random() < 0.9 else []
+    requests = requests + [request(dice, number, path) for number in range(len(requests) + 1, dice.choice([5, 30, 60]))]
+    return requests, dice.choice(HEADERS) if dice.random() < 0.5 else b""
 
 
 def wrong(seed: str, folder: Path, program: str) -> str:
@@ -112,17 +112,17 @@ def wrong(seed: str, folder: Path, program: str) -> str:
     path = folder / "recording.jsonl"
     recording, _ = Author(random.Random(f"{seed} recording")).recording(20)
     path.write_bytes(write_plain(recording))
-    asked, behind = conversation(seed, str(path))
+    requests, behind = conversation(seed, str(path))
     written = io.BytesIO()
-    wire = Wire(io.BytesIO(b"".join(map(framed, asked)) + behind), written)
+    wire = Wire(io.BytesIO(b"".join(map(framed, requests)) + behind), written)
     try:
         Adapter(wire, Reading(wire), program).serve()
     except MalformedMessageError:
         pass
-    return answers_wrong(asked, told_in(written.getvalue()))
+    return answers_wrong(requests, messages_in(written.getvalue()))
 
 
-def told_in(data: bytes) -> Optional[list[dict[str, Any]]]:
+def messages_in(data: bytes) -> Optional[list[dict[str, Any]]]:
     """The messages in a stream; None if it is malformed."""
     found = []
     while data:
@@ -133,14 +133,14 @@ def told_in(data: bytes) -> Optional[list[dict[str, Any]]]:
     return found
 
 
-def answers_wrong(asked: list[dict[str, Any]], told: Optional[list[dict[str, Any]]]) -> str:
+def answers_wrong(requests: list[dict[str, Any]], messages: Optional[list[dict[str, Any]]]) -> str:
     """The fault of the answers: each request must have one answer, in the order of the requests, up to a
     `disconnect`."""
-    if told is None:
+    if messages is None:
         return "the stream has something else than messages"
-    wanted = [(one["seq"], one["command"]) for one in asked]
+    wanted = [(request["seq"], request["command"]) for request in requests]
     ends = next((at for at, (_, command) in enumerate(wanted, 1) if command == "disconnect"), len(wanted))
-    answered = [(one["request_seq"], one["command"]) for one in told if one["type"] == "response"]
-    if [one["seq"] for one in told] != list(range(1, len(told) + 1)):
+    answered = [(message["request_seq"], message["command"]) for message in messages if message["type"] == "response"]
+    if [message["seq"] for message in messages] != list(range(1, len(messages) + 1)):
         return "the messages aren't numbered"
     return "" if answered == wanted[:ends] else f"{wanted[:ends]} were asked, and {answered} were answered"

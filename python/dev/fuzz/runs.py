@@ -22,7 +22,7 @@ def wanted(case: Case, met: Met) -> Optional[Printed]:
     return want
 
 
-def told(netrev: str, case: Case, folder: Path) -> Printed:
+def output_of(netrev: str, case: Case, folder: Path) -> Printed:
     """The program's output."""
     path = folder / "recording.jsonl"
     path.write_bytes(case.recording)
@@ -45,7 +45,7 @@ def difference(netrev: str, case: Case, folder: Path, met: Met) -> Optional[Diff
     want = wanted(case, met)
     if want is None:
         return None
-    tells = told(netrev, case, folder)
+    tells = output_of(netrev, case, folder)
     return None if tells == want else (tells, want)
 
 
@@ -54,9 +54,9 @@ def first_difference(tells: Printed, want: Printed) -> str:
     if tells.wrong or want.wrong:
         return tells.wrong or want.wrong
     lines = zip(tells.output.split(b"\n"), want.output.split(b"\n"))
-    for number, (one, other) in enumerate(lines, 1):
-        if one != other:
-            return f"reply {number} is {shortened(one)}, the model's {shortened(other)}"
+    for number, (line, other) in enumerate(lines, 1):
+        if line != other:
+            return f"reply {number} is {shortened(line)}, the model's {shortened(other)}"
     return (
         f"status {tells.status}, the model's {want.status}; {len(tells.output)} bytes, the model's {len(want.output)}"
     )

@@ -40,8 +40,8 @@ def lines_of(dice: random.Random, steps: int) -> list[Any]:
             {"call": number, **names, "line": dice.randrange(100), "of": dice.choice(["program", "library", "go"])}
         )
     for number in range(1, 4):
-        made = {"made": dice.randint(1, calls)} if dice.random() < 0.5 else {}
-        found.append({"stack": number, "calls": [dice.randint(1, calls) for _ in range(dice.randrange(15))], **made})
+        creator = {"made": dice.randint(1, calls)} if dice.random() < 0.5 else {}
+        found.append({"stack": number, "calls": [dice.randint(1, calls) for _ in range(dice.randrange(15))], **creator})
     found.append({"step": 1, "stacks": [dice.randrange(5) for _ in range(steps)]})
     if dice.random() < 0.7:
         ends = [1, steps, steps + 1, 0, -1, 2**70, dice.randint(1, steps + 1)]

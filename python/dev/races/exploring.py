@@ -39,12 +39,15 @@ def answered(recording: Recording) -> Recording:
     lines = [json.dumps({**recording.limits, "netrev": 2})]
     for kind, *rest in recording.arrays():
         forms = KINDS[kind].arguments
-        step = (kind, *(bytes.fromhex(one) if form == "bytes" else one for form, one in zip(forms, rest)))
+        step = (
+            kind,
+            *(bytes.fromhex(argument) if form == "bytes" else argument for form, argument in zip(forms, rest)),
+        )
         world, answer = apply(world, step)
         lines.append(line_of(step, answer))
-    made = Recording("".join(f"{line}\n" for line in lines).encode())
-    made.lines = recording.lines
-    return made
+    result = Recording("".join(f"{line}\n" for line in lines).encode())
+    result.lines = recording.lines
+    return result
 
 
 def recordings(paths: list[Path]) -> Iterator[tuple[str, Recording]]:

@@ -89,20 +89,20 @@ def main() -> int:
     print("| Test | steps | orders | schedules | findings | a second |")
     print("|---|--:|--:|--:|--:|--:|")
     for suite, count in WANTED.items():
-        for one in drawn(go, suite, count, options.out) if options.only in suite.package else ():
-            tell(one, options.schedules)
+        for case in drawn(go, suite, count, options.out) if options.only in suite.package else ():
+            tell(case, options.schedules)
     return 0
 
 
-def tell(one: Healthy, schedules: int) -> None:
+def tell(case: Healthy, schedules: int) -> None:
     """Prints a test's row and findings."""
-    recording = one.recording
+    recording = case.recording
     outcome = explored(recording, schedules)
     orders = len(recording.lines.orders or ())
     pace = f"{outcome.played / max(outcome.seconds, 0.001):.0f}"
     found = len(outcome.exploring.found)
     print(
-        f"| {one.package} {one.test} | {recording.length} | {orders} | {outcome.played:,} | {found} | {pace} |",
+        f"| {case.package} {case.test} | {recording.length} | {orders} | {outcome.played:,} | {found} | {pace} |",
         flush=True,
     )
     for key, finding in outcome.exploring.found.items():

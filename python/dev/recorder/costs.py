@@ -149,7 +149,7 @@ class Measured:
         base: list[int] = []
         for way, best in self.best().items():
             base = base or best
-            more = [(one - other) / points for one, other, points in zip(best, base, (ROUND_POINTS, DEADLINE_POINTS))]
+            more = [(cost - other) / points for cost, other, points in zip(best, base, (ROUND_POINTS, DEADLINE_POINTS))]
             trips = self.trips[way]
             print(
                 f"| {self.name} | {way} | {best[0]:,} ns | {more[0]:.0f} ns | {best[1]} ns | {more[1]:.0f} ns "
@@ -171,7 +171,7 @@ class Served:
     programs: tuple[pathlib.Path, pathlib.Path]
     requests: int
     ways: list[str]
-    took: dict[tuple[int, str], list[int]] = field(default_factory=lambda: defaultdict(list))
+    times: dict[tuple[int, str], list[int]] = field(default_factory=lambda: defaultdict(list))
     kept: dict[tuple[int, str], list[float]] = field(default_factory=lambda: defaultdict(list))
     points: dict[tuple[int, str], list[float]] = field(default_factory=lambda: defaultdict(list))
 
@@ -191,8 +191,8 @@ class Served:
         if trace == "flight" and run.returncode == 3:  # this Go has no FlightRecorder
             return
         run.check_returncode()
-        took, traced = map(int, run.stdout.split())
-        self.took[connections, way].append(took)
+        spent, traced = map(int, run.stdout.split())
+        self.times[connections, way].append(spent)
         self.kept[connections, way].append(traced)
         for log in logs.iterdir():
             if of_log is not None and ".program" not in log.name:
@@ -205,14 +205,14 @@ class Served:
     def tell(self) -> None:
         """Prints a row for each number of connections and setting: the median processor time, its increase over the first setting, and the
         other medians. The increase is the median over all rounds; in a round, both settings had the same load."""
-        for (connections, way), took in self.took.items():
-            base = self.took[connections, self.ways[0]]
-            more = statistics.median(one / other for one, other in zip(took, base)) - 1
-            median = statistics.median(took)
+        for (connections, way), times in self.times.items():
+            base = self.times[connections, self.ways[0]]
+            more = statistics.median(cost / other for cost, other in zip(times, base)) - 1
+            median = statistics.median(times)
             kept = statistics.median(self.kept[connections, way])
             points = statistics.median(self.points.get((connections, way), [0]))
             print(
-                f"| {self.name} | {connections} | {way} | {median / 1000:.1f} ({min(took) / 1000:.1f} to {max(took) / 1000:.1f}) "
+                f"| {self.name} | {connections} | {way} | {median / 1000:.1f} ({min(times) / 1000:.1f} to {max(times) / 1000:.1f}) "
                 f"| {100 * more:+.1f} % | {f'{kept:,.0f}' if kept else ''} | {f'{points:.1f}' if points else ''} |"
             )
 
@@ -259,8 +259,8 @@ def tell_served(measured: list[Served]) -> None:
         return
     print("| Go | connections | | µs of processor a request | more | bytes a request | points a request |")
     print("|---|--:|---|--:|--:|--:|--:|")
-    for one in measured:
-        one.tell()
+    for measurement in measured:
+        measurement.tell()
 
 
 def tell_all(measured: list[Measured]) -> None:
@@ -269,12 +269,12 @@ def tell_all(measured: list[Measured]) -> None:
         return
     print("| Go | | write and read | a point | SetReadDeadline | a point | round trips a second |")
     print("|---|---|--:|--:|--:|--:|--:|")
-    for one in measured:
-        one.tell()
+    for measurement in measured:
+        measurement.tell()
     print(f"\n| Go | ns a round | {' | '.join(ROUNDS)} |")
     print("|---|---" + "|--:" * len(ROUNDS) + "|")
-    for one in measured:
-        one.tell_rounds()
+    for measurement in measured:
+        measurement.tell_rounds()
 
 
 def main(arguments: list[str]) -> int:
@@ -294,12 +294,12 @@ def main(arguments: list[str]) -> int:
             return 3
         for _ in range(options.times):
             load.append(loads())
-            for one in measured:
-                one.measure(logs)
+            for measurement in measured:
+                measurement.measure(logs)
     logs.rmdir()
     print(f"{options.times} times by turns, each begun at a load of {', '.join(load)}")
-    tell_served([one for one in measured if isinstance(one, Served)])
-    tell_all([one for one in measured if isinstance(one, Measured)])
+    tell_served([measurement for measurement in measured if isinstance(measurement, Served)])
+    tell_all([measurement for measurement in measured if isinstance(measurement, Measured)])
     return 0
 
 

@@ -41,8 +41,8 @@ def is_whole(commands: pathlib.Path) -> bool:
 
 def here(release: str) -> pathlib.Path | None:
     """The folder of a release's `go`: the installed release, if it has its sources, or else a fetched release."""
-    there = (below(pathlib.Path("/"), release), below(FETCHED / release, release))
-    return next((commands for commands in there if is_whole(commands)), None)
+    folders = (below(pathlib.Path("/"), release), below(FETCHED / release, release))
+    return next((commands for commands in folders if is_whole(commands)), None)
 
 
 def is_here(release: str) -> bool:

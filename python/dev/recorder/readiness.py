@@ -45,11 +45,11 @@ def read_standing(out: pathlib.Path) -> Standing | None:
 
 def standing_of(go: Go) -> Standing:
     """Fits the rules, compiles the changed files, and records doctor's program."""
-    _, said = fit(go)
-    fitting = sum(line.startswith(FITS) for line in said)
+    _, lines = fit(go)
+    fitting = sum(line.startswith(FITS) for line in lines)
     try:
         overlay(go)
     except RecorderError as trouble:
-        return Standing(go.version, len(said), fitting, False, str(trouble))
-    came = trial(go)
-    return Standing(go.version, len(said), fitting, True, came.said, came.good)
+        return Standing(go.version, len(lines), fitting, False, str(trouble))
+    outcome = trial(go)
+    return Standing(go.version, len(lines), fitting, True, outcome.said, outcome.good)

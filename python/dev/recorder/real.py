@@ -64,17 +64,17 @@ def went(command: list[str], folder: pathlib.Path, settings: dict[str, str]) -> 
 def recorded(log: pathlib.Path, result: Result, name: pathlib.Path) -> bool:
     """Makes the recording of a log, if sockets were opened."""
     try:
-        made = make(read_log(log))
+        recording = make(read_log(log))
     except NoSocketError:
         return False
     except (NotALogError, NothingRecordedError, UnconvertibleError) as fault:
         result.said = f"not made: {fault}"
         with log.open("rb") as file:
             return any(file.read(8))  # otherwise the process was killed before its log began
-    write(made, name)
-    write_words(made, name.with_suffix(".words"))
-    result.steps, result.words = len(made.lines), len(made.words)
-    result.count(map(str, made.lines))
+    write(recording, name)
+    write_words(recording, name.with_suffix(".words"))
+    result.steps, result.words = len(recording.lines), len(recording.words)
+    result.count(map(str, recording.lines))
     result.recording = str(name)
     return True
 
@@ -125,9 +125,9 @@ class Recorder:
         settings = {"NETREV_LOG": str(place / "log"), "GOMAXPROCS": str(result.processors), "NETREV_LINES": "0"}
         result.went = went(command, folder, environment(is_of_others, **settings))
         for number, log in enumerate(sorted(path for path in place.iterdir() if LOG.match(path.name)), 1):
-            one = result.again()
-            if recorded(log, one, out / f"{one.test}-{one.processors}-{number}.jsonl"):
-                self.results.append(one)
+            process_result = result.again()
+            if recorded(log, process_result, out / f"{process_result.test}-{process_result.processors}-{number}.jsonl"):
+                self.results.append(process_result)
             log.unlink()
         for path in place.iterdir():
             path.unlink()
@@ -193,9 +193,9 @@ def of_release(name: str, options: argparse.Namespace, netrev: str | None) -> li
         results = read_results(options.out / (name or find_go().version))
     else:
         go = chosen(name)
-        said = "tested before" if is_tried(go.version) else "not tested before"
+        state = "tested before" if is_tried(go.version) else "not tested before"
         stands = standing_of(go)
-        say(f"{go.version} ({said}): {stands.trial}")
+        say(f"{go.version} ({state}): {stands.trial}")
         if not stands.is_good:
             raise RecorderError(messages.RELEASE_UNRECORDED.format(release=go.version, why=stands.trial))
         recorder = Recorder(go, name or go.version, options)
@@ -251,7 +251,7 @@ def main(arguments: list[str] | None = None) -> int:
         for name in names:
             os.environ["PATH"] = path
             results += (some := of_release(name, options, netrev))
-            standings |= {one.release: read_standing(options.out / one.release) for one in some[:1]}
+            standings |= {result.release: read_standing(options.out / result.release) for result in some[:1]}
     except (RecorderError, OSError) as trouble:
         say(str(trouble))
         return 3

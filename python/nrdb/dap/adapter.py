@@ -106,9 +106,9 @@ class Adapter:
             work.refuses(ENDS)
             self._target_or_none = None
         except (NetrevEndedError, StrangeReplyError, ScoutUnavailableError) as why:
-            said = str(why) if isinstance(why, (StrangeReplyError, ScoutUnavailableError)) else "netrev has ended"
-            work.refuses(plain(said))
-            self._end(said)
+            reason = str(why) if isinstance(why, (StrangeReplyError, ScoutUnavailableError)) else "netrev has ended"
+            work.refuses(plain(reason))
+            self._end(reason)
         except EditorGoneError:
             raise
         except Exception as error:
@@ -154,8 +154,8 @@ class Adapter:
         try:
             return answer(request)
         except LineRefusedError as refused:
-            said = hint([request.command], str(refused))
-            raise UnanswerableError(texts.NETREV_ANSWERED.format(fault=refused, hint=said)) from None
+            advice = hint([request.command], str(refused))
+            raise UnanswerableError(texts.NETREV_ANSWERED.format(fault=refused, hint=advice)) from None
         except (UsageError, NotARecordingError) as wrong:
             raise UnanswerableError(str(wrong)) from None
 
@@ -265,7 +265,7 @@ class Adapter:
         return Outcome(stop=Stop("pause", f"at {self._target.debuggee.position}"))
 
     def _goto_targets(self, request: Request) -> Outcome:
-        line = self._numbering.asked(request, "line")
+        line = self._numbering.requested_line(request, "line")
         if not breakpoints.is_the_recording(self._target, request):
             return Outcome({"targets": breakpoints.targets(self._target, self._numbering, request)})
         step = self._target.debuggee.step_at(line)
@@ -293,8 +293,8 @@ class Adapter:
         """Runs a line of nrdb that was typed in the console."""
         target, before = self._target, self._target.debuggee.position
         goes_on = target.debuggee.session.run(text)
-        said = target.debuggee.printer.take().rstrip("\n")
-        body: Body = {"result": said, "variablesReference": 0}
+        output = target.debuggee.printer.take().rstrip("\n")
+        body: Body = {"result": output, "variablesReference": 0}
         if not goes_on:
             self._close()
             return Outcome(body, event="terminated")

@@ -16,14 +16,14 @@ MOST_TARGETS = 1_000  # the maximum number of lines searched for steps
 
 def set_lines(target: Target, numbering: Numbering, request: Request) -> Body:
     """Sets the breakpoints at lines of the recording."""
-    asked = request.objects("breakpoints")
+    bodies = request.objects("breakpoints")
     if not is_the_recording(target, request):
-        return {"breakpoints": in_the_program(target, numbering, path_of(request), asked)}
-    steps = [target.debuggee.step_at(numbering.of(one)) for one in asked]
+        return {"breakpoints": in_the_program(target, numbering, path_of(request), bodies)}
+    steps = [target.debuggee.step_at(numbering.of(body)) for body in bodies]
     numbers = [step.number if step else target.debuggee.length + 1 for step in steps]
-    made = of_steps(target, path_of(request), [wish_of(f"@{number}", one) for number, one in zip(numbers, asked)])
+    answers = of_steps(target, path_of(request), [wish_of(f"@{number}", body) for number, body in zip(numbers, bodies)])
     lines = [{"line": numbering.to(step.line)} if step else {} for step in steps]
-    return {"breakpoints": [one | line for one, line in zip(made, lines)]}
+    return {"breakpoints": [answer | line for answer, line in zip(answers, lines)]}
 
 
 def of_steps(target: Target, path: str, wishes: list[Wish | BreakpointError]) -> list[Body]:
@@ -31,24 +31,24 @@ def of_steps(target: Target, path: str, wishes: list[Wish | BreakpointError]) ->
     netrev."""
     session = target.debuggee.session
     target.logpoints.clear(path)
-    told = [
+    answers = [
         target.logpoints.set(path, positions_of(session, wish.what), wish)
         if isinstance(wish, Wish) and wish.message
         else None
         for wish in wishes
     ]
-    of_marks = iter(target.marks.replace(Sort.LINE, [wish for wish, one in zip(wishes, told) if one is None]))
-    return [one or next(of_marks) for one in told]
+    of_marks = iter(target.marks.replace(Sort.LINE, [wish for wish, answer in zip(wishes, answers) if answer is None]))
+    return [answer or next(of_marks) for answer in answers]
 
 
-def in_the_program(target: Target, numbering: Numbering, path: str, asked: list[Body]) -> list[Body]:
+def in_the_program(target: Target, numbering: Numbering, path: str, bodies: list[Body]) -> list[Body]:
     """Sets the breakpoints in a file of the program."""
     if not target.debuggee.recording.lines:
-        return [{"verified": False, "message": texts.NO_LINES} for _ in asked]
+        return [{"verified": False, "message": texts.NO_LINES} for _ in bodies]
     target.go_lines.clear(path)
-    lines = [numbering.of(one) for one in asked]
-    made = [target.go_lines.set_line(path, line, wish_of("", one)) for line, one in zip(lines, asked)]
-    return [body | ({"line": numbering.to(line)} if body["verified"] else {}) for body, line in zip(made, lines)]
+    lines = [numbering.of(body) for body in bodies]
+    answers = [target.go_lines.set_line(path, line, wish_of("", body)) for line, body in zip(lines, bodies)]
+    return [body | ({"line": numbering.to(line)} if body["verified"] else {}) for body, line in zip(answers, lines)]
 
 
 def path_of(request: Request) -> str:
@@ -65,20 +65,20 @@ def is_the_recording(target: Target, request: Request) -> bool:
 
 def set_functions(target: Target, _: Numbering, request: Request) -> Body:
     """Sets the breakpoints at kinds of steps and at the program's functions."""
-    asked = request.objects("breakpoints")
+    bodies = request.objects("breakpoints")
     target.go_lines.clear(FUNCTIONS)
     of_program = [
-        target.go_lines.set_function(str(one.get("name")), wish_of("", one)) if is_function(one) else None
-        for one in asked
+        target.go_lines.set_function(str(body.get("name")), wish_of("", body)) if is_function(body) else None
+        for body in bodies
     ]
-    wishes = [kind_wish(one) for one, made in zip(asked, of_program) if made is None]
+    wishes = [kind_wish(body) for body, answer in zip(bodies, of_program) if answer is None]
     of_kinds = iter(target.marks.replace(Sort.FUNCTION, wishes))
-    return {"breakpoints": [made or next(of_kinds) for made in of_program]}
+    return {"breakpoints": [answer or next(of_kinds) for answer in of_program]}
 
 
-def is_function(asked: Body) -> bool:
+def is_function(body: Body) -> bool:
     """Whether a breakpoint may be at a function: its name isn't that of a kind of step."""
-    return isinstance(asked.get("name"), str) and asked["name"] not in KINDS
+    return isinstance(body.get("name"), str) and body["name"] not in KINDS
 
 
 def data_info(target: Target, _: Numbering, request: Request) -> Body:
@@ -91,7 +91,7 @@ def data_info(target: Target, _: Numbering, request: Request) -> Body:
 
 def targets(target: Target, numbering: Numbering, request: Request) -> list[Body]:
     """The positions at which a goroutine reaches a line of the program."""
-    line = numbering.asked(request, "line")
+    line = numbering.requested_line(request, "line")
     positions = target.go_lines.positions(path_of(request), line)
     whose = [(position, target.debuggee.maker(position + 1)) for position in positions[:MOST_TARGETS]]
     return [
@@ -102,7 +102,7 @@ def targets(target: Target, numbering: Numbering, request: Request) -> list[Body
 
 def set_data(target: Target, _: Numbering, request: Request) -> Body:
     """Sets the watched cells."""
-    wishes = [cell_wish(one) for one in request.objects("breakpoints")]
+    wishes = [cell_wish(body) for body in request.objects("breakpoints")]
     return {"breakpoints": target.marks.replace(Sort.DATA, wishes)}
 
 
@@ -119,14 +119,14 @@ def exception_info(target: Target, _: Numbering, __: Request) -> Body:
     wrong = target.filters.at(target.debuggee.position)
     if not wrong:
         raise UnanswerableError(texts.NO_EXCEPTION)
-    says = "; ".join(plain(one.says) for one in wrong)
+    says = "; ".join(plain(failure.says) for failure in wrong)
     return {"exceptionId": wrong[0].sort, "description": says, "breakMode": "always"}
 
 
 def locations(target: Target, numbering: Numbering, request: Request) -> Body:
     """The requested lines of the recording that have a step; none for another source."""
-    first = numbering.asked(request, "line")
-    last = numbering.asked(request, "endLine") if "endLine" in request.arguments else first
+    first = numbering.requested_line(request, "line")
+    last = numbering.requested_line(request, "endLine") if "endLine" in request.arguments else first
     if not is_the_recording(target, request):
         lines = sorted(line for line in target.go_lines.lines(path_of(request)) if first <= line <= last)
         return {"breakpoints": [{"line": numbering.to(line)} for line in lines[:MOST_TARGETS]]}

@@ -89,12 +89,12 @@ class GoLines:
     def nearest(self, position: int, forwards: bool) -> Optional[int]:
         """The nearest later (or, backwards, earlier) position at which a breakpoint stops."""
         found = [near(hits.positions, position, forwards) for many in self._of.values() for hits in many]
-        return (min if forwards else max)((one for one in found if one is not None), default=None)
+        return (min if forwards else max)((stop for stop in found if stop is not None), default=None)
 
     def at(self, position: int) -> Sequence[int]:
         """The numbers of the breakpoints that stop at a position."""
         every = [hits for many in self._of.values() for hits in many]
-        return [one.number for one in every if is_in(one.positions, position)]
+        return [hits.number for hits in every if is_in(hits.positions, position)]
 
 
 def near(rising: Sequence[int], position: int, forwards: bool) -> Optional[int]:

@@ -61,32 +61,32 @@ class Hearing:
 
     def __init__(self, wire: Wire):
         self._wire = wire
-        self._came: "SimpleQueue[tuple[Request | Exception | None, int]]" = SimpleQueue()
+        self._messages: "SimpleQueue[tuple[Request | Exception | None, int]]" = SimpleQueue()
         self._room, self._held, self._is_over = Condition(), 0, False
         self._urgent: list[Request] = []  # requests that have arrived and wait for their turn
         self._at_work: Optional[Request] = None
         self._interrupts = Interrupts()
-        self._is_told = False
+        self._is_interrupted = False
         signal.signal(SIGNAL, lambda *_: self._look())
         threading.Thread(target=self._read, daemon=True).start()
 
     def request(self) -> Optional[Request]:
-        came, size = self._came.get()
+        message, size = self._messages.get()
         with self._room:
             self._held -= size
             self._room.notify()
-        if isinstance(came, Exception):
-            raise came
-        if came in self._urgent:
-            self._urgent.remove(came)
-        return came
+        if isinstance(message, Exception):
+            raise message
+        if message in self._urgent:
+            self._urgent.remove(message)
+        return message
 
     @contextmanager
     def work(self, request: Request, interrupts: Interrupts) -> Iterator[None]:
         """Context for the work on this request. A message may stop the work through these interrupts: a pause or a
         cancel acts as Ctrl-C, and a disconnect ends the session."""
         interrupts.clear()
-        self._interrupts, self._is_told = interrupts, False
+        self._interrupts, self._is_interrupted = interrupts, False
         try:
             self._at_work = request
             self._look()
@@ -96,7 +96,9 @@ class Hearing:
 
     def ends(self, request: Request) -> bool:
         is_ending = request.command in ENDING
-        return not is_ending and any(one.command in ENDING or is_cancelled_by(request, one) for one in self._urgent)
+        return not is_ending and any(
+            other.command in ENDING or is_cancelled_by(request, other) for other in self._urgent
+        )
 
     def close(self) -> None:
         with self._room:
@@ -110,38 +112,38 @@ class Hearing:
         if request is None or request.command in ENDING:
             return
         heard = list(self._urgent)
-        if any(one.command in ENDING for one in heard):
+        if any(other.command in ENDING for other in heard):
             self._at_work = None
             self._interrupts.give_up()
-        if not self._is_told and any(stops(request, one) for one in heard):
-            self._is_told = True
+        if not self._is_interrupted and any(stops(request, other) for other in heard):
+            self._is_interrupted = True
             self._interrupts.press()
 
     def _read(self) -> None:
         """Reads, in the thread, until the editor has gone or disconnects."""
-        came: Request | Exception | None
+        message: Request | Exception | None
         while not self._is_over:
             before = self._wire.received
             try:
-                came = self._wire.request()
+                message = self._wire.request()
             except (MalformedMessageError, OSError) as wrong:
-                came = wrong
+                message = wrong
             except ValueError:  # the stream was closed
-                came = None
-            self._hand_on(came, self._wire.received - before)
-            if not isinstance(came, Request) or came.command == ENDING[0]:
+                message = None
+            self._hand_on(message, self._wire.received - before)
+            if not isinstance(message, Request) or message.command == ENDING[0]:
                 return
 
-    def _hand_on(self, came: Request | Exception | None, size: int) -> None:
+    def _hand_on(self, message: Request | Exception | None, size: int) -> None:
         """Passes on a message of this many bytes when the queue has room. An urgent message also signals the main
         thread at once."""
-        is_urgent = isinstance(came, Request) and came.command in (*ENDING, CANCEL, PAUSE)
-        if isinstance(came, Request) and is_urgent:
-            self._urgent.append(came)
+        is_urgent = isinstance(message, Request) and message.command in (*ENDING, CANCEL, PAUSE)
+        if isinstance(message, Request) and is_urgent:
+            self._urgent.append(message)
         with self._room:
             self._room.wait_for(lambda: self._held < MOST_HELD or self._is_over)
             self._held += size
-        self._came.put((came, size))
+        self._messages.put((message, size))
         if is_urgent:
             signal.pthread_kill(threading.main_thread().ident or 0, SIGNAL)
 

@@ -38,11 +38,16 @@ class LogPoints:
         self._of.setdefault(path, []).append(LogPoint(wish.message, wish.stops(self._session, positions)))
         return {"id": self._given, "verified": True}
 
-    def told(self, begun: int, ended: int) -> Iterator[str]:
+    def messages(self, begun: int, ended: int) -> Iterator[str]:
         """The messages of a move from one position to another, in the move's order."""
         low, high = (begun + 1, ended) if ended > begun else (ended, begun - 1)
-        every = (one for many in self._of.values() for one in many)
-        hits = [(position, one.message) for one in every for position in one.positions if low <= position <= high]
+        every = (logpoint for many in self._of.values() for logpoint in many)
+        hits = [
+            (position, logpoint.message)
+            for logpoint in every
+            for position in logpoint.positions
+            if low <= position <= high
+        ]
         hits.sort(key=lambda hit: hit[0], reverse=ended < begun)
         for position, message in hits[:MOST]:
             yield f"at {position}: {self._filled(message, position)}"

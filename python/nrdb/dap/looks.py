@@ -62,9 +62,9 @@ def completions(target: Target, numbering: Numbering, request: Request) -> Body:
     typed = text[: max(column - numbering.first, 0)]
     *before, last = typed.split(" ")
     found = candidates([word for word in before if word], target.debuggee.numbers)
-    labels = sorted({one for one in found if one.startswith(last)})
+    labels = sorted({candidate for candidate in found if candidate.startswith(last)})
     start = len(typed) - len(last) + numbering.first
-    return {"targets": [{"label": one, "start": start, "length": len(last)} for one in labels]}
+    return {"targets": [{"label": label, "start": start, "length": len(last)} for label in labels]}
 
 
 def refuse_change(_: Target, __: Numbering, ___: Request) -> Body:

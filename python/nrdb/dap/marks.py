@@ -56,9 +56,9 @@ class Marks:
         if (sort, wish.what) not in self._numbers:
             line = f"{'watch' if sort is Sort.DATA else 'break'} {wish.what}"
             reply = self._session.ask(line)
-            if (made := MARK.fullmatch(reply)) is None:
+            if (mark := MARK.fullmatch(reply)) is None:
                 raise BreakpointError(f"{reply}: {hint(line.split(), reply)}")
-            self._numbers[sort, wish.what] = made[1]
+            self._numbers[sort, wish.what] = mark[1]
         return self._numbers[sort, wish.what]
 
     def holding(self, numbers: Sequence[str]) -> list[str]:

@@ -105,8 +105,8 @@ class Moves:
             stop = self._run(forwards, target, stood)
         except SearchInterruptedError:
             stop = self._paused(stood)
-        for told in self._logpoints.told(begun, self._debuggee.position):
-            self._session.printer.note(told)
+        for message in self._logpoints.messages(begun, self._debuggee.position):
+            self._session.printer.note(message)
         return stop
 
     def _run(self, forwards: bool, target: Optional[int], stood: Sequence[Listed]) -> Stop:
@@ -133,15 +133,15 @@ class Moves:
             is_last = not 0 < edge < self._debuggee.length or (
                 bound is not None and (bound - edge) * (edge - here) <= 0
             )
-            made = None if is_last else MARK.fullmatch(self._session.ask(f"tbreak @{edge + 1}"))
+            edge_mark = None if is_last else MARK.fullmatch(self._session.ask(f"tbreak @{edge + 1}"))
             reply = self._session.ask(line)
             move = move_of(line, reply)
-            if made is None:  # (or 64 marks exist already)
+            if edge_mark is None:  # (or 64 marks exist already)
                 return reply, move
-            if made[1] not in move.marks:
-                self._session.ask(f"delete {made[1]}")
-            if move.marks != (made[1],):
-                return reply, move._replace(marks=tuple(mark for mark in move.marks if mark != made[1]))
+            if edge_mark[1] not in move.marks:
+                self._session.ask(f"delete {edge_mark[1]}")
+            if move.marks != (edge_mark[1],):
+                return reply, move._replace(marks=tuple(mark for mark in move.marks if mark != edge_mark[1]))
             here = move.position
             self.tells(here, self._debuggee.length)
 
@@ -188,7 +188,7 @@ class Moves:
         if numbers or self._session.breaks.hit(move.position):
             return Stop("breakpoint", f"at {move.position}", tuple(numbers))
         if wrong := self._filters.at(move.position):
-            return Stop("exception", told(wrong))
+            return Stop("exception", failure_text(wrong))
         if move.position == target:
             return Stop("step", f"at {move.position}")
         return self._end_or("step", move)
@@ -212,6 +212,6 @@ class Moves:
         return why
 
 
-def told(wrong: Sequence[Failure]) -> str:
+def failure_text(wrong: Sequence[Failure]) -> str:
     """Text about the errors."""
-    return "; ".join(f"{one.sort}: {one.says}" for one in wrong)
+    return "; ".join(f"{failure.sort}: {failure.says}" for failure in wrong)

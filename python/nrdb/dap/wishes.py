@@ -69,8 +69,8 @@ class Wish:
         """The positions at which the breakpoint stops or prints its message. They are selected from `positions`, at
         which the breakpoint is reached, in ascending order."""
         condition, times = self.condition, self.times
-        met = [one for one in positions if condition is None or session.holds(condition, one)]
-        return [one for count, one in enumerate(met, 1) if times is None or times.holds(count)]
+        met = [position for position in positions if condition is None or session.holds(condition, position)]
+        return [position for count, position in enumerate(met, 1) if times is None or times.holds(count)]
 
 
 def positions_of(session: Session, what: str) -> list[int]:
@@ -88,9 +88,9 @@ def is_in(rising: Sequence[int], position: int) -> bool:
     return at < len(rising) and rising[at] == position
 
 
-def wish_of(what: str, asked: Body) -> "Wish | BreakpointError":
+def wish_of(what: str, body: Body) -> "Wish | BreakpointError":
     """The request for a mark, with the editor's condition, hit count and message, if given."""
-    condition, times, message = (_text_of(asked, name) for name in ("condition", "hitCondition", "logMessage"))
+    condition, times, message = (_text_of(body, name) for name in ("condition", "hitCondition", "logMessage"))
     try:
         for named in IN_BRACES.findall(message):
             if named.strip() != HERE and cell_of(named.split()) is None:
@@ -102,25 +102,25 @@ def wish_of(what: str, asked: Body) -> "Wish | BreakpointError":
         return why
 
 
-def _text_of(asked: Body, name: str) -> str:
+def _text_of(body: Body, name: str) -> str:
     """A string argument of the request; empty if the argument is missing or isn't a string."""
-    value = asked.get(name)
+    value = body.get(name)
     return value if isinstance(value, str) and value.strip() else ""
 
 
-def kind_wish(asked: Body) -> "Wish | BreakpointError":
+def kind_wish(body: Body) -> "Wish | BreakpointError":
     """The request for a breakpoint at each step of a kind."""
-    name = asked.get("name")
+    name = body.get("name")
     if isinstance(name, str) and name in KINDS:
-        return wish_of(name, asked)
+        return wish_of(name, body)
     return BreakpointError(texts.NOT_A_KIND.format(name=name, kinds=" ".join(KINDS)))
 
 
-def cell_wish(asked: Body) -> "Wish | BreakpointError":
+def cell_wish(body: Body) -> "Wish | BreakpointError":
     """The request for a breakpoint at each change of a cell."""
-    identity = asked.get("dataId")
+    identity = body.get("dataId")
     cell = cell_of(str(identity).split())
-    return wish_of(cell, asked) if cell else BreakpointError(texts.NOT_A_CELL.format(name=identity))
+    return wish_of(cell, body) if cell else BreakpointError(texts.NOT_A_CELL.format(name=identity))
 
 
 def refused(why: str) -> Body:

@@ -56,13 +56,13 @@ class Work:
             return
         with self._lock, suppress(OSError, ValueError):  # (if the editor has gone, the reading thread notices)
             self._is_late()
-        told = 0
+        reported = 0
         while self._is_shown and not self._done.wait(AGAIN):
             with self._lock, suppress(OSError, ValueError):
-                if self._position != told and not self._done.is_set():
-                    told = self._position
-                    said, part = f"at {told} of {self._length}", 100 * told // max(self._length, 1)
-                    self._event("progressUpdate", message=said, percentage=part)
+                if self._position != reported and not self._done.is_set():
+                    reported = self._position
+                    message, part = f"at {reported} of {self._length}", 100 * reported // max(self._length, 1)
+                    self._event("progressUpdate", message=message, percentage=part)
 
     def _is_late(self) -> None:
         if self._done.is_set():

@@ -52,10 +52,10 @@ def taken_cell(name: str, words: list[str]) -> tuple[str, list[str]]:
 def answer_help(session: Session, words: list[str]) -> None:
     if not words:
         return session.printer.note("\n".join(all_help()))
-    told = list(help_of(words))
-    if not told:
+    lines = list(help_of(words))
+    if not lines:
         raise UsageError(messages.NO_HELP.format(words=" ".join(words)))
-    session.printer.note("\n".join(told))
+    session.printer.note("\n".join(lines))
 
 
 def help_of(words: list[str]) -> Iterator[str]:
@@ -122,12 +122,12 @@ def answer_list(session: Session, words: list[str]) -> None:
         step = text.step(number)
         here = "=>" if number == position + 1 else "  "
         at = text.lines.words(number) or timer_words(text, step)
-        told = {"step": number, "line": step.line, "does": str(step), "next": number == position + 1}
-        said = f"{here} {number:>7}  {str(step):<34} line {step.line}"
+        values = {"step": number, "line": step.line, "does": str(step), "next": number == position + 1}
+        line = f"{here} {number:>7}  {str(step):<34} line {step.line}"
         rows.append(
             Row(
-                told | ({"at": text.lines.words(number)} if text.lines else {}),
-                f"{said:<56} {at}".rstrip() if at else said,
+                values | ({"at": text.lines.words(number)} if text.lines else {}),
+                f"{line:<56} {at}".rstrip() if at else line,
             )
         )
     session.printer.table(
@@ -187,7 +187,7 @@ def answer_until(session: Session, words: list[str], name: str = "until") -> Non
         values = " and ".join(messages.VALUE_OF_CELL.format(cell=cell, value=value) for cell, value in wanted.items())
         session.printer.note(messages.NO_STEP_GIVES.format(way="earlier" if is_back else "later", values=values))
         return
-    arrive(session, f"{name} {' and '.join(' '.join(one) for one in wanted.items())}", session.go(found))
+    arrive(session, f"{name} {' and '.join(' '.join(pair) for pair in wanted.items())}", session.go(found))
     for cell in wanted:
         session.show(f"print {cell}", session.netrev.ask(f"print {cell}"))
 

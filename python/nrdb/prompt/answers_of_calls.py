@@ -32,8 +32,10 @@ def taken_most(name: str, words: list[str]) -> Optional[int]:
     most = None if words == ["all"] else number_of(words[0]) if len(words) == 1 else MOST
     if len(words) > 1 or most == 0 or (most is None and words != ["all"]):
         is_topic = name not in COMMANDS
-        told = messages.TOPIC.format(usage=TOPICS[name].usage, says=TOPICS[name].says) if is_topic else usage(name)
-        raise UsageError(messages.NUMBER_FROM_ONE.format(usage=told))
+        usage_text = (
+            messages.TOPIC.format(usage=TOPICS[name].usage, says=TOPICS[name].says) if is_topic else usage(name)
+        )
+        raise UsageError(messages.NUMBER_FROM_ONE.format(usage=usage_text))
     return most
 
 

@@ -40,9 +40,9 @@ def break_at(is_temporary: bool) -> Answering:
     """The answer to `break` and `tbreak` with a place."""
 
     def answer(session: Session, words: list[str]) -> None:
-        made = session.breaks.add(place_of(session, words[0]), is_temporary)
-        session.latest = made.number
-        session.printer.note(f"break {made.words()}")
+        mark = session.breaks.add(place_of(session, words[0]), is_temporary)
+        session.latest = mark.number
+        session.printer.note(f"break {mark.words()}")
 
     return answer
 
@@ -61,7 +61,7 @@ def delete_all(session: Session) -> None:
         if not session.ask(f"delete {mark.number}").startswith("fault"):
             session.attached.lines.pop(mark.number, None)
             gone.append(f"{mark.number} ({mark.sort} {mark.what})")
-    gone += [f"{one.number} (break {one.place.spelled})" for one in session.breaks.standing.values()]
+    gone += [f"{mark.number} (break {mark.place.spelled})" for mark in session.breaks.standing.values()]
     session.breaks.standing.clear()
     session.conditions.clear()
     session.printer.note(messages.DELETED.format(marks=", ".join(gone)) if gone else messages.NO_MARKS)
@@ -72,7 +72,7 @@ def go_to_place(name: str, forwards: bool) -> Answering:
 
     def answer(session: Session, words: list[str]) -> None:
         place, position = place_of(session, words[0]), session.stands().position
-        ahead = [one for one in place.positions if (one > position if forwards else one < position)]
+        ahead = [reached for reached in place.positions if (reached > position if forwards else reached < position)]
         if not ahead:
             raise UsageError(messages.NOT_REACHED.format(place=words[0], way="later" if forwards else "earlier"))
         arrive(session, f"{name} {words[0]}", session.go(ahead[0] if forwards else ahead[-1]))
@@ -84,8 +84,8 @@ def go_to_place(name: str, forwards: bool) -> Answering:
 def answer_history(session: Session, words: list[str]) -> None:
     """Lists the positions, up to the session's, at which goroutines reached a place."""
     recording, place, position = session.text(), place_of(session, words[0]), session.stands().position
-    past = [one for one in place.positions if one <= position]
-    rows = [row_of(recording, one) for one in past[-MOST:]]
+    past = [reached for reached in place.positions if reached <= position]
+    rows = [row_of(recording, reached) for reached in past[-MOST:]]
     rest = [f"{len(past) - len(rows)} earlier"] if len(rows) < len(past) else []
     rest += [f"{len(place.positions) - len(past)} later"] if len(past) < len(place.positions) else []
     session.printer.table(Table("history", rows, "; ".join(rest)))

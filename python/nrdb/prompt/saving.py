@@ -28,9 +28,9 @@ def lines_of_marks(session: Session) -> Iterator[str]:
         yield from condition_line(session, mark.number)
         if attached := session.attached.lines.get(mark.number):
             yield from ("commands", *(f"  {line}" for line in attached), END)
-    for one in session.breaks.standing.values():
-        yield f"{'tbreak' if one.is_temporary else 'break'} {one.place.spelled}"
-        yield from condition_line(session, one.number)
+    for line_break in session.breaks.standing.values():
+        yield f"{'tbreak' if line_break.is_temporary else 'break'} {line_break.place.spelled}"
+        yield from condition_line(session, line_break.number)
 
 
 def condition_line(session: Session, number: str) -> Iterator[str]:

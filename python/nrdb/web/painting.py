@@ -41,7 +41,7 @@ class Painter:
         self._words = [sys.executable, "-c", CODE, program, path]
         self._tell = tell
         self._wanted: "Queue[tuple[Wanted, Future[bytes]]]" = Queue(MOST_WAITING)
-        self._made: "OrderedDict[Wanted, bytes]" = OrderedDict()
+        self._pictures: "OrderedDict[Wanted, bytes]" = OrderedDict()
         self._process: Optional["subprocess.Popen[bytes]"] = None
         self._thread: Optional[Thread] = None
 
@@ -75,16 +75,16 @@ class Painter:
 
     def _picture(self, window: Wanted) -> bytes:
         """A picture from the cache or from the process."""
-        if window in self._made:
-            self._made.move_to_end(window)
-            return self._made[window]
-        made = self._made[window] = self._have_made(window)
-        parts = [one for one in self._made if one is not None]
-        for one in parts[: max(len(parts) - MOST_KEPT, 0)]:
-            del self._made[one]
-        return made
+        if window in self._pictures:
+            self._pictures.move_to_end(window)
+            return self._pictures[window]
+        picture = self._pictures[window] = self._request(window)
+        parts = [part for part in self._pictures if part is not None]
+        for part in parts[: max(len(parts) - MOST_KEPT, 0)]:
+            del self._pictures[part]
+        return picture
 
-    def _have_made(self, window: Wanted) -> bytes:
+    def _request(self, window: Wanted) -> bytes:
         process = self._process
         if process is None or process.poll() is not None:
             process = self._process = subprocess.Popen(
@@ -92,8 +92,8 @@ class Painter:
             )
         assert process.stdin and process.stdout
         with suppress(BrokenPipeError):
-            asked = None if window is None else [window.first, window.last]
-            process.stdin.write(f"{json.dumps(asked)}\n".encode("ascii"))
+            positions = None if window is None else [window.first, window.last]
+            process.stdin.write(f"{json.dumps(positions)}\n".encode("ascii"))
             process.stdin.flush()
         while (line := process.stdout.readline()).startswith(TELLS):
             self._tell(json.loads(line[1:]))

@@ -45,24 +45,24 @@ class Request:
         """The request in the bytes up to the empty line; raises RejectedRequestError if the request is malformed. No header may
         occur twice, because two parsers could choose different values."""
         first, *lines = head.decode("latin-1").removesuffix("\r\n\r\n").split("\r\n")
-        asked = FIRST_LINE.fullmatch(first)
+        request_line = FIRST_LINE.fullmatch(first)
         found = [HEADER.fullmatch(line) for line in lines]
-        headers = {one[1].lower(): one[2].rstrip(" \t") for one in found if one}
-        if asked is None or len(headers) < len(lines):
+        headers = {header[1].lower(): header[2].rstrip(" \t") for header in found if header}
+        if request_line is None or len(headers) < len(lines):
             raise RejectedRequestError(HTTPStatus.BAD_REQUEST, texts.NOT_A_REQUEST)
-        path, _, query = asked[2].partition("?")
-        return cls(asked[1], path, query, headers)
+        path, _, query = request_line[2].partition("?")
+        return cls(request_line[1], path, query, headers)
 
     def length(self) -> int:
         """The length of the request's body; raises RejectedRequestError if the length is missing or too large."""
-        said = self.headers.get("content-length", "" if self.method == "POST" else "0")
-        if "transfer-encoding" in self.headers or not said:
+        length = self.headers.get("content-length", "" if self.method == "POST" else "0")
+        if "transfer-encoding" in self.headers or not length:
             raise RejectedRequestError(HTTPStatus.LENGTH_REQUIRED, texts.NO_LENGTH)
-        if not LENGTH.fullmatch(said):
+        if not LENGTH.fullmatch(length):
             raise RejectedRequestError(HTTPStatus.BAD_REQUEST, texts.BAD_LENGTH)
-        if int(said) > (LONGEST_LINE if self.method == "POST" else 0):
+        if int(length) > (LONGEST_LINE if self.method == "POST" else 0):
             raise RejectedRequestError(HTTPStatus.REQUEST_ENTITY_TOO_LARGE, texts.LONG_LINE.format(most=LONGEST_LINE))
-        return int(said)
+        return int(length)
 
 
 class Gate:

@@ -80,12 +80,12 @@ class Running:
 
     # --- for the server's thread
 
-    def post(self, who: str, line: str) -> None:
+    def post(self, user: str, line: str) -> None:
         """Queues a line. The answer follows in events. Raises UnavailableError if netrev is gone or too many lines are
         waiting."""
         if self._gone:
             raise UnavailableError(self._gone)
-        self._take(lambda: self._answer(who, line))
+        self._take(lambda: self._answer(user, line))
 
     def complete(self, line: str) -> "Future[bytes]":
         """The completions of the last word of a line, as JSON; raises UnavailableError if too many lines are waiting."""
@@ -140,15 +140,15 @@ class Running:
             return
         work()
 
-    def _answer(self, who: str, line: str) -> None:
+    def _answer(self, user: str, line: str) -> None:
         """Answers a line, or reports that the line can't be answered."""
-        self._streams.tell("line", who=who, line=line)
+        self._streams.tell("line", who=user, line=line)
         if not self._gone:
-            self._guarded(lambda: self.session.run_for(who, line))
+            self._guarded(lambda: self.session.run_for(user, line))
         if self._gone:
-            self._streams.tell("unanswered", who=who, line=line, why=self._gone)
+            self._streams.tell("unanswered", who=user, line=line, why=self._gone)
         else:
-            self._streams.tell("answered", who=who, line=line)
+            self._streams.tell("answered", who=user, line=line)
 
     def _look(self) -> None:
         """Checks for other users' moves. If netrev is gone, checks whether netrev is back."""

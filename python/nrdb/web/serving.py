@@ -45,7 +45,7 @@ class UnavailableError(NetrevError):
 class Runner(Protocol):
     """The part of a session's runner that the server calls. Each call returns at once."""
 
-    def post(self, who: str, line: str) -> None:
+    def post(self, user: str, line: str) -> None:
         """Queues a line. The answer follows in events. Raises UnavailableError if the line can't be queued."""
 
     def complete(self, line: str) -> "Future[bytes]":
@@ -61,18 +61,18 @@ class Runner(Protocol):
 def listening(port: int) -> socket.socket:
     """A socket that listens on a port of 127.0.0.1; port 0 means any free port. Raises an OSError if listening
     fails."""
-    made = socket.socket()
+    listener = socket.socket()
     try:
-        made.setsockopt(socket.SOL_SOCKET, socket.SO_REUSEADDR, 1)
-        made.bind((LOOPBACK, port))
-        made.listen(2 * MOST_CONNECTIONS)
+        listener.setsockopt(socket.SOL_SOCKET, socket.SO_REUSEADDR, 1)
+        listener.bind((LOOPBACK, port))
+        listener.listen(2 * MOST_CONNECTIONS)
     except OverflowError as error:
-        made.close()
+        listener.close()
         raise OSError(0, str(error)) from None
     except OSError:
-        made.close()
+        listener.close()
         raise
-    return made
+    return listener
 
 
 class Server:
@@ -168,8 +168,8 @@ class Server:
             found = await asyncio.wrap_future(self._session.complete(line_of(body)))
             await wire.answer(HTTPStatus.OK, found, JSON)
         else:
-            made = self._session.part(*positions_of(request)) if request.path == PART else self._session.timeline()
-            await wire.answer(HTTPStatus.OK, await asyncio.wrap_future(made), JSON)
+            future = self._session.part(*positions_of(request)) if request.path == PART else self._session.timeline()
+            await wire.answer(HTTPStatus.OK, await asyncio.wrap_future(future), JSON)
 
     async def _tell(self, wire: Wire, stream: Stream) -> None:
         """Sends events to a browser until it disconnects or falls too far behind."""
@@ -178,9 +178,9 @@ class Server:
         gone = asyncio.create_task(wire.gone())
         try:
             while not gone.done() and not stream.is_behind:
-                came = asyncio.create_task(stream.come())
-                await asyncio.wait({came, gone}, timeout=PULSE, return_when=asyncio.FIRST_COMPLETED)
-                came.cancel()
+                arrival = asyncio.create_task(stream.come())
+                await asyncio.wait({arrival, gone}, timeout=PULSE, return_when=asyncio.FIRST_COMPLETED)
+                arrival.cancel()
                 await wire.send(stream.take() or b":\n\n")
         finally:
             gone.cancel()

@@ -49,29 +49,29 @@ class Saying(Collecting):
         super().__init__()
         self._streams = streams
 
-    def _said(self, of: str) -> None:
+    def _send(self, of: str) -> None:
         if lines := self.take().splitlines():
             self._streams.tell("said", of=of, lines=lines)
 
     def echo(self, line: str) -> None:
         self.write(f"(netrev) {line}")
-        self._said("echo")
+        self._send("echo")
 
     def reply(self, line: str, reply: Reply, words: str) -> None:
         super().reply(line, reply, words)
-        self._said("reply")
+        self._send("reply")
 
     def place(self, place: Place) -> None:
         super().place(place)
-        self._said("place")
+        self._send("place")
 
     def note(self, text: str) -> None:
         super().note(text)
-        self._said("note")
+        self._send("note")
 
     def table(self, table: Table) -> None:
         super().table(table)
-        self._said(table.topic)
+        self._send(table.topic)
 
 
 @dataclass
@@ -79,21 +79,23 @@ class Shared(Session):
     """A session that answers lines of several users."""
 
     streams: Telling = field(kw_only=True)
-    who: str = ""
+    user: str = ""
     part: str = ""  # the command of the line that is being answered
-    told: Optional[Position] = None
-    told_marks: Optional[list[Listed]] = None
+    last_position: Optional[Position] = None
+    last_marks: Optional[list[Listed]] = None
 
     @classmethod
     def over(cls, session: Session, streams: Telling) -> "Shared":
         """A session, in the form that the page uses."""
-        made = cls(**{one.name: getattr(session, one.name) for one in fields(session)}, streams=streams)
-        made.printer, made.answers = Saying(streams), OF_THE_PAGE
-        return made
+        shared = cls(
+            **{attribute.name: getattr(session, attribute.name) for attribute in fields(session)}, streams=streams
+        )
+        shared.printer, shared.answers = Saying(streams), OF_THE_PAGE
+        return shared
 
-    def run_for(self, who: str, line: str) -> None:
+    def run_for(self, user: str, line: str) -> None:
         """Answers a line from a browser, and then checks the session's state."""
-        self.who = who
+        self.user = user
         self.run(line)
         self.look_round()
 
@@ -107,7 +109,7 @@ class Shared(Session):
         return super().answer(line)
 
     def arrive(self, position: int, numbers: Sequence[str] = (), stood: Sequence[Listed] = ()) -> None:
-        self._tell_move(self.who, self.part, position)
+        self._tell_move(self.user, self.part, position)
         super().arrive(position, numbers, stood)
 
     def tell_of_others(self) -> None:
@@ -123,26 +125,26 @@ class Shared(Session):
             return
         self._tell_move(OTHERS, None, now.position)
         self.stood = now.position
-        if now != self.told:
-            self.told = now
+        if now != self.last_position:
+            self.last_position = now
             self.streams.tell("stands", **now._asdict())
-        if marks != self.told_marks:
-            self.told_marks = marks
+        if marks != self.last_marks:
+            self.last_marks = marks
             listed = [{"mark": int(mark.number), "what": f"{mark.sort} {mark.what}"} for mark in marks]
             self.streams.tell("marks", marks=listed)
 
     def begin_anew(self, netrev: Netrev) -> None:
         """Continues with another netrev, at that netrev's position."""
-        self.netrev, self.told, self.told_marks = netrev, None, None
+        self.netrev, self.last_position, self.last_marks = netrev, None, None
         self.attached.pending.clear()
         self.begin(self.ask("info position"))
         self.look_round()
 
-    def _tell_move(self, who: str, line: Optional[str], position: int) -> None:
+    def _tell_move(self, user: str, line: Optional[str], position: int) -> None:
         """Reports a move if the position has changed."""
         if position == self.stood:
             return
-        self.streams.tell("moved", who=who, line=line, **{"from": self.stood, "to": position})
-        if self.told:
-            self.told = self.told._replace(position=position)
-            self.streams.tell("stands", **self.told._asdict())
+        self.streams.tell("moved", who=user, line=line, **{"from": self.stood, "to": position})
+        if self.last_position:
+            self.last_position = self.last_position._replace(position=position)
+            self.streams.tell("stands", **self.last_position._asdict())

@@ -34,7 +34,7 @@ class Stream:
         self.is_behind = False
         self._waiting: deque[bytes] = deque()
         self._bytes = 0
-        self._came = asyncio.Event()
+        self._arrival = asyncio.Event()
 
     @property
     def name(self) -> str:
@@ -49,18 +49,18 @@ class Stream:
         else:
             self._waiting.append(data)
             self._bytes += len(data)
-        self._came.set()
+        self._arrival.set()
 
     async def come(self) -> None:
         """Waits until the stream has data to send."""
-        await self._came.wait()
+        await self._arrival.wait()
 
     def take(self) -> bytes:
         """The data to send."""
         data = b"".join(self._waiting)
         self._waiting.clear()
         self._bytes = 0
-        self._came.clear()
+        self._arrival.clear()
         return data
 
 
@@ -104,14 +104,14 @@ class Streams:
         you = {"event": "you", "who": stream.name, "number": stream.number, "recording": self._recording or None}
         stream.put(b"".join([message(you), *self._kept, *self._states.values()]))
         self._streams[stream.number] = stream
-        self._tell_who_is_here()
+        self._tell_browsers()
         try:
             yield stream
         finally:
             del self._streams[stream.number]
-            self._tell_who_is_here()
+            self._tell_browsers()
 
-    def _tell_who_is_here(self) -> None:
+    def _tell_browsers(self) -> None:
         data = message({"event": "browsers", "here": [stream.name for stream in self._streams.values()]})
         for stream in self._streams.values():
             stream.put(data)

@@ -92,5 +92,5 @@ class Wire:
 
     async def _take_rest(self) -> None:
         left = TAKEN_STILL
-        while left > 0 and (came := await self._reader.read(left)):
-            left -= len(came)
+        while left > 0 and (data := await self._reader.read(left)):
+            left -= len(data)

@@ -338,11 +338,11 @@ class Wishes(unittest.TestCase):
         assert isinstance(wish, Wish)
         self.assertTrue(points.set("main.go", [3, 5, 9], wish)["verified"])
         status = self.session.changes().value("gor 0", 5)
-        self.assertEqual([one.split(":")[0] for one in points.told(3, 9)], ["at 5", "at 9"])
-        self.assertEqual([one.split(":")[0] for one in points.told(9, 3)], ["at 5", "at 3"])
-        self.assertEqual(next(points.told(3, 5)), f"at 5: 5 has {status}, {{{status}}}")
+        self.assertEqual([one.split(":")[0] for one in points.messages(3, 9)], ["at 5", "at 9"])
+        self.assertEqual([one.split(":")[0] for one in points.messages(9, 3)], ["at 5", "at 3"])
+        self.assertEqual(next(points.messages(3, 5)), f"at 5: 5 has {status}, {{{status}}}")
         points.clear("main.go")
-        self.assertEqual(list(points.told(0, 9)), [])
+        self.assertEqual(list(points.messages(0, 9)), [])
 
 
 class Files(unittest.TestCase):

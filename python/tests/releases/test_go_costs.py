@@ -57,8 +57,8 @@ class Requests(unittest.TestCase):
 
     def test_a_way_is_compared_with_the_first_one_of_the_same_round(self) -> None:
         served = Served("1.27.3", (pathlib.Path(), pathlib.Path()), 1_000, list(SERVED))
-        served.took[20, "without the overlay"] = [100_000, 200_000, 400_000]
-        served.took[20, "recording"] = [110_000, 300_000, 440_000]
+        served.times[20, "without the overlay"] = [100_000, 200_000, 400_000]
+        served.times[20, "recording"] = [110_000, 300_000, 440_000]
         for way in ("without the overlay", "recording"):
             served.kept[20, way] = [0]
         out = io.StringIO()

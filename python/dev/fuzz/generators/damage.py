@@ -67,8 +67,8 @@ def line_doubled(dice: random.Random, text: bytes) -> bytes:
 
 def lines_exchanged(dice: random.Random, text: bytes) -> bytes:
     lines = text.split(b"\n")
-    one, other = dice.randrange(len(lines)), dice.randrange(len(lines))
-    lines[one], lines[other] = lines[other], lines[one]
+    index, other = dice.randrange(len(lines)), dice.randrange(len(lines))
+    lines[index], lines[other] = lines[other], lines[index]
     return b"\n".join(lines)
 
 

@@ -125,7 +125,7 @@ class Traffic(Program):
     def pass_time(self, most: int) -> None:
         super().pass_time(most)
         if self.bug is Bug.LEFT_BEHIND:
-            self.passed.update(one for one in self.planted if self.has_passed(one))
+            self.passed.update(planted for planted in self.planted if self.has_passed(planted))
 
     def has_passed(self, planted: Planted) -> bool:
         """Whether the write deadline of the connection has passed."""
@@ -175,11 +175,11 @@ class Traffic(Program):
 
     def connection(self, g: int) -> Turns:
         """Opens a connection, starts the goroutines that use it, and closes it."""
-        made = self.may("sockopen", 64, 40)
+        answer = self.may("sockopen", 64, 40)
         yield
-        if not made:
+        if not answer:
             return
-        s = made[1]
+        s = answer[1]
         while not (opened := self.may("pollopen", g, s)):
             yield
         self.descriptors[s] = d = opened[1]
@@ -288,7 +288,9 @@ class Traffic(Program):
         """Sets a deadline in the past to end the reads, and removes it. With the bug, it doesn't wait for the reads to
         end first."""
         d = self.descriptors[s]
-        parked = [one for one in self.world.inside(d, "r") if self.world.goroutines[one][0] == "parked"]
+        parked = [
+            goroutine for goroutine in self.world.inside(d, "r") if self.world.goroutines[goroutine][0] == "parked"
+        ]
         if not (parked and self.is_due(Bug.TAKEN_BACK)):
             yield from self.set_deadline(g, s, "r", -1)
             while self.world.inside(d, "r"):
@@ -296,7 +298,9 @@ class Traffic(Program):
             return (yield from self.set_deadline(g, s, "r", 0))
         if self.do("incref", g, s)[0] == "yes":
             yield
-            parked = [one for one in self.world.inside(d, "r") if self.world.goroutines[one][0] == "parked"]
+            parked = [
+                goroutine for goroutine in self.world.inside(d, "r") if self.world.goroutines[goroutine][0] == "parked"
+            ]
             self.do("setdeadline", g, d, "r", -1)
             if parked:
                 self.plant(s, parked[0], d)
@@ -331,16 +335,16 @@ class Count(NamedTuple):
     besides: int = 0
 
     def __add__(self, other: tuple[Any, ...]) -> "Count":
-        return Count(*(one + more for one, more in zip(self, other)))
+        return Count(*(count + more for count, more in zip(self, other)))
 
 
 def judged(traffic: Traffic) -> Count:
     """What the rules find in a recording."""
-    shown = [one for one in suspects_of(Recording(traffic.text())).suspects if one.is_shown]
+    shown = [suspect for suspect in suspects_of(Recording(traffic.text())).suspects if suspect.is_shown]
     right = [
         traffic.bug is not None
         and suspect.rule in RULES[traffic.bug]
-        and any(one.is_of(suspect) for one in traffic.planted)
+        and any(planted.is_of(suspect) for planted in traffic.planted)
         for suspect in shown
     ]
     return Count(int(traffic.symptom()), int(right[:1] == [True]), int(any(right)), right.count(False))
@@ -362,7 +366,8 @@ def main(words: list[str]) -> None:
     print(f"{'planted':<50} {'shows':>6} {'first':>6} {'named':>6} {'besides':>8}")
     for bug in (None, *Bug):
         print(
-            f"{bug.value if bug else 'nothing':<50} {' '.join(f'{one:>6}' for one in counted(bug, seeds))}", flush=True
+            f"{bug.value if bug else 'nothing':<50} {' '.join(f'{count:>6}' for count in counted(bug, seeds))}",
+            flush=True,
         )
 
 

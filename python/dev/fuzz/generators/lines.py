@@ -20,9 +20,9 @@ NONSENSE = (
 
 def every_cell(limits: Limits, length: int, backwards: bool) -> bytes:
     """A script that prints all cells at each position of a recording, forwards or backwards."""
-    made = {"gor": limits.gor, **dict.fromkeys(SHOWS_SOCKET, limits.sock), **dict.fromkeys(SHOWS_DESC, limits.desc)}
+    counts = {"gor": limits.gor, **dict.fromkeys(SHOWS_SOCKET, limits.sock), **dict.fromkeys(SHOWS_DESC, limits.desc)}
     looks = [f"print {cell}" for cell in CELLS_OF_ALL]
-    looks += [f"print {cell} {number}" for cell, most in made.items() for number in range(min(most, 9))]
+    looks += [f"print {cell} {number}" for cell, most in counts.items() for number in range(min(most, 9))]
     looks += [f"dump {dump} {number}" for dump in DUMPS for number in range(min(limits.sock, 3))]
     begin, move = (f"stepi {length + 1}\n", "reverse-stepi\n") if backwards else ("", "stepi\n")
     return (begin + ("".join(f"{look}\n" for look in looks) + move) * (length + 1)).encode()

@@ -29,7 +29,9 @@ class Program:
     def do(self, kind: str, *arguments: Any) -> tuple[Any, ...]:
         """Makes a step and returns its answer."""
         self.world, answer = apply(self.world, (kind, *arguments))
-        self.steps.append([kind, *(one.hex() if isinstance(one, bytes) else one for one in arguments)])
+        self.steps.append(
+            [kind, *(argument.hex() if isinstance(argument, bytes) else argument for argument in arguments)]
+        )
         return answer
 
     def may(self, kind: str, *arguments: Any) -> tuple[Any, ...]:

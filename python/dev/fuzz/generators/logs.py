@@ -44,8 +44,8 @@ def binary(
     of_holders = (len(holders or ()), holders_lost, 0 if holders is None else 1)
     header = struct.pack("<19Q", *words, 0, *of_holders, 0, 0, 0, is_sparse)
     table = bytearray(STACKS * 256)
-    for number, (made, started, calls) in (stacks or {}).items():
-        of_stack = (number, len(calls), made, started, *calls)
+    for number, (creation, started, calls) in (stacks or {}).items():
+        of_stack = (number, len(calls), creation, started, *calls)
         struct.pack_into(f"<{len(of_stack)}Q", table, (number - 1) * 256, *of_stack)
     ring = bytearray(room * 64)
     for point in points:
@@ -96,6 +96,8 @@ def to_text(log: Log, symbols: Symbols) -> str:
     numbers = {stack: number for number, stack in enumerate(used, 1)}
     lines: list[object] = [{"begin": log.begin}]
     lines += [{"stack": numbers[stack], **log.stacks[stack]._asdict()} for stack in used]
-    lines += [{"address": at, "function": told[0], "file": told[1], "line": told[2]} for at, told in symbols.items()]
+    lines += [
+        {"address": at, "function": symbol[0], "file": symbol[1], "line": symbol[2]} for at, symbol in symbols.items()
+    ]
     lines += [list(point._replace(stack=numbers.get(point.stack, 0))) for point in log.points]
     return "".join(json.dumps(line, separators=(",", ":")) + "\n" for line in lines)

@@ -31,7 +31,7 @@ class Hunt(Program):
         super().__init__(seed, self.limits_of)
         self.length, self.has_bug = length, has_bug
         self.live: set[int] = set()
-        self.made = 0
+        self.connection_count = 0
         self.planted: Optional[tuple[int, int]] = None  # the goroutine and the socket with the bug
 
     def run(self) -> "Hunt":
@@ -44,7 +44,7 @@ class Hunt(Program):
         """Opens a connection, or lets a goroutine, the network or the clock make a step."""
         chance, ready = self.dice.random(), self.ready()
         if chance < 0.05 and self.has_room():
-            self.made += 1
+            self.connection_count += 1
             self.go(self.connection)
         elif chance < self.share_of_goroutines and ready:
             self.turn(self.dice.choice(ready))
@@ -57,7 +57,11 @@ class Hunt(Program):
 
     def has_room(self) -> bool:
         """Whether another connection may be opened."""
-        return len(self.live) < self.most_live and self.made < self.most_made and len(self.steps) < self.length * 0.95
+        return (
+            len(self.live) < self.most_live
+            and self.connection_count < self.most_made
+            and len(self.steps) < self.length * 0.95
+        )
 
     def opened(self, g: int, rooms: tuple[int, int]) -> Turns:
         """Opens a connection and returns its socket."""
@@ -201,7 +205,7 @@ class Refused(Hunt):
 HUNTS: dict[str, Type[Hunt]] = {"keeper": Keeper, "refused": Refused}
 
 
-def made(name: str, length: int, has_bug: bool = True) -> Hunt:
+def hunt_of(name: str, length: int, has_bug: bool = True) -> Hunt:
     """The hunt of that name, with this many steps or a few more."""
     return HUNTS[name](SEEDS[name], length, has_bug).run()
 

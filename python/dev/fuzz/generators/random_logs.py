@@ -31,7 +31,7 @@ PLACES = ("entering", "armed", "parking", "parked", "swapping", "checking")
 THEMES = ("reads", "writes", "deadlines", "closes", "locks", "")
 
 
-Asked = Callable[[Recording], str]
+Check = Callable[[Recording], str]
 
 
 @dataclass(eq=False)
@@ -171,7 +171,7 @@ class Program:
             called.outcome = CODES_IN_WORDS.get(code, called.outcome)
             yield from runtime.decref(g, fd)
 
-    def read(self, called: Called, asked: int) -> Turns:
+    def read(self, called: Called, size: int) -> Turns:
         runtime, g, fd = self.runtime, called.goroutine, called.fd
         assert fd.pd
         if not (yield from runtime.rwlock(g, fd, "r")):
@@ -183,11 +183,11 @@ class Program:
             if fd.reset:
                 got, error = RESET_BY_PEER, OTHER
             elif fd.input:
-                got = min(asked, fd.input)
+                got = min(size, fd.input)
                 fd.input -= got
             elif not fd.peer_closed:
                 error = AGAIN
-            runtime.log(Kind.READ, g, fd.address, asked, got, error)
+            runtime.log(Kind.READ, g, fd.address, size, got, error)
             called.moved += max(got, 0)
             called.is_in_doubt |= fd.reset
             yield
@@ -240,10 +240,10 @@ class Program:
         mode = dice.choice(("r", "w", "rw", "rw"))
         # (another goroutine may read the clock later and log its point at another descriptor first)
         now = max(
-            runtime.clock - dice.randint(0, self.choices.lag), *(self.read_clock.get(one, 0) for one in (g, fd.pd))
+            runtime.clock - dice.randint(0, self.choices.lag), *(self.read_clock.get(owner, 0) for owner in (g, fd.pd))
         )
         d = dice.choice((0, -1, -7, 1, 2, 3, 10, 10, 40, 2**62, 2**63 - 1))
-        same = [one for one in (fd.pd.rd, fd.pd.wd) if runtime.begin + now < one < 2**62]
+        same = [deadline for deadline in (fd.pd.rd, fd.pd.wd) if runtime.begin + now < deadline < 2**62]
         if same and dice.random() < 0.4:  # the same time as the other side's
             d = same[0] - runtime.begin - now
         if 0 < d <= runtime.clock - now:  # (in a recording, no new deadline is already in the past)
@@ -373,29 +373,29 @@ def wrong(seed: str) -> str:
     return wrong_with(program_of(seed))
 
 
-def wrong_with(program: Program, asked: Asked = lambda _: "") -> str:
-    """The fault that the model finds, or, if it finds none, the fault that `asked` finds."""
+def wrong_with(program: Program, check: Check = lambda _: "") -> str:
+    """The fault that the model finds, or, if it finds none, the fault that `check` finds."""
     log = log_of(program)
     try:
         recording = make(log)
     except NothingRecordedError:
         return ""
-    machine, steps, said = replayed(recording)
-    return said or differs(program, log, recording, machine, steps) or asked(recording)
+    machine, steps, fault = replayed(recording)
+    return fault or differs(program, log, recording, machine, steps) or check(recording)
 
 
 def wrong_by(seed: str, folder: Path, netrev: str) -> str:
     """The fault in the recording made from a seed's log; empty if the recording is right. The model checks it. For some seeds, netrev
     checks it too."""
 
-    def asked(recording: Recording) -> str:
+    def check(recording: Recording) -> str:
         path = folder / "made.jsonl"
         path.write_bytes(text_of(recording))
         ran = subprocess.run([netrev, "check", path], stdout=subprocess.PIPE, check=False)
         return "" if ran.stdout == f"ok {len(recording.lines)} steps\n".encode() else f"netrev says {ran.stdout!r}"
 
     is_asked = random.Random(f"{seed} netrev").random() < ASKED
-    return wrong_with(program_of(seed), asked) if is_asked else wrong_with(program_of(seed))
+    return wrong_with(program_of(seed), check) if is_asked else wrong_with(program_of(seed))
 
 
 def text_of(recording: Recording) -> bytes:
@@ -424,8 +424,8 @@ def differs(program: Program, log: Log, recording: Recording, machine: Machine, 
         if len(sockets) != sum(fd.pd is not None for fd in program.all):
             return f"{len(sockets)} sockets are kept"
     for number, fd in sockets.items():
-        if said := socket_differs(program, recording, machine, number, fd):
-            return f"socket {number}: {said}"
+        if fault := socket_differs(program, recording, machine, number, fd):
+            return f"socket {number}: {fault}"
     since = max((point.number for point in log.points if point.kind == Kind.NOTES_END), default=-1)
     points = [
         (point, socket.number) for point, socket in recording.points if not recording.prelude or point.number > since
@@ -462,7 +462,9 @@ def socket_differs(program: Program, recording: Recording, machine: Machine, num
     if open_ones and not fd.is_gone and fd.pd:
         d, pd = open_ones[0], fd.pd
         desc = machine.descs[d]
-        deadlines = tuple(max(1, one - runtime.begin) if 0 < one < 2**63 - 1 else one for one in (pd.rd, pd.wd))
+        deadlines = tuple(
+            max(1, deadline - runtime.begin) if 0 < deadline < 2**63 - 1 else deadline for deadline in (pd.rd, pd.wd)
+        )
         state |= {
             "closing": (desc.closing, pd.closing),
             "error": (desc.error, pd.error),
@@ -474,7 +476,9 @@ def socket_differs(program: Program, recording: Recording, machine: Machine, num
         for side, (g, place) in pd.places.items():
             is_woken = place == "parked" and pd.words[side] != g
             state[f"place of {g}"] = (machine.goroutines[names[g]], ("swapping" if is_woken else place, d, side))
-    return next((f"{name}: {had}, and Go has {has}" for name, (had, has) in state.items() if had != has), "")
+    return next(
+        (f"{name}: {had}, and Go has {expected}" for name, (had, expected) in state.items() if had != expected), ""
+    )
 
 
 def bytes_differ(points: list[tuple[Point, int]], steps: list[tuple[Step, Any]]) -> str:
@@ -500,9 +504,9 @@ def order_differs(recording: Recording, points: list[tuple[Point, int]], steps: 
         for step, answer in steps
         if step[0] in SPELLED.values()
     ]
-    for place, (one, other) in enumerate(zip(found, expected)):
-        if one != other:
-            return f"the goroutines' step {place} is {one}, and the log has {other}"
+    for place, (step, other) in enumerate(zip(found, expected)):
+        if step != other:
+            return f"the goroutines' step {place} is {step}, and the log has {other}"
     return "" if len(found) == len(expected) else f"{len(found)} steps of goroutines, and the log has {len(expected)}"
 
 

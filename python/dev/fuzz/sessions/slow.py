@@ -28,10 +28,10 @@ class Slow(Own):
         self._happens(self)
         super()._send(text)
 
-    def _next(self, asked: str) -> Optional[str]:
+    def _next(self, sent: str) -> Optional[str]:
         self._waits = not self._lines.has_one()
         self._happens(self)
-        return super()._next(asked)
+        return super()._next(sent)
 
     def while_stopped(self, *happening: Callable[[], None]) -> None:
         """Stops netrev, lets these events happen one after another, and continues it. If no reply is awaited, or netrev is already stopped,

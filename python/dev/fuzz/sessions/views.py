@@ -50,11 +50,11 @@ class Judge:
     def wrong_reply(self, line: str, event: Event) -> str:
         """Checks netrev's reply against the model's. After `goto` and `until`, the model also moves to the new
         position."""
-        told, words = list(event["reply"]), line.split()
+        reply, words = list(event["reply"]), line.split()
         if (
             words[0] in ("goto", "until", "reverse-until")
-            and not told[0].startswith(("rg", "wg"))
-            and "=" not in told[0]
+            and not reply[0].startswith(("rg", "wg"))
+            and "=" not in reply[0]
         ):
             goal = int(words[1]) if words[0] == "goto" else self.found(words[0], *cell_and_rest(words[1:]))
             self.session.state = self.session.state._replace(position=goal if goal is not None else -1)
@@ -62,7 +62,7 @@ class Judge:
         else:
             right = list(self.session.answer(event["line"].encode()) or ())
         self.position = self.session.state.position
-        return "" if told == right else f"{line} is answered {told}, the model's {right}"
+        return "" if reply == right else f"{line} is answered {reply}, the model's {right}"
 
     def found(self, way: str, cell: str, value: str) -> Optional[int]:
         """The nearest position in that direction after a step that gave the cell this value."""
@@ -72,7 +72,7 @@ class Judge:
         for position in ways:
             now = self.value(cell, position)
             if now != self.value(cell, position - 1) and any(
-                fnmatchcase(said, value) for said in (now, in_words(cell, now))
+                fnmatchcase(text, value) for text in (now, in_words(cell, now))
             ):
                 return position
         return None
@@ -101,11 +101,11 @@ class Judge:
         judge: Callable[[str, Rows, str], str] = getattr(self, f"wrong_{event['topic']}")
         return judge(line, event["rows"], event["rest"] or "")
 
-    def differs(self, line: str, told: Any, right: Any) -> str:
+    def differs(self, line: str, shown: Any, right: Any) -> str:
         """The text and the expected text, if they differ."""
-        return "" if told == right else f"{line} at {self.position} tells {told}, and right is {right}"
+        return "" if shown == right else f"{line} at {self.position} tells {shown}, and right is {right}"
 
-    def made(self, cell: str) -> list[int]:
+    def numbers_of(self, cell: str) -> list[int]:
         """The numbers for which a cell exists."""
         numbers: list[int] = []
         while self.value(f"{cell} {len(numbers)}") != "absent":
@@ -119,14 +119,15 @@ class Judge:
                 return wrong
         grouped = [number for row in groups for number in row["goroutines"]]
         rows = [row for row in rows if "goroutines" not in row]
-        told = sorted(
-            [(row["goroutine"], row["status"]) for row in rows] + [(one, self.value(f"gor {one}")) for one in grouped]
+        shown = sorted(
+            [(row["goroutine"], row["status"]) for row in rows]
+            + [(number, self.value(f"gor {number}")) for number in grouped]
         )
-        right = [(number, self.value(f"gor {number}")) for number in self.made("gor")]
+        right = [(number, self.value(f"gor {number}")) for number in self.numbers_of("gor")]
         if not line.endswith("all"):
             right = [(number, status) for number, status in right if status not in QUIET]
         waits = (self.wrong_wait(row["goroutine"], row["status"], row["waits_for"]) for row in rows)
-        return self.differs(line, told, right) or next(filter(None, waits), "")
+        return self.differs(line, shown, right) or next(filter(None, waits), "")
 
     def wrong_group(self, row: Mapping[str, Any]) -> str:
         """Checks goroutines that are listed together because they sleep in the same way: each must have that status,
@@ -146,7 +147,7 @@ class Judge:
         queue = self.queue({"r": "rq", "w": "wq"}[side], socket)
         place = [queue.index(goroutine) + 1, len(queue)] if goroutine in queue else []
         found = PLACE.search(words)
-        told = [int(found[1]), int(found[2])] if found else []
+        shown = [int(found[1]), int(found[2])] if found else []
         word = LockWord.of(int(self.value(f"lock {socket}")))
         taken = TAKEN.search(words)
         if bool(taken) != (word.read_locked if side == "r" else word.write_locked):
@@ -155,10 +156,10 @@ class Judge:
             step = self.steps[int(taken[2]) - 1]
             if step != ("rwlock", int(taken[1]), socket, side):
                 return f"goroutine {goroutine} at {self.position}: {words}, and that step is {step}"
-        return self.differs(f"goroutine {goroutine}", told, place)
+        return self.differs(f"goroutine {goroutine}", shown, place)
 
     def wrong_sockets(self, line: str, rows: Rows, rest: str) -> str:
-        right = [self.socket(number) for number in self.made("lock")]
+        right = [self.socket(number) for number in self.numbers_of("lock")]
         if not line.endswith("all"):
             right = [row for row in right if says_something(row)]
         names = ("socket", *SOCKET_CELLS, "rq", "wq")
@@ -173,7 +174,7 @@ class Judge:
         world = self.worlds[self.position]
         right: list[dict[str, Any]] = [
             {"descriptor": number} | {name: self.value(f"{name} {number}") for name in DESCRIPTOR_CELLS}
-            for number in self.made("fdseq")
+            for number in self.numbers_of("fdseq")
             if line.endswith("all") or world.is_open(number)
         ]
         names = ("descriptor", *DESCRIPTOR_CELLS)
@@ -184,12 +185,12 @@ class Judge:
         world = self.worlds[self.position]
         due = sorted(
             (int(self.value(f"{side}d {number}")), number, side)
-            for number in self.made("fdseq")
+            for number in self.numbers_of("fdseq")
             for side in "rw"
             if world.is_open(number)
         )
-        told = [(row["deadline"], row["descriptor"], row["side"]) for row in rows[1:]]
-        return self.differs(line, [rows[0], told], [right, [one for one in due if one[0] > 0]])
+        shown = [(row["deadline"], row["descriptor"], row["side"]) for row in rows[1:]]
+        return self.differs(line, [rows[0], shown], [right, [timer for timer in due if timer[0] > 0]])
 
     def wrong_holders(self, line: str, rows: Rows, rest: str) -> str:
         shown = self.value(f"lock {line.split()[-1]}")
@@ -210,44 +211,44 @@ class Judge:
 
     def wrong_marks(self, line: str, rows: Rows, rest: str) -> str:
         watched = [row for row in rows if row["sort"] == "watch"]
-        told = [(row["old"], row["new"]) for row in watched]
+        shown = [(row["old"], row["new"]) for row in watched]
         right = [(self.value(row["what"], self.position - 1), self.value(row["what"])) for row in watched]
-        return self.differs(line, told, right)
+        return self.differs(line, shown, right)
 
     def wrong_changed(self, line: str, rows: Rows, rest: str) -> str:
         """Checks the cells that nrdb prints for the last step. They must be exactly the cells whose values the step changed."""
-        told = sorted((row["cell"], row["old"], row["new"]) for row in rows)
+        shown = sorted((row["cell"], row["old"], row["new"]) for row in rows)
         numbers = {
             Of.ALL: [""],
-            Of.GOROUTINE: [f" {number}" for number in self.made("gor")],
-            Of.SOCKET: [f" {number}" for number in self.made("lock")],
-            Of.DESCRIPTOR: [f" {number}" for number in self.made("fdseq")],
+            Of.GOROUTINE: [f" {number}" for number in self.numbers_of("gor")],
+            Of.SOCKET: [f" {number}" for number in self.numbers_of("lock")],
+            Of.DESCRIPTOR: [f" {number}" for number in self.numbers_of("fdseq")],
         }
         cells = [f"{cell.name}{number}" for cell in CELLS.values() for number in numbers[cell.of]]
         both = [(cell, self.value(cell, self.position - 1), self.value(cell)) for cell in cells]
-        return self.differs(line, told, sorted(one for one in both if one[1] != one[2]))
+        return self.differs(line, shown, sorted(change for change in both if change[1] != change[2]))
 
     def wrong_timer(self, line: str, rows: Rows, rest: str) -> str:
         """Checks the owners of the timers in the steps around the position, and the steps that set them."""
-        told, right = [], []
+        shown, right = [], []
         for row in rows:
             number = row["step"]
             kind, *arguments = self.steps[number - 1]
             at = self.worlds[number if kind == "pop" else number - 1]
             timer = at.firings[-1 if kind == "pop" else arguments[0]]
-            told.append([row[name] for name in ("sides", "descriptor", "due")])
+            shown.append([row[name] for name in ("sides", "descriptor", "due")])
             right.append([timer.covers, timer.desc, timer.when])
             setting = self.steps[row["set_at"] - 1]
-            told.append([row["set_by"], row["descriptor"]])
+            shown.append([row["set_by"], row["descriptor"]])
             right.append(list(setting[1:3]) if setting[0] == "setdeadline" else [setting[0]])
-        return self.differs(line, told, right)
+        return self.differs(line, shown, right)
 
     def wrong_display(self, line: str, rows: Rows, rest: str) -> str:
         return self.differs(line, [row["value"] for row in rows], [self.value(row["cell"]) for row in rows])
 
     def wrong_list(self, line: str, rows: Rows, rest: str) -> str:
-        told = [(row["step"], row["does"].split()[0]) for row in rows]
-        return self.differs(line, told, [(step, self.steps[step - 1][0]) for step, _ in told])
+        shown = [(row["step"], row["does"].split()[0]) for row in rows]
+        return self.differs(line, shown, [(step, self.steps[step - 1][0]) for step, _ in shown])
 
 
 def cell_and_rest(words: Sequence[str]) -> tuple[str, str]:

@@ -35,13 +35,13 @@ def offered() -> list[Body]:
     """The filters as the protocol offers them."""
     return [
         {
-            "filter": one.value,
-            "label": LABELS[one],
-            "description": SAYS[one],
+            "filter": sort.value,
+            "label": LABELS[sort],
+            "description": SAYS[sort],
             "default": False,
             "supportsCondition": False,
         }
-        for one in Filter
+        for sort in Filter
     ]
 
 
@@ -62,31 +62,31 @@ class Filters:
 
     def replace(self, names: Iterable[object]) -> list[Body]:
         """Replaces the filters, and returns the protocol's answer for each."""
-        known = {one.value: one for one in Filter}
-        asked = list(names)
-        self._set = frozenset(known[name] for name in asked if isinstance(name, str) and name in known)
+        known = {sort.value: sort for sort in Filter}
+        listed = list(names)
+        self._set = frozenset(known[name] for name in listed if isinstance(name, str) and name in known)
         return [
             {"verified": True}
             if name in known
             else {"verified": False, "message": texts.NOT_A_FILTER.format(name=name)}
-            for name in asked
+            for name in listed
         ]
 
     @cached_property
     def _all(self) -> dict[Filter, list[Failure]]:
         """Everything that went wrong, by filter, in the order of the steps."""
-        shown = [one for one in suspects_of(self._recording).suspects if one.is_shown]
+        shown = [suspect for suspect in suspects_of(self._recording).suspects if suspect.is_shown]
         failed = [call for call in book_of(self._recording).calls if call.last and call.outcome.is_error]
-        found: dict[Filter, list[Failure]] = {one: [] for one in Filter}
-        found[Filter.SUSPECTS] = [Failure(one.step, one.rule, one.sentence()) for one in shown]
+        found: dict[Filter, list[Failure]] = {sort: [] for sort in Filter}
+        found[Filter.SUSPECTS] = [Failure(suspect.step, suspect.rule, suspect.sentence()) for suspect in shown]
         for call in failed:
             sort = Filter.TIMEOUTS if call.outcome is Outcome.TIMED_OUT else Filter.ERRORS
             found[sort].append(Failure(call.last, call.outcome.value, f"goroutine {call.goroutine}'s {call.words()}"))
-        return {one: sorted(wrong) for one, wrong in found.items()}
+        return {sort: sorted(wrong) for sort, wrong in found.items()}
 
     def _positions(self) -> list[int]:
         """The positions at which the active filters stop, in ascending order."""
-        return sorted({wrong.step - 1 for one in self._set for wrong in self._all[one]})
+        return sorted({wrong.step - 1 for sort in self._set for wrong in self._all[sort]})
 
     def nearest(self, position: int, forwards: bool) -> Optional[int]:
         """The nearest later (or, backwards, earlier) position at which a filter stops."""
@@ -96,4 +96,6 @@ class Filters:
 
     def at(self, position: int) -> list[Failure]:
         """What goes wrong at the next step, for the filters that are set."""
-        return [wrong for one in Filter if one in self._set for wrong in self._all[one] if wrong.step == position + 1]
+        return [
+            wrong for sort in Filter if sort in self._set for wrong in self._all[sort] if wrong.step == position + 1
+        ]

@@ -126,16 +126,16 @@ class Looks:
         function and line in the program."""
         world, recording = self._world, self._debuggee.recording
         statuses = world.of_each(range(world.count(Of.GOROUTINE)), "gor")
-        there = [goroutine for goroutine, (status,) in statuses.items() if status != "gone"]
+        goroutines = [goroutine for goroutine, (status,) in statuses.items() if status != "gone"]
         waits = {wait.name: wait for wait in waits_of(recording).all_at(self._debuggee.position)}
-        stacks = self._stacks(there) if recording.lines else {}
+        stacks = self._stacks(goroutines) if recording.lines else {}
         threads = []
-        for one in there:
-            wait = waits.get(Name(one)) if statuses[one][0] == "idle" else None
-            does, stack = (wait.does, wait.stack) if wait else (statuses[one][0], stacks.get(one))
-            goid = recording.lines.reused_goid(one, self._debuggee.position)
-            name = f"goroutine {one}{f' (goid {goid})' if goid else ''}"
-            threads.append({"id": thread_of(one), "name": f"{name}: {does}{place_words(stack)}"})
+        for goroutine in goroutines:
+            wait = waits.get(Name(goroutine)) if statuses[goroutine][0] == "idle" else None
+            does, stack = (wait.does, wait.stack) if wait else (statuses[goroutine][0], stacks.get(goroutine))
+            goid = recording.lines.reused_goid(goroutine, self._debuggee.position)
+            name = f"goroutine {goroutine}{f' (goid {goid})' if goid else ''}"
+            threads.append({"id": thread_of(goroutine), "name": f"{name}: {does}{place_words(stack)}"})
         for other, wait in sorted(waits.items()):
             if other.is_goid:
                 threads.append({"id": GOIDS + other.number, "name": f"{other}: {wait.does}{place_words(wait.stack)}"})
@@ -145,7 +145,7 @@ class Looks:
         """The stack of each goroutine's last step."""
         recording = self._debuggee.recording
         steps = last_steps(recording, self._debuggee.position, goroutines)
-        return {one: recording.lines.of(step) for one, step in steps.items()}
+        return {goroutine: recording.lines.of(step) for goroutine, step in steps.items()}
 
     def frames_of(self, thread: int) -> list[Body]:
         """The stack of a thread."""
@@ -240,7 +240,7 @@ class Looks:
         if socket is None and descriptor is not None:
             socket = sockets.get(descriptor)
         elif descriptor is None and socket is not None:
-            descriptor = next((one for one, its in sockets.items() if its == socket), None)
+            descriptor = next((candidate for candidate, its in sockets.items() if its == socket), None)
         named = [(Of.SOCKET, socket), (Of.DESCRIPTOR, descriptor)]
         return [Cells(of, number) for of, number in named if number is not None]
 

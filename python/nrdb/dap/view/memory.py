@@ -34,9 +34,9 @@ def read(netrev: Netrev, request: Request) -> Body:
     if shown == "absent":
         raise UnanswerableError(texts.NO_BUFFER.format(name=named))
     held = b"" if shown == "-" else bytes.fromhex(shown)
-    there = held[max(begin, 0) : max(begin + count, 0)] if begin >= 0 else b""
-    missing = count - len(there)
-    data: Body = {"data": base64.b64encode(there).decode("ascii")} if there else {}
+    content = held[max(begin, 0) : max(begin + count, 0)] if begin >= 0 else b""
+    missing = count - len(content)
+    data: Body = {"data": base64.b64encode(content).decode("ascii")} if content else {}
     return {"address": hex(max(begin, 0)), **data, **({"unreadableBytes": missing} if missing else {})}
 
 

@@ -53,7 +53,7 @@ class Request:
     def objects(self, name: str) -> list[Body]:
         """The argument with this name, which must be a list of objects; an empty list if it is missing."""
         value = self.arguments.get(name) or []
-        if not isinstance(value, list) or not all(isinstance(one, dict) for one in value):
+        if not isinstance(value, list) or not all(isinstance(item, dict) for item in value):
             raise UnanswerableError(texts.OBJECTS.format(command=self.command, name=name))
         return value
 
@@ -64,7 +64,7 @@ class Wire:
     def __init__(self, reader: BinaryIO, writer: BinaryIO, most: Optional[int] = None):
         self._reader, self._writer = reader, writer
         self.most = most  # the maximum number of bytes that may arrive in all, headers included
-        self._came = 0
+        self._arrived_bytes = 0
         self._sent, self._lock = 0, Lock()
         self.received = 0  # the bytes of all messages so far
 
@@ -89,7 +89,7 @@ class Wire:
         while (line := self._reader.readline(LONGEST_HEADER)) not in (b"\r\n", b"\n"):
             if not line:
                 return None
-            self._came += len(line)
+            self._arrived_bytes += len(line)
             name, _, value = line.partition(b":")
             name = name.strip().lower()
             if name not in HEADERS or name in found:
@@ -98,8 +98,8 @@ class Wire:
         length = found.get(HEADERS[0], b"")
         if not length.isdigit() or int(length) > LONGEST:
             raise MalformedMessageError(texts.CONTENT_LENGTH)
-        self._came += int(length)
-        if self.most is not None and self._came > self.most:
+        self._arrived_bytes += int(length)
+        if self.most is not None and self._arrived_bytes > self.most:
             raise MalformedMessageError(texts.TOO_MUCH.format(most=self.most))
         return int(length)
 
@@ -110,8 +110,8 @@ class Wire:
     def refuse(self, request: Request, why: str) -> None:
         """Answers a request that failed, with the reason."""
         error = {"id": 1, "format": why.replace("{", "(").replace("}", ")"), "showUser": True}
-        said = {"success": False, "message": why, "body": {"error": error}}
-        self._send("response", request_seq=request.number, command=request.command, **said)
+        response = {"success": False, "message": why, "body": {"error": error}}
+        self._send("response", request_seq=request.number, command=request.command, **response)
 
     def event(self, name: str, **body: Any) -> None:
         """Sends an event."""

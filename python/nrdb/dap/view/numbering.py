@@ -17,7 +17,7 @@ class Numbering(NamedTuple):
         """A line's number, as the editor counts lines."""
         return line - 1 + self.first
 
-    def asked(self, request: Request, name: str) -> int:
+    def requested_line(self, request: Request, name: str) -> int:
         """The line that a request names."""
         return request.whole_number(name) + 1 - self.first
 

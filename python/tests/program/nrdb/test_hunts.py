@@ -7,7 +7,7 @@ import tempfile
 import unittest
 from pathlib import Path
 
-from dev.fuzz.generators.long_hunts import made
+from dev.fuzz.generators.long_hunts import hunt_of
 from tests.support.examples import KNOWN, REFUSED
 
 from .common.support import EXAMPLES, HUNTS, nrdb, nrdb_process
@@ -43,7 +43,7 @@ class Hunts(unittest.TestCase):
         with tempfile.TemporaryDirectory() as folder:
             for name, length in LONG.items():
                 path, hunt = Path(folder) / f"{name}.jsonl", HUNTS / "made" / f"{name}.nrdb"
-                program = made(name, length)
+                program = hunt_of(name, length)
                 path.write_bytes(program.text())
                 with self.subTest(name):
                     assert program.planted

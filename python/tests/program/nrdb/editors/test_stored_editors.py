@@ -16,7 +16,7 @@ from typing import Any
 
 import pytest
 
-from dev.fuzz.editors import framed, request, told_in
+from dev.fuzz.editors import framed, request, messages_in
 from netrev.machine.cells import CELLS_OF_ALL, CELLS_OF_ONE
 from nrdb.dap.adapter import Adapter
 from nrdb.dap.hearing import Reading
@@ -105,7 +105,7 @@ def conversation(name: str, number: int) -> str:
             Adapter(wire, Reading(wire), NETREV).serve()
         finally:
             os.chdir(here)
-    told = told_in(written.getvalue()) or []
+    told = messages_in(written.getvalue()) or []
     by_number = {one["seq"]: json.dumps(one, sort_keys=True) for one in requests}
     lines = [
         line
