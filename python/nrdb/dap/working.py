@@ -56,12 +56,12 @@ class Work:
             return
         with self._lock, suppress(OSError, ValueError):  # (if the editor has gone, the reading thread notices)
             self._is_late()
-        reported = 0
+        last_position = 0
         while self._is_shown and not self._done.wait(AGAIN):
             with self._lock, suppress(OSError, ValueError):
-                if self._position != reported and not self._done.is_set():
-                    reported = self._position
-                    message, part = f"at {reported} of {self._length}", 100 * reported // max(self._length, 1)
+                if self._position != last_position and not self._done.is_set():
+                    last_position = self._position
+                    message, part = f"at {last_position} of {self._length}", 100 * last_position // max(self._length, 1)
                     self._event("progressUpdate", message=message, percentage=part)
 
     def _is_late(self) -> None:

@@ -72,7 +72,7 @@ def go_to_place(name: str, forwards: bool) -> Answering:
 
     def answer(session: Session, words: list[str]) -> None:
         place, position = place_of(session, words[0]), session.stands().position
-        ahead = [reached for reached in place.positions if (reached > position if forwards else reached < position)]
+        ahead = [visit for visit in place.positions if (visit > position if forwards else visit < position)]
         if not ahead:
             raise UsageError(messages.NOT_REACHED.format(place=words[0], way="later" if forwards else "earlier"))
         arrive(session, f"{name} {words[0]}", session.go(ahead[0] if forwards else ahead[-1]))
@@ -84,8 +84,8 @@ def go_to_place(name: str, forwards: bool) -> Answering:
 def answer_history(session: Session, words: list[str]) -> None:
     """Lists the positions, up to the session's, at which goroutines reached a place."""
     recording, place, position = session.text(), place_of(session, words[0]), session.stands().position
-    past = [reached for reached in place.positions if reached <= position]
-    rows = [row_of(recording, reached) for reached in past[-MOST:]]
+    past = [visit for visit in place.positions if visit <= position]
+    rows = [row_of(recording, visit) for visit in past[-MOST:]]
     rest = [f"{len(past) - len(rows)} earlier"] if len(rows) < len(past) else []
     rest += [f"{len(place.positions) - len(past)} later"] if len(past) < len(place.positions) else []
     session.printer.table(Table("history", rows, "; ".join(rest)))

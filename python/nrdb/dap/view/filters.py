@@ -63,13 +63,13 @@ class Filters:
     def replace(self, names: Iterable[object]) -> list[Body]:
         """Replaces the filters, and returns the protocol's answer for each."""
         known = {sort.value: sort for sort in Filter}
-        listed = list(names)
-        self._set = frozenset(known[name] for name in listed if isinstance(name, str) and name in known)
+        all_names = list(names)
+        self._set = frozenset(known[name] for name in all_names if isinstance(name, str) and name in known)
         return [
             {"verified": True}
             if name in known
             else {"verified": False, "message": texts.NOT_A_FILTER.format(name=name)}
-            for name in listed
+            for name in all_names
         ]
 
     @cached_property
