@@ -47,9 +47,9 @@ class State(NamedTuple):
     position: int = 0
     reverse: bool = False
     marks: Marks = ()
-    marks_made: int = 0
+    mark_count: int = 0
     checkpoints: tuple[tuple[int, int], ...] = ()
-    checkpoints_made: int = 0
+    checkpoint_count: int = 0
 
 
 Answered = tuple[State, Reply]
@@ -228,8 +228,8 @@ class Recording:
     def answer_mark(self, state: State, mark: str) -> Answered:
         if len(state.marks) == MOST_STANDING:
             return state, (MARKS_FULL,)
-        number = state.marks_made + 1
-        return state._replace(marks=(*state.marks, (number, mark)), marks_made=number), (f"mark {number}",)
+        number = state.mark_count + 1
+        return state._replace(marks=(*state.marks, (number, mark)), mark_count=number), (f"mark {number}",)
 
     def answer_delete(self, state: State, number: int) -> Answered:
         left = tuple(mark for mark in state.marks if mark[0] != number)
@@ -240,10 +240,10 @@ class Recording:
     def answer_checkpoint(self, state: State, _: object) -> Answered:
         if len(state.checkpoints) == MOST_STANDING:
             return state, (CHECKPOINTS_FULL,)
-        number = state.checkpoints_made + 1
+        number = state.checkpoint_count + 1
         kept = (*state.checkpoints, (number, state.position))
         reply = f"checkpoint {number} at {state.position}"
-        return state._replace(checkpoints=kept, checkpoints_made=number), (reply,)
+        return state._replace(checkpoints=kept, checkpoint_count=number), (reply,)
 
     def answer_restart(self, state: State, number: int) -> Answered:
         place = 0 if number == 0 else dict(state.checkpoints).get(number)

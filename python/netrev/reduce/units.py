@@ -53,7 +53,7 @@ def _calls(events: Events) -> list[Unit]:
         if event.number in events.kept_for_ever:
             kept[g] = kept.get(g, 0) + 1
         has_ended[g] = rest.is_at_rest and rest.holds <= kept.get(g, 0)
-    return [unit for of_one in calls.values() for unit in of_one]
+    return [unit for units in calls.values() for unit in units]
 
 
 def _frees(events: Events, calls: Optional[list[Unit]], event: Event) -> bool:

@@ -96,9 +96,9 @@ def _compared(scout: Scout, recording: Recording, changes: RecordedChanges) -> i
         while int(step) <= position:
             statuses[cell] = value
             step, cell, value = next(changed, END)
-        for cell_there, shown in zip(goroutines, scout.values(position, goroutines)):
-            if shown != (expected := statuses[cell_there]):
-                words = {"cell": cell_there, "answer": shown, "position": position, "value": expected}
+        for status_cell, shown in zip(goroutines, scout.values(position, goroutines)):
+            if shown != (expected := statuses[status_cell]):
+                words = {"cell": status_cell, "answer": shown, "position": position, "value": expected}
                 raise UsageError(messages.STATUS_DIFFERS.format(**words))
     return len(compared)
 

@@ -10,15 +10,15 @@ MANY = 4  # at least this many goroutines that wait for the same lock or event s
 RUNS = 8  # the maximum number of ranges of numbers in a row
 
 
-def grouped(rows: list[Row], who_has: Callable[[int, str], str]) -> list[Row]:
-    """The rows, with one row for many similar goroutines. `who_has` describes the holder of a socket's lock for a
+def grouped(rows: list[Row], holder_words: Callable[[int, str], str]) -> list[Row]:
+    """The rows, with one row for many similar goroutines. `holder_words` describes the holder of a socket's lock for a
     side."""
     alike: dict[Hashable, list[Row]] = {}
     for at, row in enumerate(rows):
         alike.setdefault(_likeness(row.values) or at, []).append(row)
     result: list[Row] = []
     for some in alike.values():
-        result += [_group(some, who_has)] if len(some) >= MANY else some
+        result += [_group(some, holder_words)] if len(some) >= MANY else some
     return result
 
 
@@ -47,7 +47,7 @@ def _place(values: dict[str, Any]) -> tuple[str, str]:
     return at[0], at[1].partition("; ")[2] if at[1:] else ""
 
 
-def _group(rows: list[Row], who_has: Callable[[int, str], str]) -> Row:
+def _group(rows: list[Row], holder_words: Callable[[int, str], str]) -> Row:
     """One row in place of all these rows."""
     first = rows[0].values
     if first.get("elsewhere"):
@@ -62,7 +62,7 @@ def _group(rows: list[Row], who_has: Callable[[int, str], str]) -> Row:
     numbers = [row.values["goroutine"] for row in rows]
     name, place, side = first["status"].split()
     if name == "queued":
-        why = f"queued for socket {place}'s {SIDES[side]} lock, {who_has(int(place), side)}"
+        why = f"queued for socket {place}'s {SIDES[side]} lock, {holder_words(int(place), side)}"
     else:
         why = f"parked for {DOING[side]}; {'; '.join(_common(first))}"
     goids = {str(row.values["goroutine"]): row.values["goid"] for row in rows if "goid" in row.values}

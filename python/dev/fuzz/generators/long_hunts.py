@@ -25,7 +25,7 @@ class Hunt(Program):
     """A program that opens connections until it has made this many steps."""
 
     limits_of = Limits(gor=4000, sock=250, desc=24, buf=64)
-    most_live, most_made = 18, 245
+    most_live, most_connections = 18, 245
 
     def __init__(self, seed: int, length: int, has_bug: bool = True):
         super().__init__(seed, self.limits_of)
@@ -59,7 +59,7 @@ class Hunt(Program):
         """Whether another connection may be opened."""
         return (
             len(self.live) < self.most_live
-            and self.connection_count < self.most_made
+            and self.connection_count < self.most_connections
             and len(self.steps) < self.length * 0.95
         )
 
@@ -141,7 +141,7 @@ class Refused(Hunt):
     """Requests with deadlines, some of which time out."""
 
     limits_of = Limits(gor=4000, sock=200, desc=16, buf=64)
-    most_live, most_made = 10, 195
+    most_live, most_connections = 10, 195
     share_of_goroutines, longest_tick = 0.85, 900
 
     def run(self) -> "Hunt":

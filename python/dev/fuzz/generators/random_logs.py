@@ -457,10 +457,10 @@ def socket_differs(program: Program, recording: Recording, machine: Machine, num
         "queues": (socket.queues, tuple(tuple(names.get(g) for g in queue) for queue in fd.queues.values())),
         "shut": (socket.shut, fd.was_shut),
     }
-    open_ones = [d for d, desc in enumerate(machine.descs) if desc.socket == number and machine.is_open(d)]
-    state["open"] = (len(open_ones), 0 if fd.is_gone or fd.pd is None else 1)
-    if open_ones and not fd.is_gone and fd.pd:
-        d, pd = open_ones[0], fd.pd
+    open_descriptors = [d for d, desc in enumerate(machine.descs) if desc.socket == number and machine.is_open(d)]
+    state["open"] = (len(open_descriptors), 0 if fd.is_gone or fd.pd is None else 1)
+    if open_descriptors and not fd.is_gone and fd.pd:
+        d, pd = open_descriptors[0], fd.pd
         desc = machine.descs[d]
         deadlines = tuple(
             max(1, deadline - runtime.begin) if 0 < deadline < 2**63 - 1 else deadline for deadline in (pd.rd, pd.wd)

@@ -133,8 +133,8 @@ class Judge:
         """Checks goroutines that are listed together because they sleep in the same way: each must have that status,
         and queued goroutines must be queued for the same lock."""
         statuses = {self.value(f"gor {number}") for number in row["goroutines"]}
-        is_one = len(statuses) == 1 if row["status"] == "queued" else True
-        if is_one and all(status.split()[0] == row["status"] for status in statuses):
+        is_single = len(statuses) == 1 if row["status"] == "queued" else True
+        if is_single and all(status.split()[0] == row["status"] for status in statuses):
             return ""
         return f"a group of {row} at {self.position} has {sorted(statuses)}"
 

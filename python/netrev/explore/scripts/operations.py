@@ -211,13 +211,13 @@ def _rests(events: Events, count: int) -> list[bool]:
 def _finish(operations: list[Operation], is_at_rest: bool) -> None:
     """Completes the call that a goroutine is in at the end, and sets where the goroutine continues if one of its
     operations fails."""
-    open_ones: list[int] = []
+    open_places: list[int] = []
     for at, operation in enumerate(operations):
         if operation.sort in (Sort.LOCK, Sort.REFER, Sort.CLOSE):
-            open_ones.append(at)
+            open_places.append(at)
         elif operation.sort in ENDS:
-            _end(operations, open_ones, at)
-    for at in reversed(open_ones if not is_at_rest else []):
+            _end(operations, open_places, at)
+    for at in reversed(open_places if not is_at_rest else []):
         begun = operations[at]
         if begun.sort is Sort.LOCK:
             operations.append(Operation(Sort.UNLOCK, begun.socket, -1, begun.side))
@@ -226,15 +226,15 @@ def _finish(operations: list[Operation], is_at_rest: bool) -> None:
         operation.on_failure = operation.on_failure or at + 1
 
 
-def _end(operations: list[Operation], open_ones: list[int], at: int) -> None:
+def _end(operations: list[Operation], open_places: list[int], at: int) -> None:
     """Sets where a goroutine continues after a failure. The operation at `at` ends an earlier operation. If that
     earlier operation fails, the goroutine continues after `at`. If a try between these two operations fails, the
     goroutine continues with `at`."""
     ending = operations[at]
-    for begun in reversed(open_ones):
+    for begun in reversed(open_places):
         operation = operations[begun]
         if operation.sort in ENDS[ending.sort] and (operation.socket, operation.side) == (ending.socket, ending.side):
-            open_ones.remove(begun)
+            open_places.remove(begun)
             operation.on_failure = at + 1
             for between in operations[begun + 1 : at]:
                 if between.sort in TRIES and not between.on_failure:
