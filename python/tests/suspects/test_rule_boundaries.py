@@ -147,7 +147,7 @@ def test_why_a_move_of_an_editor_stops(
     reason: str,
     monkeypatch: pytest.MonkeyPatch,
 ) -> None:
-    monkeypatch.setattr("nrdb.dap.moving.told", " ".join)
+    monkeypatch.setattr("nrdb.dap.moving.failure_text", " ".join)
     own = Made(
         _marks=Made(reason=lambda number: f"mark {number}"), _go_lines=Made(at=lambda position: lines), _filters=Made(at=lambda position: wrong),
         _session=Made(breaks=Made(hit=lambda position: breaks)), _end_or=lambda reason, move: Made(reason=f"end or {reason}"),
