@@ -15,13 +15,13 @@ from netrev.system.command_lines import command
 from .doctor import doctor
 from .go_command.outputs import base_name, look, numbered
 from .go_command.run_folders import claim
-from .go_command.running import Runner, as_a_shell_has_it, behind_the_folder, limits_of, log_of_process, logs_folder
-from .go_command.status import Status
+from .go_command.running import GoRunner, as_a_shell_has_it, behind_the_folder, limits_of, log_of_process, logs_folder
+from .go_command.status import ExitStatus
 from .go_command.toolchain import Go, RecorderError, find_go
-from .keeping import Making, Saying, complain, say, unwritten
+from .keeping import RecordingMaker, ReportPrinter, complain, say, unwritten
 from .options import POSSIBLE, SUSPECTS, asks_for_help, check, help_of, of_a_process, parser
 from .recovery import offer, recover
-from .steps.converting import Wish, convert
+from .steps.converting import RecordingOptions, convert
 from .testing import record_tests
 from .trying import ready
 from .watching import snapshot, watch
@@ -55,9 +55,9 @@ def record(options: argparse.Namespace, go: Go) -> int:
     base = base_name(options.o)
     look(base)
     folder = claim(logs_folder(options.points))
-    making = Making(folder, base, go, wish_of(options))
+    making = RecordingMaker(folder, base, go, wish_of(options))
     try:
-        status = as_a_shell_has_it(Runner(command, folder, limits_of(options)).wait(making.so_far))
+        status = as_a_shell_has_it(GoRunner(command, folder, limits_of(options)).wait(making.so_far))
         making.all(status != 0)
         bad = making.suspected and SUSPECTS in (options.fail_on or ())
         return status_of(status, bad, options.strict and (making.trouble or not making.all_taken))
@@ -69,11 +69,11 @@ def status_of(status: int, is_suspected: bool, is_unrecorded: bool) -> int:
     """The exit status: Go's own, unless that is 0."""
     if status:
         return status
-    return Status.SUSPECTED if is_suspected else Status.UNRECORDED if is_unrecorded else Status.DONE
+    return ExitStatus.SUSPECTED if is_suspected else ExitStatus.UNRECORDED if is_unrecorded else ExitStatus.DONE
 
 
-def wish_of(options: argparse.Namespace) -> Wish:
-    return Wish(options.sockets, options.megabytes, options.words, options.all_bytes)
+def wish_of(options: argparse.Namespace) -> RecordingOptions:
+    return RecordingOptions(options.sockets, options.megabytes, options.words, options.all_bytes)
 
 
 def go_if_any() -> Go | None:
@@ -92,21 +92,21 @@ def convert_one(options: argparse.Namespace) -> int:
         logs.append(log_of_process(options.pid))
     if not logs:
         print(messages.NO_LOG_GIVEN, file=sys.stderr)
-        return Status.USAGE
+        return ExitStatus.USAGE
     base = base_name(options.o, (logs[0].name if len(logs) == 1 else "") or "recording")
     go = go_if_any()
-    status: int = Status.DONE
+    status: int = ExitStatus.DONE
     for index, log in enumerate(logs, 1):
         KNOWN.clear()
-        saying = Saying([], stream=sys.stdout)
+        saying = ReportPrinter([], stream=sys.stdout)
         try:
             outcome = convert(log, numbered(base, index), go, wish_of(options), KNOWN, saying.hear, index > written)
         except OSError as fault:
             complain(unwritten(numbered(base, index), fault))
-            status = Status.TROUBLE
+            status = ExitStatus.TROUBLE
             continue
         saying.rest(outcome.lines)
-        status = status or (Status.DONE if outcome.taken else Status.REFUSED)
+        status = status or (ExitStatus.DONE if outcome.taken else ExitStatus.REFUSED)
     return status
 
 
@@ -125,7 +125,7 @@ def env(go: Go) -> int:
     folder = pathlib.Path("/dev/shm" if pathlib.Path("/dev/shm").is_dir() else "/tmp")
     print(f"export GOFLAGS={shlex.quote(f'{go.flags} -overlay={path} -count=1'.strip())}")
     print(f"export NETREV_LOG={folder}/mine")
-    return Status.DONE
+    return ExitStatus.DONE
 
 
 def main(arguments: list[str] | None = None) -> int:
@@ -134,7 +134,7 @@ def main(arguments: list[str] | None = None) -> int:
     try:
         if asks_for_help(options):
             say([help_of(options.command)], sys.stdout)
-            return Status.DONE
+            return ExitStatus.DONE
         check(options)
         if options.command == "recover":
             return recover(options, base_name(options.o, "recovered"), go_if_any(), wish_of(options))
@@ -153,7 +153,7 @@ def main(arguments: list[str] | None = None) -> int:
         return env(go) if options.command == "env" else record(options, go)
     except RecorderError as trouble:
         complain(str(trouble))
-        return Status.TROUBLE
+        return ExitStatus.TROUBLE
     except KeyboardInterrupt:
         complain(messages.INTERRUPTED)
-        return Status.INTERRUPTED
+        return ExitStatus.INTERRUPTED

@@ -19,7 +19,7 @@ from .go_command.run_folders import release, remove, unrecorded
 from .go_command.running import LOGS, logs_in, process_of, still_written
 from .go_command.toolchain import Go
 from .log.ran import forget
-from .steps.converting import Wish, convert
+from .steps.converting import RecordingOptions, convert
 
 
 def say(lines: list[str], stream: TextIO | None = None) -> None:
@@ -36,7 +36,7 @@ def say(lines: list[str], stream: TextIO | None = None) -> None:
             sys.stderr = nowhere
 
 
-class Saying:
+class ReportPrinter:
     """Prints the facts about a recording below a heading, as soon as they are known."""
 
     def __init__(self, head: list[str], indent: str = "", stream: TextIO | None = None) -> None:
@@ -110,10 +110,12 @@ def leave(folder: pathlib.Path, keep: bool, is_whole: bool, running: list[pathli
         complain(messages.STILL_RUNS.format(**words))
 
 
-class Making:
+class RecordingMaker:
     """Makes the recordings of a folder's logs."""
 
-    def __init__(self, folder: pathlib.Path, base: pathlib.Path, go: Go | None, wish: Wish, count: int = 0) -> None:
+    def __init__(
+        self, folder: pathlib.Path, base: pathlib.Path, go: Go | None, wish: RecordingOptions, count: int = 0
+    ) -> None:
         self._folder, self._base, self._go, self._wish = folder, base, go, wish
         self._times = 0
         self._is_whole = False  # whether the logs can be removed without losing anything
@@ -144,12 +146,12 @@ class Making:
         """Removes the logs, unless there is a reason to keep them."""
         leave(self._folder, keep, self._is_whole, self._running)
 
-    def _make(self, base: pathlib.Path, wish: Wish, count: int) -> tuple[bool, int]:
+    def _make(self, base: pathlib.Path, wish: RecordingOptions, count: int) -> tuple[bool, int]:
         """Makes a recording of each log in which sockets were opened; returns whether netrev accepts all, and how many recordings have this
         name."""
         ok, before, without = True, count, 0
         for log in logs_in(self._folder):
-            name, saying = numbered(base, count + 1), Saying([])
+            name, saying = numbered(base, count + 1), ReportPrinter([])
             try:
                 outcome = convert(log, name, self._go, wish, hear=saying.hear)
             except OSError as fault:

@@ -13,10 +13,10 @@ from netrev.text.plurals import counted
 
 from .go_command.outputs import look
 from .go_command.run_folders import LeftRun, left_runs, take_over
-from .go_command.status import Status
+from .go_command.status import ExitStatus
 from .go_command.toolchain import Go
-from .keeping import Making, complain, say
-from .steps.converting import Wish
+from .keeping import RecordingMaker, complain, say
+from .steps.converting import RecordingOptions
 
 LONGEST_COMMAND = 60
 
@@ -38,25 +38,25 @@ def offer() -> None:
     complain(messages.RUNS_WERE_INTERRUPTED.format(runs=what, netrev_go=command("netrev-go")) + discard)
 
 
-def recover(options: argparse.Namespace, base: pathlib.Path, go: Go | None, wish: Wish) -> int:
+def recover(options: argparse.Namespace, base: pathlib.Path, go: Go | None, wish: RecordingOptions) -> int:
     """Makes recordings of all interrupted runs, and removes the logs whose recordings netrev accepts."""
     look(base)
     runs = [run for run in left_runs() if take_over(run)]
     if not runs:
         say([messages.NONE_INTERRUPTED])
-    status, count = Status.DONE, 0
+    status, count = ExitStatus.DONE, 0
     for run in runs:
         say([f"{named(run)}:"])
-        making = Making(run.folder, base, go, wish, count)
+        making = RecordingMaker(run.folder, base, go, wish, count)
         try:
             making.all(True)
         finally:
             making.leave(options.keep)
         count = making.count
         if making.trouble:
-            status = Status.TROUBLE
+            status = ExitStatus.TROUBLE
         elif not making.all_taken:
-            status = status or Status.REFUSED
+            status = status or ExitStatus.REFUSED
     if len(runs) > 1:
         say([messages.RECOVERED.format(recordings=counted(count, "recording"), runs=len(runs))])
     return status

@@ -22,10 +22,10 @@ from netrev.text.plain import plain
 from .go_command.outputs import LONGEST_ENDING, numbered
 from .go_command.running import as_a_shell_has_it, logs_in
 from .go_command.toolchain import Go
-from .keeping import Saying, complain, say, unwritten
+from .keeping import ReportPrinter, complain, say, unwritten
 from .log.logfile import NotALogError, read_log
 from .log.ran import Ran, Tests, of_log
-from .steps.converting import ReadLog, Wish, converted
+from .steps.converting import ReadLog, RecordingOptions, converted
 from .steps.forms import Told
 from .steps.report import Hear, Outcome, unheard
 
@@ -58,7 +58,9 @@ def head_of(test: Ran) -> str:
 class Recordings:
     """The recordings of tests, below a folder, and the result of each test over all runs."""
 
-    def __init__(self, base: pathlib.Path, go: Go, wish: Wish, keeps_all: bool, is_page_wanted: bool) -> None:
+    def __init__(
+        self, base: pathlib.Path, go: Go, wish: RecordingOptions, keeps_all: bool, is_page_wanted: bool
+    ) -> None:
         self.base, self._go, self._wish, self._keeps_all = base, go, wish, keeps_all
         self._is_page_wanted = is_page_wanted
         self.told: dict[tuple[str, str], Told] = {}
@@ -103,7 +105,7 @@ class Recordings:
     def whole(self, log: pathlib.Path, tests: Tests) -> None:
         """Makes the recording of a process that failed although none of its tests is known to have failed."""
         name = self.name_of(tests.package or OTHER, "")
-        saying = Saying([messages.NO_TEST_FAILED.format(process=plain(tests.package or OTHER))])
+        saying = ReportPrinter([messages.NO_TEST_FAILED.format(process=plain(tests.package or OTHER))])
         outcome = self.made(self.read(log, tests), name, None, saying.hear)
         if outcome is not None and not outcome.is_empty:
             saying.rest(outcome.lines)
@@ -113,7 +115,7 @@ class Recordings:
         read = self.read(log, tests) if kept else None
         for test in kept:
             told, name, head = self.of(test), self.name_of(test.package, test.name), head_of(test)
-            saying = Saying([head] if test.is_red() else [], INDENT)
+            saying = ReportPrinter([head] if test.is_red() else [], INDENT)
             outcome = self.made(read, name, test, saying.hear if test.is_red() else unheard)
             if outcome is None:
                 continue
@@ -124,7 +126,7 @@ class Recordings:
             if test.is_red():
                 say([messages.TEST_USED_NONE.format(test=head)])
 
-    def keep(self, told: Told, name: pathlib.Path, outcome: Outcome, saying: Saying) -> None:
+    def keep(self, told: Told, name: pathlib.Path, outcome: Outcome, saying: ReportPrinter) -> None:
         """Prints the report about a recording, and stores it for the machine-readable output."""
         told.report(outcome)
         if name.exists():

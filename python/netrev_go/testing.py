@@ -22,11 +22,11 @@ from .go_command.linking import kept
 from .go_command.outputs import base_name, look_folder
 from .go_command.run_folders import claim
 
-from .go_command.running import Runner, as_a_shell_has_it, behind_the_folder, limits_of, logs_folder, still_written, stop_at_once  # fmt: skip
+from .go_command.running import GoRunner, as_a_shell_has_it, behind_the_folder, limits_of, logs_folder, still_written, stop_at_once  # fmt: skip
 from .go_command.toolchain import Go
-from .keeping import Making, complain, leave, report_no_log, report_unrecorded, say
+from .keeping import RecordingMaker, complain, leave, report_no_log, report_unrecorded, say
 from .steps import forms
-from .steps.converting import Wish
+from .steps.converting import RecordingOptions
 from .tested import Recordings
 
 SO_FAR = "test"  # the base name of the recordings made while a run is in progress
@@ -36,7 +36,7 @@ UNTESTED = re.compile(r"--?(?:test\.)?(?:bench|fuzz)(?:=.|\Z)")  # flags that ru
 
 
 @dataclass
-class Came:
+class TestResults:
     """The result of all runs."""
 
     status: int = 0  # the first exit status that isn't 0, in a shell's form
@@ -78,12 +78,12 @@ def rounds(options: argparse.Namespace) -> Iterator[Round]:
         yield Round(number, changed, options.delays + number if options.delays else 0)
 
 
-def record_tests(options: argparse.Namespace, go: Go, command: list[str], wish: Wish) -> Came:
+def record_tests(options: argparse.Namespace, go: Go, command: list[str], wish: RecordingOptions) -> TestResults:
     """Runs the tests as often as requested, and makes recordings of failing tests."""
     base = base_name(options.o, FOLDER)
     look_folder(base)
     recordings = Recordings(base, go, wish, options.all or options.explore is not None, options.html)
-    came = Came()
+    came = TestResults()
     with kept(go, options.words_of_go, most_runs(options) != 1) as more:
         run_all(options, go, [*command[:2], *behind_the_folder(command[2:], more)], wish, recordings, came)
     if any(UNTESTED.match(word) for word in options.words_of_go):
@@ -100,11 +100,16 @@ def record_tests(options: argparse.Namespace, go: Go, command: list[str], wish: 
 
 
 def run_all(
-    options: argparse.Namespace, go: Go, command: list[str], wish: Wish, recordings: Recordings, came: Came
+    options: argparse.Namespace,
+    go: Go,
+    command: list[str],
+    wish: RecordingOptions,
+    recordings: Recordings,
+    came: TestResults,
 ) -> None:
     """Makes all runs of Go's command."""
     for one in rounds(options):
-        run = Run(options, go, command, wish, recordings)
+        run = GoRun(options, go, command, wish, recordings)
         status = run.once(one)
         came.runs += 1
         came.status = came.status or status
@@ -113,11 +118,11 @@ def run_all(
             break
 
 
-class Run:
+class GoRun:
     """One run of Go's command, and its logs."""
 
     def __init__(
-        self, options: argparse.Namespace, go: Go, command: list[str], wish: Wish, recordings: Recordings
+        self, options: argparse.Namespace, go: Go, command: list[str], wish: RecordingOptions, recordings: Recordings
     ) -> None:
         self._options, self._go, self._command, self._wish = options, go, command, wish
         self._recordings = recordings
@@ -130,7 +135,7 @@ class Run:
         limits = replace(limits_of(self._options), processors=one.processors)
         is_whole, running = False, list[pathlib.Path]()
         try:
-            runner = Runner(self._command, folder, limits, one.delays)
+            runner = GoRunner(self._command, folder, limits, one.delays)
             status = as_a_shell_has_it(runner.wait(self._so_far(folder)))
             if status and one.words() != "run 1":
                 say([messages.RUN_FAILED.format(run=one.words())])
@@ -146,7 +151,7 @@ class Run:
             self._recordings.base.mkdir(parents=True, exist_ok=True)
             making.so_far()
 
-        making = Making(folder, self._recordings.base / SO_FAR, self._go, self._wish)
+        making = RecordingMaker(folder, self._recordings.base / SO_FAR, self._go, self._wish)
         return make
 
     def _take(self, folder: pathlib.Path, failed: bool) -> bool:
@@ -162,7 +167,7 @@ class Run:
         return is_whole
 
 
-def tell(options: argparse.Namespace, recordings: Recordings, came: Came) -> None:
+def tell(options: argparse.Namespace, recordings: Recordings, came: TestResults) -> None:
     """Prints how many tests failed in how many runs, and writes the machine-readable output."""
     told = list(recordings.told.values())
     red = [one for one in told if one.is_red()]
@@ -184,7 +189,7 @@ def tell(options: argparse.Namespace, recordings: Recordings, came: Came) -> Non
         say(forms.github_lines(told), sys.stdout)
 
 
-def put(name: str, text: str, came: Came) -> None:
+def put(name: str, text: str, came: TestResults) -> None:
     """Writes a machine-readable file; - means standard output."""
     if name == STANDARD_OUTPUT:
         say([text.rstrip("\n")], sys.stdout)

@@ -24,7 +24,7 @@ from .keeping import say
 from .log.logfile import NotALogError, read_log
 from .steps.analysis import check
 from .steps.compare import DIFFERS, by_the_model, differing
-from .steps.making import NothingRecordedError, Recording, UnconvertibleError, make, write, write_words
+from .steps.making import NothingRecordedError, NewRecording, UnconvertibleError, make, write, write_words
 
 PATIENCE = 60
 KEPT = "trial.json"
@@ -103,7 +103,7 @@ def recorded(command: list[str], folder: pathlib.Path, processors: int, is_whole
     return came
 
 
-def incomplete(made: Recording, counted: str) -> str:
+def incomplete(made: NewRecording, counted: str) -> str:
     """The missing part of a recording: a change of a lock word, or bytes that the program counted."""
     if broken := unchained(made):
         return messages.LOCK_WORD_CHANGED.format(change=broken)
@@ -116,7 +116,7 @@ def incomplete(made: Recording, counted: str) -> str:
     return ""
 
 
-def unchained(made: Recording) -> str:
+def unchained(made: NewRecording) -> str:
     """The first lock word that differs from the value that the previous point left."""
     last: dict[int, int] = {}
     for (step, socket, new), old in zip(made.words, made.olds):
@@ -127,7 +127,7 @@ def unchained(made: Recording) -> str:
     return ""
 
 
-def compared(made: Recording, name: pathlib.Path) -> Trial:
+def compared(made: NewRecording, name: pathlib.Path) -> Trial:
     """The comparison with netrev, or with the model in Python if netrev is missing."""
     write(made, name)
     write_words(made, name.with_suffix(".words"))

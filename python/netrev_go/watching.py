@@ -17,14 +17,14 @@ from netrev.text.plain import plain
 from .go_command.line_reader import line_reader
 from .go_command.outputs import base_name, look, numbered
 from .go_command.running import log_of_process, writes
-from .go_command.status import Status
+from .go_command.status import ExitStatus
 from .go_command.toolchain import Go, RecorderError
-from .keeping import Saying, complain, say
-from .log.lines import Calls, Roots, lines_of
+from .keeping import ReportPrinter, complain, say
+from .log.lines import Calls, SourceRoots, lines_of
 from .log.logfile import HEADER_BYTES, ROW_WORDS, WAITER_WORDS, WORD, Header, NotALogError, stack_at
 from .log.notes import PARKED
 from .log.points import Log
-from .steps.converting import Wish, convert, program_of
+from .steps.converting import RecordingOptions, convert, program_of
 from .steps.report import line_of
 from .steps.where import own_line
 
@@ -36,7 +36,7 @@ AT_A_WORD, SIDES, SIDE_WORDS = 1, 2, 4
 ACCEPTS = "internal/poll.(*FD).Accept"
 
 
-class Waiting(NamedTuple):
+class SocketWait(NamedTuple):
     """A goroutine that waits on a socket: Go's number, the side, the stack (0 if unknown), when the wait began by Go's clock, and the
     address of the socket's lock word."""
 
@@ -55,7 +55,7 @@ class Waiting(NamedTuple):
 READS, WRITES, LOCKS = "waits to read", "waits to write", "waits for a lock of a socket"
 
 
-def waiting_in(file: BinaryIO, header: Header) -> Iterator[Waiting]:
+def waiting_in(file: BinaryIO, header: Header) -> Iterator[SocketWait]:
     """The goroutines that wait, from the tables of a log."""
     file.seek(header.rows_begin)
     rows, queue = array("Q"), array("Q")
@@ -68,11 +68,11 @@ def waiting_in(file: BinaryIO, header: Header) -> Iterator[Waiting]:
         for row, place in enumerate(places):
             word = rows[row * ROW_WORDS + AT_A_WORD]
             if place == PARKED and word:
-                yield Waiting(goroutines[row], what, stacks[row], begins[row], word)
+                yield SocketWait(goroutines[row], what, stacks[row], begins[row], word)
     for place, address in enumerate(queue[::WAITER_WORDS]):
         if address:
             _, goroutine, stack, since = queue[place * WAITER_WORDS + 1 : place * WAITER_WORDS + 5]
-            yield Waiting(goroutine, LOCKS, stack, since, address // WORD * WORD - WORD)
+            yield SocketWait(goroutine, LOCKS, stack, since, address // WORD * WORD - WORD)
 
 
 class Watch:
@@ -89,12 +89,12 @@ class Watch:
             if stack and self._go and (addresses := stack_at(self._file, stack)):
                 log = Log([], {stack: addresses}, text=self._header.text, program=self._header.program)
                 program = program_of(self._log, log.program)
-                roots = Roots(self._go.sources(), pathlib.Path.cwd())
+                roots = SourceRoots(self._go.sources(), pathlib.Path.cwd())
                 found = lines_of(log, {stack}, program, line_reader(self._go), roots).get(stack)
             self._calls[stack] = found
         return self._calls[stack]
 
-    def is_meant(self, one: Waiting) -> bool:
+    def is_meant(self, one: SocketWait) -> bool:
         """Whether this is one of the program's calls that should not wait for long. Calls that accept don't count.
         Neither do reads in goroutines that run only Go's own code, such as those of idle connections, or whose lines
         are unknown."""
@@ -105,7 +105,7 @@ class Watch:
             return False
         return own_line(calls) is not None or not one.is_reader
 
-    def stuck(self, longest: float, only_writes: bool) -> Waiting | None:
+    def stuck(self, longest: float, only_writes: bool) -> SocketWait | None:
         """The call that has waited longest, if that is longer than the limit."""
         now = time.clock_gettime_ns(time.CLOCK_MONOTONIC)
         for one in sorted(waiting_in(self._file, self._header), key=lambda one: one.since):
@@ -115,24 +115,24 @@ class Watch:
                 return one
         return None
 
-    def words(self, one: Waiting) -> str:
+    def words(self, one: SocketWait) -> str:
         """The message about a call that has waited for a long time."""
         line, function = line_of(self.calls(one.stack))
         now = time.clock_gettime_ns(time.CLOCK_MONOTONIC)
         return f"{line}: {function + ' ' if function else ''}{one.what} since {(now - one.since) / 1e9:.1f} s (goid {one.goroutine})"
 
 
-def snapshot(options: argparse.Namespace, go: Go | None, wish: Wish, known: list[object]) -> int:
+def snapshot(options: argparse.Namespace, go: Go | None, wish: RecordingOptions, known: list[object]) -> int:
     """Makes a recording of a running process at once."""
     base = base_name(options.o, "snapshot")
     look(base)
-    saying = Saying([])
+    saying = ReportPrinter([])
     outcome = convert(log_of_process(options.pid), numbered(base, 1), go, wish, known, saying.hear, True)
     saying.rest(outcome.lines)
-    return Status.DONE if outcome.taken else Status.REFUSED
+    return ExitStatus.DONE if outcome.taken else ExitStatus.REFUSED
 
 
-def watch(options: argparse.Namespace, go: Go | None, wish: Wish, known: list[object]) -> int:
+def watch(options: argparse.Namespace, go: Go | None, wish: RecordingOptions, known: list[object]) -> int:
     """Makes a recording of a process when one of its calls has waited as long as --stuck says."""
     log = log_of_process(options.pid)
     look(base_name(options.o, "snapshot"))
@@ -153,4 +153,4 @@ def watch(options: argparse.Namespace, go: Go | None, wish: Wish, known: list[ob
     except (OSError, NotALogError) as fault:
         raise RecorderError(messages.LOG_UNREADABLE.format(log=plain(str(log)), why=fault)) from None
     complain(messages.NO_LONG_WAIT.format(process=options.pid))
-    return Status.DONE
+    return ExitStatus.DONE

@@ -12,7 +12,7 @@ from pathlib import Path
 
 from tests.program.support.sharing import WrongResultError
 
-from .recordings import RESTARTS, Recording
+from .recordings import RESTARTS, BenchRecording
 
 QUIT = b"quit\n"
 WITHOUT_REP = {
@@ -52,7 +52,7 @@ def seconds_of_children() -> float:
     return used.ru_utime + used.ru_stime
 
 
-def timed(program: str, recording: Recording) -> dict[str, float]:
+def timed(program: str, recording: BenchRecording) -> dict[str, float]:
     """The figures of one run: times in milliseconds and, as the last figure, the memory in MiB."""
     began = seconds_of_children()
     checked = subprocess.run([program, "check", recording.file], stdout=subprocess.PIPE, check=True)
@@ -71,7 +71,7 @@ def timed(program: str, recording: Recording) -> dict[str, float]:
     return figures
 
 
-def least(programs: dict[str, str], recording: Recording, runs: int) -> dict[str, dict[str, float]]:
+def least(programs: dict[str, str], recording: BenchRecording, runs: int) -> dict[str, dict[str, float]]:
     """For each program, the least value of each figure over this many runs; the programs take turns."""
     found = [{name: timed(program, recording) for name, program in programs.items()} for _ in range(runs)]
     return {name: {figure: min(run[name][figure] for run in found) for figure in found[0][name]} for name in programs}
@@ -87,7 +87,7 @@ def instructions(words: list[str | Path], lines: bytes) -> tuple[int, bytes]:
     raise WrongResultError(f"callgrind counted nothing: {ended.stderr.decode()}")
 
 
-def script_up_to(recording: Recording, last: str) -> bytes:
+def script_up_to(recording: BenchRecording, last: str) -> bytes:
     """The lines of a recording's parts up to and including this part, and `quit`."""
     parts = list(recording.parts)
     return b"".join(map(recording.lines, parts[: parts.index(last) + 1])) + QUIT
@@ -96,7 +96,7 @@ def script_up_to(recording: Recording, last: str) -> bytes:
 Counting = dict[str, "Future[tuple[int, bytes]]"]  # for each part, a session that ends after it; and the check
 
 
-def begun_counting(program: str, recording: Recording, pool: ThreadPoolExecutor) -> Counting:
+def begun_counting(program: str, recording: BenchRecording, pool: ThreadPoolExecutor) -> Counting:
     """Starts counting the instructions of a program."""
     check = pool.submit(instructions, [program, "check", recording.file], b"")
     sessions = {
@@ -106,7 +106,7 @@ def begun_counting(program: str, recording: Recording, pool: ThreadPoolExecutor)
     return {"check": check, **sessions}
 
 
-def counted(program: str, recording: Recording, counting: Counting) -> dict[str, float]:
+def counted(program: str, recording: BenchRecording, counting: Counting) -> dict[str, float]:
     """For each figure, the instructions per step or per restart: the count for a session that ends after the part,
     minus the count for a session that ends before it."""
     count, printed = counting["check"].result()
@@ -123,7 +123,7 @@ def counted(program: str, recording: Recording, counting: Counting) -> dict[str,
     return figures
 
 
-def writes(program: str, recording: Recording, part: str) -> int:
+def writes(program: str, recording: BenchRecording, part: str) -> int:
     """The number of system calls that write the replies to a part, from `strace -c`: the count for a session with the
     part, minus the count for a session without it."""
     parts = list(recording.parts)
@@ -132,7 +132,7 @@ def writes(program: str, recording: Recording, part: str) -> int:
     return with_it - without
 
 
-def _writes_of(program: str, recording: Recording, script: bytes) -> int:
+def _writes_of(program: str, recording: BenchRecording, script: bytes) -> int:
     """The number of `write` system calls that a session makes."""
     with tempfile.TemporaryFile() as lines, tempfile.NamedTemporaryFile("r", encoding="ascii") as table:
         lines.write(script)  # (a file, so that each read is full)

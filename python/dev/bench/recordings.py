@@ -48,7 +48,7 @@ def restarts(places: list[int], dice: random.Random) -> Iterator[Query]:
         yield from ((f"restart {number + 1}", f"at {places[number]}"), LOOK)
 
 
-class Recording:
+class BenchRecording:
     """A recording in a file, with the lines of each part and the expected replies. The other programs must
     give the same replies to queries as the first program."""
 
@@ -83,16 +83,16 @@ class Recording:
             raise WrongResultError(f"{program}: {self.file.name}: check: {printed.decode()!r}")
 
 
-def of_shape(folder: Path, shape: str, steps: int, sockets: int = 0) -> Recording:
+def of_shape(folder: Path, shape: str, steps: int, sockets: int = 0) -> BenchRecording:
     """A recording of a shape: with its own limits, or with this many sockets and descriptors and large buffers."""
     file = folder / f"{shape}-{steps}.jsonl"
     write_recording(shape, steps, file)
     if not sockets:
-        return Recording(shape, file, steps)
+        return BenchRecording(shape, file, steps)
     large = folder / f"{shape}-{steps}-{sockets}.jsonl"
     give_limits(file, large, sockets)
     file.unlink()
-    return Recording(large_name(shape, sockets), large, steps)
+    return BenchRecording(large_name(shape, sockets), large, steps)
 
 
 def large_name(shape: str, sockets: int) -> str:

@@ -41,7 +41,7 @@ from tests.program.support.sharing import WrongResultError
 
 from .measurements import begun_counting, counted, least, writes
 from .programs import NETREV, NETREV_BEFORE, built_baseline
-from .recordings import Recording, large_name, of_shape
+from .recordings import BenchRecording, large_name, of_shape
 from .servers import of_servers
 from .tables import (
     BASELINE,
@@ -81,7 +81,7 @@ COUNTS = {
     "restarts": "a restart, instructions",
 }
 Programs = dict[str, str]
-Measuring = Callable[[Recording], Figures]
+Measuring = Callable[[BenchRecording], Figures]
 
 
 def leave_out(why: str) -> None:
@@ -89,7 +89,7 @@ def leave_out(why: str) -> None:
     print(f"run.py: left out: {why}", file=sys.stderr)
 
 
-def measured(recordings: Iterable[Recording], measure: Measuring) -> Cases:
+def measured(recordings: Iterable[BenchRecording], measure: Measuring) -> Cases:
     """The figures of recordings, by name. On a terminal, prints what is being measured."""
     found = {}
     for recording in recordings:
@@ -99,7 +99,7 @@ def measured(recordings: Iterable[Recording], measure: Measuring) -> Cases:
     return found
 
 
-def shapes(folder: Path, steps: int, sockets: int = 0) -> Iterator[Recording]:
+def shapes(folder: Path, steps: int, sockets: int = 0) -> Iterator[BenchRecording]:
     """A recording of each shape, which is removed when the next recording is made."""
     for shape in SHAPES:
         recording = of_shape(folder, shape, steps, sockets)
@@ -107,7 +107,7 @@ def shapes(folder: Path, steps: int, sockets: int = 0) -> Iterator[Recording]:
         recording.file.unlink()
 
 
-class Sort:
+class Figure:
     """One kind of figure, instructions or times, for all recordings: the shapes with their own limits, the shapes with
     larger limits, and the runs of servers."""
 
@@ -117,7 +117,7 @@ class Sort:
         self.large: dict[int, Cases] = {}
         self.servers: Cases = {}
 
-    def measure(self, folder: Path, servers: list[Recording]) -> None:
+    def measure(self, folder: Path, servers: list[BenchRecording]) -> None:
         for steps in self.sizes:
             found = measured(shapes(folder, steps), self._measure)
             self.own.found |= {(shape, steps): figures for shape, figures in found.items()}
@@ -146,7 +146,7 @@ class Sort:
 def by_instructions(programs: Programs, pool: ThreadPoolExecutor) -> Measuring:
     """The counter of instructions for each program."""
 
-    def measure(recording: Recording) -> Figures:
+    def measure(recording: BenchRecording) -> Figures:
         counting = {name: begun_counting(program, recording, pool) for name, program in programs.items()}
         return {name: counted(program, recording, counting[name]) for name, program in programs.items()}
 
@@ -158,7 +158,7 @@ def show(text: str) -> None:
     print(f"\n{text}", end="", flush=True)
 
 
-def show_ratios(sorts: list[Sort]) -> None:
+def show_ratios(sorts: list[Figure]) -> None:
     """Prints the ratios to the baseline, by instructions and by time side by side."""
     sizes = ", ".join(f"{sort.name} at {sort.sizes[-1]:,} steps" for sort in sorts)
     show(
@@ -205,9 +205,9 @@ def main(sizes: list[int]) -> None:
         if COUNTED and not shutil.which("valgrind"):
             leave_out("instructions, as there is no valgrind")
         elif COUNTED:
-            sorts.append(Sort("instructions", COUNTS, COUNTED, by_instructions(programs, pool)))
+            sorts.append(Figure("instructions", COUNTS, COUNTED, by_instructions(programs, pool)))
         if RUNS:
-            sorts.append(Sort("time", TIMES, sizes, lambda recording: least(programs, recording, RUNS)))
+            sorts.append(Figure("time", TIMES, sizes, lambda recording: least(programs, recording, RUNS)))
         for sort in sorts:
             sort.measure(folder, servers)
             sort.show()

@@ -10,7 +10,7 @@ from dev.recorder.suites import Suite
 from netrev.errors import NetrevError
 from netrev_go.go_command.toolchain import Go, RecorderError, find_go
 
-from .recordings import Recording
+from .recordings import BenchRecording
 
 PROCESSORS = 4
 SUITES = (Suite("net/rpc"), Suite("net/http", "^(TestServe|TestTransportKeepAlives|TestTransportMax|TestClient)"))
@@ -29,7 +29,7 @@ def plain_lines(text: str) -> list[str]:
     return [json.dumps(line, separators=(",", ":")) for line in (header | {"netrev": 1}, *kept)]
 
 
-def of_server(go: Go, suite: Suite, folder: Path) -> Recording:
+def of_server(go: Go, suite: Suite, folder: Path) -> BenchRecording:
     """The recording of a package's tests."""
     program = built(go, suite, folder)
     if program is None:
@@ -44,10 +44,10 @@ def of_server(go: Go, suite: Suite, folder: Path) -> Recording:
     sockets = json.loads(lines[0])["sock"]
     plain = run.recording.with_suffix(".1.jsonl")
     plain.write_text("".join(f"{line}\n" for line in lines), encoding="ascii")
-    return Recording(f"tests of {suite.package}, {sockets} sockets", plain, len(lines) - 1)
+    return BenchRecording(f"tests of {suite.package}, {sockets} sockets", plain, len(lines) - 1)
 
 
-def of_servers(folder: Path) -> tuple[list[Recording], list[str]]:
+def of_servers(folder: Path) -> tuple[list[BenchRecording], list[str]]:
     """The recordings that could be made, and the reasons why the other recordings are missing."""
     try:
         go = find_go()

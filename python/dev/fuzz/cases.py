@@ -6,7 +6,7 @@ from typing import Callable, NamedTuple, Optional, Sequence
 from netrev.machine.machine import World
 from netrev.machine.steps import apply
 from netrev.model.session import ROOM
-from netrev.text.contents import Answer, Limits, Recording, Step
+from netrev.text.contents import Answer, Limits, Contents, Step
 from netrev.text.reading import MOST_STEPS, RANGES
 from netrev.text.writing import write_plain
 
@@ -54,7 +54,7 @@ def refused_step(dice: random.Random) -> Made:
     return texts.write_text(dice, with_refused_step(dice, Author(dice))), None
 
 
-def with_refused_step(dice: random.Random, author: Author) -> Recording:
+def with_refused_step(dice: random.Random, author: Author) -> Contents:
     recording, worlds = author.recording(dice.choice([1, 4, 12, 40, 120]))
     position = author.rare_position(worlds)
     last = author.refused_step(worlds[position])
@@ -112,7 +112,7 @@ def large_buffers(dice: random.Random) -> Made:
     steps += [("sysread", 0, 0, dice.choice([most, most, 65_537])), ("closewrite", 0, 0), ("drain", 0, most)]
     steps += [("arrive", 0, b"hi"), ("syswrite", 0, 0, b"hi"), ("sysread", 0, 0, most)]
     limits = Limits(1, 1, 1, most)
-    recording = Recording(2, limits, steps, answers_of(limits, steps))
+    recording = Contents(2, limits, steps, answers_of(limits, steps))
     looks = "".join(f"print {cell}\nreverse-stepi\n" for cell in ("in 0", "out 0", "shut 0"))
     return write_plain(recording), f"stepi 99\n{looks}stepi 2\ndump in 0\nrsi 9\ndump in 0\n".encode()
 

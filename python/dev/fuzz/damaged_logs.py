@@ -15,12 +15,12 @@ from functools import lru_cache
 from pathlib import Path
 from xml.etree import ElementTree
 
-from netrev.recording.where import Lines
+from netrev.recording.where import SourceLines
 from netrev_go.log.logfile import HEADER_BYTES, NotALogError, read_log
 from netrev_go.log.points import KINDS, Log, Point
 from netrev_go.log.ran import ENDING, Tests, of_log
 from netrev_go.steps import forms, report
-from netrev_go.steps.converting import ReadLog, Wish, convert, converted
+from netrev_go.steps.converting import ReadLog, RecordingOptions, convert, converted
 from netrev_go.steps.forms import Told
 from netrev_go.steps.report import Outcome
 
@@ -223,7 +223,7 @@ def confined(seed: str, folder: Path) -> str:
         log.write_bytes(log_of(seed))
         log.with_name(log.name + ENDING).write_bytes(tests_of(seed))
         with contextlib.redirect_stdout(io.StringIO()), contextlib.redirect_stderr(io.StringIO()):
-            fault = recording_wrong(convert(log, name, None, Wish()), name)
+            fault = recording_wrong(convert(log, name, None, RecordingOptions()), name)
             return fault or tests_wrong(log, of_log(log), folder)
     except BaseException as failed:
         return repr(failed) or "it failed"
@@ -235,7 +235,7 @@ def recording_wrong(outcome: Outcome, name: Path) -> str:
         return f"the recording has {name.stat().st_size} bytes"
     if not all(line.isprintable() for line in outcome.lines):
         return f"the output may contain terminal controls: {outcome.lines!r}"
-    if name.exists() and (fault := Lines.beside(str(name), name.read_bytes().count(b"\n") - 1).fault):
+    if name.exists() and (fault := SourceLines.beside(str(name), name.read_bytes().count(b"\n") - 1).fault):
         return f"nrdb doesn't take its lines: {fault}"
     return "" if outcome.lines else "nothing is said"
 
@@ -251,7 +251,7 @@ def tests_wrong(log: Path, tests: Tests, folder: Path) -> str:
         return ""
     for at, test in enumerate(tests.ran[:TESTS]):
         name = folder / f"test-{at}.jsonl"
-        outcome = converted(read, name, None, Wish(), test)
+        outcome = converted(read, name, None, RecordingOptions(), test)
         results[at].report(outcome)
         if fault := recording_wrong(outcome, name):
             return f"test {at}: {fault}"

@@ -10,7 +10,7 @@ from typing import Any, Optional
 from netrev.text.writing import write_plain
 from nrdb.dap.adapter import Adapter
 from nrdb.dap.hearing import Reading
-from nrdb.dap.view.messages import MalformedMessageError, Wire
+from nrdb.dap.view.messages import MalformedMessageError, EditorStreams
 
 from .companion import line_of
 from .generators.random_steps import Author
@@ -114,7 +114,7 @@ def wrong(seed: str, folder: Path, program: str) -> str:
     path.write_bytes(write_plain(recording))
     requests, behind = conversation(seed, str(path))
     written = io.BytesIO()
-    wire = Wire(io.BytesIO(b"".join(map(framed, requests)) + behind), written)
+    wire = EditorStreams(io.BytesIO(b"".join(map(framed, requests)) + behind), written)
     try:
         Adapter(wire, Reading(wire), program).serve()
     except MalformedMessageError:

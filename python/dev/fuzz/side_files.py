@@ -9,7 +9,7 @@ from pathlib import Path
 from typing import Any
 
 from netrev.connection.output import TextPrinter
-from netrev.recording.where import Lines
+from netrev.recording.where import SourceLines
 from netrev.text.writing import write_plain
 
 from .generators.damage import damaged
@@ -122,7 +122,7 @@ def wrong(seed: str, folder: Path, program: str) -> str:
     path.write_bytes(write_plain(recording))
     data, is_good = file_of(dice, len(recording.steps))
     path.with_suffix(".where").write_bytes(data)
-    if is_good and (fault := Lines.beside(str(path), len(recording.steps)).fault):
+    if is_good and (fault := SourceLines.beside(str(path), len(recording.steps)).fault):
         return f"a file of lines that is of its form isn't used: {fault}"
     before = {name: (folder / name).read_bytes() for name in ("recording.jsonl", "recording.where")}
     out, here = io.StringIO(), os.getcwd()

@@ -14,10 +14,10 @@ from netrev.explore.findings import HANG, Exploring
 from netrev.explore.scripts.making import script_of
 from netrev.findings.suspects.ranking import suspects_of
 from netrev.recording.recording import Recording
-from netrev.recording.where import Lines
+from netrev.recording.where import SourceLines
 from netrev_go.go_command.running import LOG
 from netrev_go.go_command.toolchain import Go
-from netrev_go.steps.converting import Wish, convert
+from netrev_go.steps.converting import RecordingOptions, convert
 
 PATIENCE = 120  # seconds that a program may run
 
@@ -26,7 +26,7 @@ def environment(**settings: str) -> dict[str, str]:
     return os.environ | {"GO111MODULE": "off", "GOPATH": str(DEBIAN), "GOFLAGS": ""} | settings
 
 
-class Run(NamedTuple):
+class ProgramRun(NamedTuple):
     """How a program ended, what it printed, and the recording of the first of its processes that opened sockets."""
 
     status: int
@@ -34,7 +34,7 @@ class Run(NamedTuple):
     recording: Optional[Path]
 
 
-def recorded(go: Go, command: list[str], folder: Path, processors: int, name: Path) -> Run:
+def recorded(go: Go, command: list[str], folder: Path, processors: int, name: Path) -> ProgramRun:
     """Runs a program that was built to record."""
     logs = Path(tempfile.mkdtemp(prefix="netrev-explored-", dir="/dev/shm"))
     settings = {"NETREV_LOG": str(logs / "log"), "GOMAXPROCS": str(processors)}
@@ -44,11 +44,11 @@ def recorded(go: Go, command: list[str], folder: Path, processors: int, name: Pa
             stdin=subprocess.DEVNULL, timeout=PATIENCE, check=False,
         )  # fmt: skip
         for log in sorted(path for path in logs.iterdir() if LOG.match(path.name)):
-            if not convert(log, name, go, Wish()).is_empty:
-                return Run(run.returncode, run.stdout, name if name.exists() else None)
-        return Run(run.returncode, run.stdout, None)
+            if not convert(log, name, go, RecordingOptions()).is_empty:
+                return ProgramRun(run.returncode, run.stdout, name if name.exists() else None)
+        return ProgramRun(run.returncode, run.stdout, None)
     except subprocess.TimeoutExpired:
-        return Run(1, "", None)
+        return ProgramRun(1, "", None)
     finally:
         shutil.rmtree(logs, ignore_errors=True)
 
@@ -56,7 +56,7 @@ def recorded(go: Go, command: list[str], folder: Path, processors: int, name: Pa
 def read(path: Path) -> Recording:
     """A recording with its NAME.where."""
     recording = Recording.read(str(path))
-    recording.lines = Lines.beside(str(path), recording.length)
+    recording.lines = SourceLines.beside(str(path), recording.length)
     return recording
 
 
@@ -65,7 +65,7 @@ def is_good(recording: Recording) -> bool:
     return not any(suspect.is_shown for suspect in suspects_of(recording).suspects)
 
 
-class Outcome(NamedTuple):
+class Exploration(NamedTuple):
     """The result of exploring: the number of schedules; for each finding, the number of schedules that have it, and the
     first of these; and the seconds."""
 
@@ -76,7 +76,7 @@ class Outcome(NamedTuple):
     exploring: Exploring
 
 
-def explored(recording: Recording, most: int) -> Outcome:
+def explored(recording: Recording, most: int) -> Exploration:
     """Runs this many schedules near a recording."""
     begun = time.process_time()
     exploring = Exploring(script_of(recording), recording.lines.words)
@@ -90,7 +90,7 @@ def explored(recording: Recording, most: int) -> Outcome:
     times: Counter[str] = Counter()
     for key, count in exploring.times.items():
         times[named(key[0])] += count
-    return Outcome(exploring.played, times, first, time.process_time() - begun, exploring)
+    return Exploration(exploring.played, times, first, time.process_time() - begun, exploring)
 
 
 def named(what: object) -> str:

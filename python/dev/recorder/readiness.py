@@ -16,7 +16,7 @@ FITS = "fits "  # the beginning of a line for a rule that fits
 
 
 @dataclass(frozen=True)
-class Standing:
+class Readiness:
     """The state of a release as text."""
 
     version: str
@@ -35,21 +35,21 @@ class Standing:
         (out / KEPT).write_text(json.dumps(asdict(self)) + "\n")
 
 
-def read_standing(out: pathlib.Path) -> Standing | None:
+def read_standing(out: pathlib.Path) -> Readiness | None:
     """The stored state of a release, if any."""
     try:
-        return Standing(**json.loads((out / KEPT).read_text()))
+        return Readiness(**json.loads((out / KEPT).read_text()))
     except (OSError, ValueError, TypeError):
         return None
 
 
-def standing_of(go: Go) -> Standing:
+def standing_of(go: Go) -> Readiness:
     """Fits the rules, compiles the changed files, and records doctor's program."""
     _, lines = fit(go)
     fitting = sum(line.startswith(FITS) for line in lines)
     try:
         overlay(go)
     except RecorderError as trouble:
-        return Standing(go.version, len(lines), fitting, False, str(trouble))
+        return Readiness(go.version, len(lines), fitting, False, str(trouble))
     outcome = trial(go)
-    return Standing(go.version, len(lines), fitting, True, outcome.said, outcome.good)
+    return Readiness(go.version, len(lines), fitting, True, outcome.said, outcome.good)

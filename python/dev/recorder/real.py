@@ -38,7 +38,7 @@ from netrev_go.steps.making import NoSocketError, NothingRecordedError, Unconver
 from . import suites
 from .building import built, built_sample, environment, source_folder, tests_of
 from .fetching import SUITES, chosen, is_here
-from .readiness import Standing, read_standing, standing_of
+from .readiness import Readiness, read_standing, standing_of
 from .results import Result, keep, read_results, say, summary, table
 from .suites import ROOT, SAMPLES, Sample, Suite
 
@@ -245,7 +245,7 @@ def main(arguments: list[str] | None = None) -> int:
         say("no Go is on this machine, so recording was left out (python3 python dev.recorder.fetching 1.27)")
         return 0
     results: list[Result] = []
-    standings: dict[str, Standing | None] = {}
+    standings: dict[str, Readiness | None] = {}
     path = os.environ["PATH"]
     try:
         for name in names:

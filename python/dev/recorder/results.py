@@ -10,7 +10,7 @@ from dataclasses import asdict, dataclass, field, replace
 
 from netrev.text.plain import plain
 
-from .readiness import Standing
+from .readiness import Readiness
 
 # Steps whose answer isn't Go's: generated steps, or answers that the converter numbers.
 MADE_UP = frozenset(
@@ -82,7 +82,7 @@ OF_RELEASES = (
 )  # fmt: skip
 
 
-def of_release(row: list[Result], stands: Standing | None) -> list[str]:
+def of_release(row: list[Result], stands: Readiness | None) -> list[str]:
     """The figures of a release: its state, and the recordings of its samples and tests with their results."""
     samples = sum(result.suite.startswith("samples/") for result in row)
     return [*(stands.cells() if stands else "???"), f"{samples:,}", f"{len(row) - samples:,}", *counted(row)[1:]]
@@ -123,7 +123,7 @@ def table(results: list[Result]) -> bool:
     return not bad
 
 
-def summary(results: list[Result], standings: Mapping[str, Standing | None]) -> None:
+def summary(results: list[Result], standings: Mapping[str, Readiness | None]) -> None:
     """Prints a row for each release."""
     say(f"\n| Go | {' | '.join(OF_RELEASES)} |")
     say("|---|" + "--:|" * len(OF_RELEASES))

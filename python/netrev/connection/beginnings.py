@@ -7,11 +7,11 @@ from netrev.messages import session as messages
 from netrev.recording.recording import Recording
 
 from .netrev import Netrev, Own, Reply
-from .output import Place, Printer
+from .output import SessionPosition, Printer
 from .shapes import go_to, position_of
 
 
-class Standing(Protocol):
+class SessionParts(Protocol):
     """The parts of a session that this module needs."""
 
     netrev: Netrev
@@ -22,7 +22,7 @@ class Standing(Protocol):
     def ask(self, line: str) -> str:
         """The first line of netrev's reply."""
 
-    def place(self, position: int) -> Place:
+    def place(self, position: int) -> SessionPosition:
         """The position, with the steps before and after it."""
 
 
@@ -39,7 +39,7 @@ def begin_words(recording: Recording) -> str:
     return messages.BEGINS_IN_THE_MIDDLE.format(steps=begins) if begins else ""
 
 
-def tell_begin(session: Standing, reply: str) -> None:
+def tell_begin(session: SessionParts, reply: str) -> None:
     """Goes to the beginning of the recording, and prints the position. A shared session keeps its position. `reply` is
     netrev's reply to `info position`."""
     recording = session.recording

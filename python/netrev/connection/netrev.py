@@ -14,7 +14,7 @@ from netrev.errors import NetrevError
 from netrev.messages import session as messages
 from netrev.system.interrupts import Interrupts
 
-from .shapes import Listed, StrangeReplyError, entries_in, mark_of, value_of
+from .shapes import ListedMark, StrangeReplyError, entries_in, mark_of, value_of
 
 AT_ONCE = 16_384  # the maximum number of bytes sent before the replies are read; every pipe has room for that many
 READ = 65_536
@@ -60,7 +60,7 @@ def is_kept(reply: Reply) -> bool:
     return len(reply.first) <= LONGEST_KEPT and not reply.first.startswith("fault")
 
 
-class Lines:
+class LineReader:
     """The lines that arrive through a file descriptor."""
 
     def __init__(self, descriptor: int, silent: Optional[Callable[[], None]] = None):
@@ -153,7 +153,7 @@ class Netrev:
         """The results of these queries, `print CELL` and `dump WHAT S`."""
         return [value_of(line, reply) for line, reply in zip(lines, self.ask_all(lines))]
 
-    def marks(self) -> list[Listed]:
+    def marks(self) -> list[ListedMark]:
         """The current marks."""
         return [mark_of(entry) for entry in self.ask("info breakpoints").entries]
 
@@ -226,7 +226,7 @@ class Own(Netrev):
         )
         assert self._process.stdin and self._process.stdout
         self._commands, self._replies = self._process.stdin, self._process.stdout
-        self._lines = Lines(self._replies.fileno())
+        self._lines = LineReader(self._replies.fileno())
 
     def _send(self, text: bytes) -> None:
         with suppress(OSError, ValueError):
@@ -260,7 +260,7 @@ class Joined(Netrev):
             raise OSError(errno.EINVAL, messages.UNKNOWN_HOST) from None
         self._socket.settimeout(None)
         self._socket.setsockopt(socket.IPPROTO_TCP, socket.TCP_NODELAY, 1)
-        self._lines = Lines(self._socket.fileno(), silent)
+        self._lines = LineReader(self._socket.fileno(), silent)
 
     def _send(self, text: bytes) -> None:
         with suppress(OSError):

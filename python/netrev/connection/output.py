@@ -21,7 +21,7 @@ Values = dict[str, Any]  # the values of a row by name, as in JSON
 
 
 @dataclass(frozen=True)
-class Place:
+class SessionPosition:
     """The session's position, the number of steps, and the steps before and after the position, if known."""
 
     position: int
@@ -118,7 +118,7 @@ class Printer(ABC):
         """Prints netrev's reply to a line, and the meaning of the reply's value."""
 
     @abstractmethod
-    def place(self, place: Place) -> None:
+    def place(self, place: SessionPosition) -> None:
         """Prints the session's position."""
 
     @abstractmethod
@@ -160,7 +160,7 @@ class TextPrinter(Printer):
         for entry in reply.entries:
             self.write(entry)
 
-    def place(self, place: Place) -> None:
+    def place(self, place: SessionPosition) -> None:
         self.add(str(place))
 
     def note(self, text: str) -> None:
@@ -191,7 +191,7 @@ class JsonPrinter(Printer):
     def reply(self, line: str, reply: Reply, words: str) -> None:
         self._event("reply", line=line, reply=reply.lines, words=words or None)
 
-    def place(self, place: Place) -> None:
+    def place(self, place: SessionPosition) -> None:
         steps = {name: step and step._asdict() for name, step in (("last", place.last), ("next", place.next))}
         self._event("place", position=place.position, steps=place.steps, **steps)
 

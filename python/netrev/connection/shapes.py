@@ -61,7 +61,7 @@ class Move(NamedTuple):
     marks: tuple[str, ...]
 
 
-class Listed(NamedTuple):
+class ListedMark(NamedTuple):
     """A mark of `info breakpoints`: its number, its kind (`break`, `tbreak` or `watch`), and what it marks."""
 
     number: str
@@ -93,9 +93,9 @@ def move_of(line: str, reply: str) -> Move:
     return Move(int(found[1]), bool(found[2]), tuple((found[3] or "").split()))
 
 
-def mark_of(line: str) -> Listed:
+def mark_of(line: str) -> ListedMark:
     """An entry of `info breakpoints`, parsed."""
-    return Listed(*matched(LISTED, "info breakpoints", line).groups())
+    return ListedMark(*matched(LISTED, "info breakpoints", line).groups())
 
 
 def entries_in(line: str, first: str) -> int:

@@ -18,7 +18,7 @@ BLOCK = 16_384  # the number of steps after which the open descriptors are store
 PIECE = 256  # the same within a block, for positions near recent ones
 
 
-class World:
+class PositionValues:
     """Reads values at the session's position."""
 
     def __init__(self, netrev: Netrev, recording: Recording, position: int):

@@ -16,11 +16,11 @@ from netrev.system.interrupts import SearchInterruptedError
 from netrev.text.vocabulary import number_of
 
 from .failures import stays_of, watched
-from .findings import Exploring, Finding
+from .findings import Exploring, ScheduleFinding
 from .hangs import moved_by
 from .scripts.making import script_of
 from .scripts.runs import ImpossibleScheduleError
-from .sentences import Telling, summary
+from .sentences import FindingSentences, summary
 from .workers import Share, play_all, processors
 
 FAILURES = "failures"
@@ -69,7 +69,7 @@ def explored(session: Session, most: int = MOST, is_of_failures: bool = False) -
         is_stopped = True
     progress.end()
     lines = [summary(exploring, time.monotonic() - begun, is_stopped)]
-    keeping = Keeping(session, Telling(recording, book_of(recording), exploring.script))
+    keeping = Keeping(session, FindingSentences(recording, book_of(recording), exploring.script))
     for at, finding in enumerate(exploring.found.values(), 1):
         lines += keeping.kept(at, exploring.least(finding), exploring.times[finding.key])
     return Explored("\n".join(lines), len(exploring.found))
@@ -105,10 +105,10 @@ class Progress:
 class Keeping:
     """Writes the recordings of findings into the current folder, and reports each recording."""
 
-    def __init__(self, session: Session, telling: Telling) -> None:
+    def __init__(self, session: Session, telling: FindingSentences) -> None:
         self.session, self.telling = session, telling
 
-    def kept(self, at: int, finding: Finding, times: int) -> list[str]:
+    def kept(self, at: int, finding: ScheduleFinding, times: int) -> list[str]:
         """Writes a finding's recording and the reduced recording; returns the lines about them."""
         recording, played = self.telling.recording, finding.played
         file = f"{Path(self.session.path).stem}-other-{at}.jsonl"
@@ -124,7 +124,7 @@ class Keeping:
         lines.append(f"   short:  {self._shortened(file, finding)}")
         return [*lines, unless]
 
-    def _shortened(self, file: str, finding: Finding) -> str:
+    def _shortened(self, file: str, finding: ScheduleFinding) -> str:
         """Reduces a finding's recording; returns the line about the reduced recording."""
         whole = Recording.read(file)
         short = f"{Path(file).stem}-short.jsonl"
@@ -134,7 +134,7 @@ class Keeping:
         except UsageError as wrong:
             return str(wrong)
 
-    def _wanted(self, whole: Recording, finding: Finding) -> Wanted:
+    def _wanted(self, whole: Recording, finding: ScheduleFinding) -> Wanted:
         """The target of the reduced recording. The target is the finding's suspect, or the goroutine that hangs after
         both settings of its deadline, or the call that fails, with its cause."""
         if finding.suspect:

@@ -10,13 +10,13 @@ from .scripts.board import Board
 from .scripts.control import Numbers
 
 
-class Numbered(NamedTuple):
+class NumberedState(NamedTuple):
     """A state, with a mapping from the recording's objects to the state's numbers."""
 
     board: Board
     numbers: Numbers
 
-    def are_the_same(self, other: "Numbered") -> bool:
+    def are_the_same(self, other: "NumberedState") -> bool:
         """Whether all objects have the same numbers in both states."""
         mine, its = self.numbers, other.numbers
         return mine.sockets == its.sockets and mine.descriptors == its.descriptors
@@ -36,7 +36,7 @@ class Numbered(NamedTuple):
         return timer.when, use, timer.side, timer.function, timer.sequence == own
 
 
-def are_alike(state: Numbered, other: Numbered) -> bool:
+def are_alike(state: NumberedState, other: NumberedState) -> bool:
     """Whether two states continue in the same way."""
     board, its = state.board, other.board
     if board.clock != its.clock or len(board.goroutines) != len(its.goroutines):
@@ -53,12 +53,12 @@ def are_alike(state: Numbered, other: Numbered) -> bool:
     )
 
 
-def _have_alike_statuses(state: Numbered, other: Numbered, are_same: bool) -> bool:
+def _have_alike_statuses(state: NumberedState, other: NumberedState, are_same: bool) -> bool:
     pairs = zip(state.board.goroutines, other.board.goroutines)
     return all(state.status(status) == other.status(its) for status, its in pairs if status is not its or not are_same)
 
 
-def _have_alike_sockets(state: Numbered, other: Numbered) -> bool:
+def _have_alike_sockets(state: NumberedState, other: NumberedState) -> bool:
     """Whether all sockets are the same, except sockets that are dead in both states."""
     sockets, its_sockets = state.board.sockets, other.board.sockets
     for which, number in state.numbers.sockets.items():
@@ -73,7 +73,7 @@ def _is_dead(socket: Socket) -> bool:
     return socket.lock.closed and not socket.lock.references and not any(socket.queues)
 
 
-def _have_alike_descriptors(state: Numbered, other: Numbered) -> bool:
+def _have_alike_descriptors(state: NumberedState, other: NumberedState) -> bool:
     descs, its_descs = state.board.descs, other.board.descs
     for use in state.numbers.use_of.values():
         desc, its = descs[state.numbers.descriptors[use]], its_descs[other.numbers.descriptors[use]]

@@ -5,7 +5,7 @@ from bisect import bisect_left
 from enum import Enum
 from typing import Any, Iterator, NamedTuple, Optional
 
-from netrev.run.flow import Sort
+from netrev.run.flow import OperationType
 
 from .scripts.runs import AnsweredStep, Delay
 from .scripts.scripts import Operation, Script
@@ -63,7 +63,7 @@ def watched(script: Script) -> Watched:
         (g, at): begins
         for g, operations in enumerate(script.goroutines)
         for begins, operation in enumerate(operations)
-        if operation.sort is Sort.LOCK and went_well(script, operations[begins : operation.on_failure])
+        if operation.sort is OperationType.LOCK and went_well(script, operations[begins : operation.on_failure])
         for at in range(begins, operation.on_failure)
     }
 
@@ -80,14 +80,14 @@ def went_well(script: Script, call: list[Operation]) -> bool:
 def failing_delays(script: Script) -> list[Delay]:
     """Delays of calls that succeeded. The delays last until another goroutine next closes the socket, until another
     goroutine next sets a deadline in the past, or until the deadline of an earlier call has passed."""
-    sets, closes, ends = _of_socket(script, Sort.SET), _of_socket(script, Sort.CLOSE), ends_of(script)
+    sets, closes, ends = _of_socket(script, OperationType.SET), _of_socket(script, OperationType.CLOSE), ends_of(script)
     found: list[Delay] = []
     for (g, at), begins in script.watched.items():
         operation = script.goroutines[g][at]
         if at == begins:
             later = (close.steps[0] for goroutine, close in closes.get(operation.socket, []) if goroutine != g)
             found += _until(operation.steps[0], later)
-        elif operation.sort is Sort.RESET:
+        elif operation.sort is OperationType.RESET:
             number = operation.steps[0]
             own = [
                 (goroutine, setting)
@@ -107,7 +107,7 @@ def _until(before: int, later: Iterator[int]) -> list[Delay]:
     return [Delay(before, number) for number in sorted(number for number in later if number > before)[:1]]
 
 
-def _of_socket(script: Script, sort: Sort) -> dict[int, list[tuple[int, Operation]]]:
+def _of_socket(script: Script, sort: OperationType) -> dict[int, list[tuple[int, Operation]]]:
     """The operations of a kind that have steps, each with its goroutine; keyed by socket, and in order."""
     found: dict[int, list[tuple[int, Operation]]] = {}
     for g, operations in enumerate(script.goroutines):
@@ -143,7 +143,7 @@ def reason_of(script: Script, failed: Failed, steps: list[AnsweredStep]) -> Opti
     if failed.why is Why.BROKEN:
         return Reason(failed.step, 0)
     call = script.goroutines[failed.goroutine][failed.begins]
-    numbers = _numbers(script, Sort.CLOSE if failed.why is Why.CLOSED else Sort.SET, call)
+    numbers = _numbers(script, OperationType.CLOSE if failed.why is Why.CLOSED else OperationType.SET, call)
     at = next((at for at in range(failed.step - 1, 0, -1) if steps[at - 1].number in numbers), 0)
     if not at or failed.why is Why.CLOSED:
         return Reason(at, 0) if at else None
@@ -163,12 +163,12 @@ def stays_of(script: Script, failed: Failed, reason: Reason, steps: list[Answere
     return tuple(sorted({reason.step, *well[-1:], failed.step}))
 
 
-def _numbers(script: Script, sort: Sort, call: Operation) -> set[int]:
+def _numbers(script: Script, sort: OperationType, call: Operation) -> set[int]:
     """The steps that may make a call fail: they set a deadline for it, or close its socket."""
     return {
         operation.steps[0]
         for _, operation in _of_socket(script, sort).get(call.socket, [])
-        if sort is Sort.CLOSE or call.side in operation.side
+        if sort is OperationType.CLOSE or call.side in operation.side
     }
 
 
@@ -176,7 +176,7 @@ def faults_of(script: Script) -> Iterator[tuple[int, int, Why]]:
     """The calls that failed in the recording, each with its goroutine, its first operation, and the reason."""
     for g, operations in enumerate(script.goroutines):
         for begins, operation in enumerate(operations):
-            if operation.sort is Sort.LOCK and operation.steps:
+            if operation.sort is OperationType.LOCK and operation.steps:
                 for part in operations[begins : operation.on_failure]:
                     yield from ((g, begins, why) for why in _faults(script, part))
 

@@ -15,10 +15,10 @@ from netrev.text.contents import Answer, Limits, Step
 
 from .failures import FAILS, Failed, Reason, failing_delays, faults_of, reason_of
 from .hangs import hangs, waits_for_ever
-from .player import Player
+from .player import SchedulePlayer
 from .schedules import Schedule, schedules, single_delays
 from .scripts.arrivals import with_events
-from .scripts.control import Place
+from .scripts.control import ScriptPlace
 from .scripts.runs import AnsweredStep, Delay, ImpossibleScheduleError
 from .scripts.scripts import Script
 
@@ -36,7 +36,7 @@ class Played(NamedTuple):
 
     steps: list[AnsweredStep]
     world: World
-    places: list[Place]
+    places: list[ScriptPlace]
     sockets: dict[int, int]  # the numbers of sockets, keyed by their numbers in the recording
     has_news: bool
     failed: Optional[Failed] = None
@@ -45,7 +45,7 @@ class Played(NamedTuple):
         return [(step.step, step.answer) for step in self.steps]
 
 
-class Finding(NamedTuple):
+class ScheduleFinding(NamedTuple):
     """A schedule's result: a suspect, a goroutine that hangs, or a call that fails."""
 
     key: Key
@@ -61,12 +61,12 @@ class Exploring:
 
     def __init__(self, script: Script, line_of: Callable[[int], str]) -> None:
         self.script, self.line_of = with_events(replace(script, limits=_wide(script.limits))), line_of
-        self.found: dict[Key, Finding] = {}
+        self.found: dict[Key, ScheduleFinding] = {}
         self.times: Counter[Key] = Counter()  # how many schedules end with each finding
         self.played = self.left = 0  # the number of schedules, and of those in which a step doesn't apply
         self.taken_over = 0  # the number of shares that were taken over from processes that ended too early
         self._most = LONGER * script.length + 200
-        self._copies: list[Player] = []
+        self._copies: list[SchedulePlayer] = []
         self._times: list[int] = []  # the times at which the copies were made
         self.delays = single_delays(self.script)
         if self.script.watched:
@@ -79,7 +79,7 @@ class Exploring:
 
     def _play_recorded(self) -> Played:
         """Runs the recorded schedule, and keeps copies of the state along the way."""
-        player = Player(self.script)
+        player = SchedulePlayer(self.script)
         length = self.script.length
         every = max(length // MOST_COPIES, min(length // COPIES, APART), 1)
         for time in range(0, length + 1, every):
@@ -90,7 +90,7 @@ class Exploring:
         self._steps = player.steps
         return self._all_of(player)
 
-    def _all_of(self, player: Player) -> Played:
+    def _all_of(self, player: SchedulePlayer) -> Played:
         steps = self._steps[: player.before] + player.steps
         world, sockets = player.board.world(), player.numbers.sockets
         return Played(steps, world, player.places, sockets, player.has_news, player.failed)
@@ -123,7 +123,7 @@ class Exploring:
         """Keeps the finding that another process found in a schedule."""
         self.found.update((finding.key, finding) for finding in self._ends(schedule) if finding.key == key)
 
-    def least(self, finding: Finding) -> Finding:
+    def least(self, finding: ScheduleFinding) -> ScheduleFinding:
         """The finding, with all unnecessary delays removed."""
         delays = finding.schedule.delays
         for left_out in delays if len(delays) > 1 else ():
@@ -133,7 +133,7 @@ class Exploring:
                     return self.least(found)
         return finding
 
-    def _ends(self, schedule: Schedule) -> list[Finding]:
+    def _ends(self, schedule: Schedule) -> list[ScheduleFinding]:
         """The findings at the end of a schedule."""
         try:
             played = self.ends_of(schedule.delays)
@@ -159,7 +159,7 @@ class Exploring:
         player.end(self._most)
         return self._all_of(player)
 
-    def _with_the_rest(self, player: Player, copy: Player) -> Played:
+    def _with_the_rest(self, player: SchedulePlayer, copy: SchedulePlayer) -> Played:
         """The result of a schedule that has reached a state of the recorded run, with the same numbers for all objects.
         The rest of its steps are the recorded ones."""
         steps = self._steps[: player.before] + player.steps + self._steps[copy.before :]
@@ -173,27 +173,27 @@ class Exploring:
         parked = {g for g, status in enumerate(played.world.goroutines) if status[0] == "parked"}
         return played.has_news or bool(parked - self._parked)
 
-    def _findings(self, schedule: Schedule, played: Played) -> Iterator[Finding]:
+    def _findings(self, schedule: Schedule, played: Played) -> Iterator[ScheduleFinding]:
         if self.script.watched:
             yield from self._failure(schedule, played)
             return
         ranked = suspects_of(PlayedSteps(step.step for step in played.steps))
         suspects = [suspect for suspect in ranked.suspects if self._counts(suspect, played)]
         for suspect in suspects:
-            yield Finding(self._key(suspect, played), suspect, -1, schedule, played)
+            yield ScheduleFinding(self._key(suspect, played), suspect, -1, schedule, played)
         named = {suspect.goroutine for suspect in suspects}
         for g in range(len(played.world.goroutines)):
             if g not in named and hangs(self.script, g, played.places[g], played.world, played.steps):
                 operation = self.script.goroutines[g][played.places[g].operation]
                 number = operation.steps[0] if operation.steps else 0
-                yield Finding((HANG, self.line_of(number) or (g, operation.socket)), None, g, schedule, played)
+                yield ScheduleFinding((HANG, self.line_of(number) or (g, operation.socket)), None, g, schedule, played)
 
-    def _failure(self, schedule: Schedule, played: Played) -> Iterator[Finding]:
+    def _failure(self, schedule: Schedule, played: Played) -> Iterator[ScheduleFinding]:
         """The first call that fails, if the failure is worth reporting."""
         failed = played.failed
         if failed and (reason := reason_of(self.script, failed, played.steps)):
             key = FAILS, self._place(failed.goroutine, failed.begins), failed.why
-            yield Finding(key, None, -1, schedule, played, reason)
+            yield ScheduleFinding(key, None, -1, schedule, played, reason)
 
     def _place(self, g: int, begins: int) -> Any:
         """The place where a call begins: the program's line if known, else the goroutine and the socket."""

@@ -5,9 +5,9 @@ for another reason."""
 from typing import Optional
 
 from netrev.machine.machine import SIDES, Status, World
-from netrev.run.flow import Sort
+from netrev.run.flow import OperationType
 
-from .scripts.control import Place
+from .scripts.control import ScriptPlace
 from .scripts.runs import AnsweredStep
 from .scripts.scripts import Operation, Script
 
@@ -19,7 +19,7 @@ def waits_for_ever(status: Status, world: World) -> bool:
     return not world.descs[status[1]].deadlines[SIDES.index(status[2])]
 
 
-def hangs(script: Script, g: int, place: Place, world: World, steps: list[AnsweredStep]) -> bool:
+def hangs(script: Script, g: int, place: ScriptPlace, world: World, steps: list[AnsweredStep]) -> bool:
     """Whether a goroutine hangs at its place after these steps."""
     status = world.goroutines[g]
     if status[0] != "parked" or not waits_for_ever(status, world):
@@ -28,7 +28,7 @@ def hangs(script: Script, g: int, place: Place, world: World, steps: list[Answer
     return ended is not None and any(step.number == ended for step in steps)
 
 
-def ended_by(script: Script, g: int, place: Place) -> Optional[int]:
+def ended_by(script: Script, g: int, place: ScriptPlace) -> Optional[int]:
     """The step that set the deadline which ended a goroutine's call in the recording; None if the call ended in another
     way."""
     operations = script.goroutines[g]
@@ -45,14 +45,14 @@ def _sets(script: Script, operation: Operation) -> list[int]:
         setting.steps[0]
         for operations in script.goroutines
         for setting in operations
-        if setting.sort is Sort.SET
+        if setting.sort is OperationType.SET
         and setting.steps
         and setting.use == operation.use
         and operation.side in setting.side
     ]
 
 
-def moved_by(script: Script, g: int, place: Place, steps: list[AnsweredStep]) -> tuple[int, int]:
+def moved_by(script: Script, g: int, place: ScriptPlace, steps: list[AnsweredStep]) -> tuple[int, int]:
     """Two of the steps before a goroutine hangs: the step that set the deadline which ended its call in the recording,
     and the step that moved this deadline."""
     ended, sets = ended_by(script, g, place), set(_sets(script, script.goroutines[g][place.operation]))

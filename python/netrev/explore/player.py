@@ -7,7 +7,7 @@ from typing import Optional
 
 from netrev.machine.machine import StepRefusedError, Status
 from netrev.reduce.events import Event
-from netrev.run.flow import ASLEEP, Sort
+from netrev.run.flow import ASLEEP, OperationType
 from netrev.text.contents import Answer, Step
 
 from .scripts.control import (
@@ -16,16 +16,16 @@ from .scripts.control import (
     NETWORK,
     NEVER,
     MissingObjectError,
-    Place,
+    ScriptPlace,
     behind,
     is_about,
     next_number,
     number_of,
 )
-from .scripts.orders import Waiting
+from .scripts.orders import Waiters
 from .scripts.runs import Delay, ImpossibleScheduleError
 from .scripts.scripts import Script
-from .state import Standing, Turn
+from .state import ScriptState, Turn
 
 WAKING = frozenset(("pollevent", "setdeadline", "evict", "fire", "release"))
 NEWS = (("code", 2), ("pipe",))  # a timeout, a broken pipe
@@ -34,7 +34,7 @@ UNLIKE = MAKING | {"pollclose"}  # kinds of steps that take or free a number
 SEEN = frozenset(("arrive", "peerclose", "drain", "increfclose", "pollevent"))  # the steps that `Others.see` needs
 
 
-class Player(Standing):
+class SchedulePlayer(ScriptState):
     """Runs a script under delays."""
 
     def __init__(self, script: Script, delays: tuple[Delay, ...] = ()) -> None:
@@ -71,7 +71,7 @@ class Player(Standing):
         """If a goroutine's event has come already, lets its call continue without a wait. Returns whether it did."""
         place = self.places[g]
         operation = self.script.goroutines[g][place.operation]
-        if operation.sort is not Sort.WAIT or place.is_waiting or operation.is_raw:
+        if operation.sort is not OperationType.WAIT or place.is_waiting or operation.is_raw:
             return False
         if operation.is_brief:
             d = self.numbers.descriptors.get(operation.use)
@@ -79,7 +79,7 @@ class Player(Standing):
                 return False
         elif operation.cause is None or operation.cause not in self.others.events:
             return False
-        self.places[g] = Place(place.operation + 1)
+        self.places[g] = ScriptPlace(place.operation + 1)
         self._passes(g)
         self._push_goroutine(g)
         return True
@@ -140,7 +140,7 @@ class Player(Standing):
         place, number = self.places[g], self.coming[g]
         operation = self.script.goroutines[g][place.operation]
         if number:
-            place = Place(place[0], place[1] + 1, *place[2:])
+            place = ScriptPlace(place[0], place[1] + 1, *place[2:])
             self.off.discard(g)
         else:
             self.off.add(g)
@@ -159,7 +159,7 @@ class Player(Standing):
         elif status != "gone":
             self._push_goroutine(g)
 
-    def _note(self, g: int, place: Place, answer: Answer, status: Status) -> None:
+    def _note(self, g: int, place: ScriptPlace, answer: Answer, status: Status) -> None:
         """Stores a goroutine's turn in the recorded run if other schedules may take the same turn."""
         number, step, behind_it = self.steps[-1].number, self.steps[-1].step, self.places[g]
         if step[0] in UNLIKE or behind_it.destroys >= 0:
@@ -200,7 +200,7 @@ class Player(Standing):
         if self.passing.is_still_awaited(g, waiting):
             self._count += waiting.look_again((self.now, self._count + 1))
             return
-        rest = self.passing.waiting[g] = Waiting()
+        rest = self.passing.waiting[g] = Waiters()
         for which in waiting.first:
             self._looks(g, which, rest)
         self._network_looks(waiting, rest, self.passing.holds_network_back(g))
@@ -212,7 +212,7 @@ class Player(Standing):
         if rest.is_empty():
             del self.passing.waiting[g]
 
-    def _looks(self, g: int, which: int, rest: Waiting) -> None:
+    def _looks(self, g: int, which: int, rest: Waiters) -> None:
         """Checks whether a goroutine has continued far enough for another goroutine that waits for it."""
         until = self.passing.waits_until(which)
         if self.places[g].operation > until:
@@ -221,7 +221,7 @@ class Player(Standing):
             rest.add(GOROUTINE, which)
             rest.until = min(rest.until, until)
 
-    def _network_looks(self, waiting: Waiting, rest: Waiting, in_vain: bool) -> None:
+    def _network_looks(self, waiting: Waiters, rest: Waiters, in_vain: bool) -> None:
         """Lets the network check again when it is due."""
         if in_vain and waiting.network:
             rest.network, rest.again = waiting.network, waiting.again

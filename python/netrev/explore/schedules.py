@@ -7,7 +7,7 @@ from bisect import bisect_left, bisect_right
 from itertools import islice
 from typing import Iterator, NamedTuple
 
-from netrev.run.flow import Sort
+from netrev.run.flow import OperationType
 
 from .scripts.runs import Delay
 from .scripts.scripts import Operation, Script
@@ -48,39 +48,39 @@ class Schedule(NamedTuple):
         return len(self.delays), sum(delay.until - delay.before for delay in self.delays)
 
 
-class Touched(NamedTuple):
+class TouchedPart(NamedTuple):
     """A recorded step on a part of a socket, and the step's goroutine (-1: the network or a timer)."""
 
     number: int
     actor: int
     kind: str
 
-    def matters_to(self, other: "Touched") -> bool:
+    def matters_to(self, other: "TouchedPart") -> bool:
         """Whether the two steps are by different actors and their order may matter."""
         if self.actor == other.actor:
             return False
         return THING_OF[self.kind] != WAIT or self.kind in TO_OTHERS or other.kind in TO_OTHERS
 
 
-def touched(script: Script) -> dict[Thing, list[Touched]]:
+def touched(script: Script) -> dict[Thing, list[TouchedPart]]:
     """The steps at each part of a socket, in order."""
-    found: dict[Thing, list[Touched]] = {}
+    found: dict[Thing, list[TouchedPart]] = {}
 
-    def note(socket: int, sides: str, step: Touched) -> None:
+    def note(socket: int, sides: str, step: TouchedPart) -> None:
         for side in sides if step.kind in THING_OF else "":
             found.setdefault((socket, THING_OF[step.kind], side), []).append(step)
 
     for g, operations in enumerate(script.goroutines):
         for operation in operations:
             for number, kind in zip(operation.steps, operation.kinds):
-                note(operation.socket, operation.side or SIDE_OF.get(kind, "rw"), Touched(number, g, kind))
+                note(operation.socket, operation.side or SIDE_OF.get(kind, "rw"), TouchedPart(number, g, kind))
     for s, row in script.network.items():
         for item in row:
             kind = item.event.kind
-            note(s, SIDE_OF.get(kind) or item.event.arguments[2], Touched(item.event.number, -1, kind))
+            note(s, SIDE_OF.get(kind) or item.event.arguments[2], TouchedPart(item.event.number, -1, kind))
     for item in script.clock:
         if item.timer:
-            note(script.sockets[item.timer[0]], "rw", Touched(item.event.number, -1, item.event.kind))
+            note(script.sockets[item.timer[0]], "rw", TouchedPart(item.event.number, -1, item.event.kind))
     return {thing: sorted(steps) for thing, steps in found.items()}
 
 
@@ -99,15 +99,15 @@ def single_delays(script: Script) -> list[Delay]:
 def _late_delays(script: Script) -> Iterator[Delay]:
     """Delays of a call until its deadline has passed, if the deadline was set for both sides and the other side's
     deadline was then moved alone."""
-    sets = sorted(_of_sort(script, Sort.SET))
-    for number, reset in sorted(_of_sort(script, Sort.RESET)):
+    sets = sorted(_of_sort(script, OperationType.SET))
+    for number, reset in sorted(_of_sort(script, OperationType.RESET)):
         before = [(at, setting) for at, setting in sets if at < number and setting.use == reset.use]
         own = [(at, setting) for at, setting in before if reset.side in setting.side]
         if own and own[-1][1].side == "rw" and own[-1][1].values[0] > 0 and own[-1][0] < before[-1][0]:
             yield Delay(number, script.length + 1)
 
 
-def _of_sort(script: Script, sort: Sort) -> Iterator[tuple[int, Operation]]:
+def _of_sort(script: Script, sort: OperationType) -> Iterator[tuple[int, Operation]]:
     """The operations of a kind that have steps, each with the number of its first step."""
     for operations in script.goroutines:
         for operation in operations:

@@ -9,7 +9,7 @@ from netrev.run.calls import Book
 from netrev.text.plurals import counted
 
 from .failures import FAILS, Failed, Reason, Why
-from .findings import Exploring, Finding
+from .findings import Exploring, ScheduleFinding
 from .hangs import moved_by
 from .scripts.runs import Delay
 from .scripts.scripts import Script
@@ -20,7 +20,7 @@ IF_RAW = "and only if the function that RawConn was given waits without a try, w
 LEFT_UNKNOWN = "a lock that was free, an atomic"  # what remains unknown if the recorder saw the program's orders
 
 
-class Telling:
+class FindingSentences:
     """Describes findings in terms of the recorded run."""
 
     def __init__(self, recording: Recording, book: Book, script: Script) -> None:
@@ -35,7 +35,7 @@ class Telling:
             in_call, before = "", self._named(call)
         return f"goroutine {g}{in_call} pauses before {before} (step {delay.before}) until {self._until(delay.until)}"
 
-    def unless(self, finding: Finding) -> str:
+    def unless(self, finding: ScheduleFinding) -> str:
         """The line that says what isn't known about a finding."""
         unless = UNLESS + (UNKNOWN if self.script.orders is None else LEFT_UNKNOWN)
         g = finding.suspect.goroutine if finding.suspect else None
@@ -71,7 +71,7 @@ class Telling:
     def _named(self, call: Call) -> str:
         return f"{call.name} on socket {call.socket}"
 
-    def finding(self, at: int, finding: Finding, times: int, file: str) -> list[str]:
+    def finding(self, at: int, finding: ScheduleFinding, times: int, file: str) -> list[str]:
         """The lines about a finding that was written to a file, except netrev's answer."""
         lines = [f"{at}. {self._head(finding, file)}"]
         delays = finding.schedule.delays
@@ -85,7 +85,7 @@ class Telling:
         lines.append(f"   {self.unless(finding)}")
         return lines
 
-    def _head(self, finding: Finding, file: str) -> str:
+    def _head(self, finding: ScheduleFinding, file: str) -> str:
         if finding.played.failed and finding.reason:
             return f"{FAILS}, in {file}: {self._fails(finding.played.failed, finding.reason, finding)}"
         if finding.suspect:
@@ -100,7 +100,7 @@ class Telling:
         says = f"goroutine {g} is parked without a deadline, since step {moved_at} moved that of step {set_at}"
         return f"{finding.key[0]}, in {file}: {named}{ended} hangs: {says}"
 
-    def _fails(self, failed: Failed, reason: Reason, finding: Finding) -> str:
+    def _fails(self, failed: Failed, reason: Reason, finding: ScheduleFinding) -> str:
         """A sentence about the call that fails, and the reason."""
         first = self.script.goroutines[failed.goroutine][failed.begins]
         call = self.call_of(failed.goroutine, first.steps[0])
@@ -109,7 +109,7 @@ class Telling:
         sentence = f"goroutine {failed.goroutine}'s {named}, which went well in the recording ({steps}), fails at step {failed.step}"
         return f"{sentence}: {self._why(failed.why, reason, finding)}"
 
-    def _why(self, why: Why, reason: Reason, finding: Finding) -> str:
+    def _why(self, why: Why, reason: Reason, finding: ScheduleFinding) -> str:
         if why is Why.BROKEN:
             return "its other end is closed, or its writing side is shut"
         step = finding.played.steps[reason.step - 1].step

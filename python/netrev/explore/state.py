@@ -5,30 +5,30 @@ from heapq import heapify, heappush
 from typing import NamedTuple, Optional, TypeVar
 
 from netrev.machine.machine import Status
-from netrev.run.flow import Sort
+from netrev.run.flow import OperationType
 from netrev.text.contents import Answer, Step
 
-from .comparison import Numbered, are_alike
+from .comparison import NumberedState, are_alike
 from .failures import OVER, Failed, fault_of
 from .scripts.actors import Others
 from .scripts.board import Board
-from .scripts.control import GOROUTINE, Numbers, Place, Stream, next_step
-from .scripts.orders import Passing
+from .scripts.control import GOROUTINE, Numbers, ScriptPlace, WrittenStream, next_step
+from .scripts.orders import OrderProgress
 from .scripts.runs import AnsweredStep, Delay
 from .scripts.scripts import Script
 
 Due = tuple[float, int, int, int]  # a time, the order among the actions at that time, the actor, and the actor's number
-Itself = TypeVar("Itself", bound="Standing")
+Itself = TypeVar("Itself", bound="ScriptState")
 
 
 class Turn(NamedTuple):
     """A goroutine's turn in the recorded run: its place before the turn, the answer, and its status and place after the
     turn. If its next step was scheduled at once, the turn has that step, the step's object and the object's number."""
 
-    place: Place
+    place: ScriptPlace
     answer: Answer
     status: Status
-    behind: Place
+    behind: ScriptPlace
     is_off: bool
     following: Optional[Step] = None
     coming: int = 0
@@ -36,7 +36,7 @@ class Turn(NamedTuple):
     named: int = -1
 
 
-class Standing:
+class ScriptState:
     """The state of a script that runs under delays."""
 
     def __init__(self, script: Script, delays: tuple[Delay, ...] = ()) -> None:
@@ -47,8 +47,8 @@ class Standing:
         self.numbers = Numbers()
         self.before = 0  # the number of steps that the copied player had made
         self.steps: list[AnsweredStep] = []  # the steps after those of the copied player
-        self.places = [Place() for _ in script.goroutines]
-        self.passing = Passing(script.orders, script.causes, self.places)
+        self.places = [ScriptPlace() for _ in script.goroutines]
+        self.passing = OrderProgress(script.orders, script.causes, self.places)
         self.following: dict[int, Step] = {}  # the next step of each goroutine that is scheduled
         self.coming = [0] * len(script.goroutines)  # the number of each goroutine's next recorded step, or 0
         self.off: set[int] = set()  # the actors that have made steps that the recording doesn't have
@@ -64,7 +64,7 @@ class Standing:
         self._heap: list[Due] = []
         self._count = self._at = 0
         self._in_order: Optional[list[tuple[float, int, int]]] = None
-        self._streams: dict[tuple[int, int], Stream] = {}
+        self._streams: dict[tuple[int, int], WrittenStream] = {}
 
     def copy(self: Itself, delays: tuple[Delay, ...]) -> Itself:
         """A copy of the state, from which a run continues under other delays."""
@@ -88,18 +88,18 @@ class Standing:
                 self._heap[at] = (self.held[g], count, actor, g)
         heapify(self._heap)
 
-    def is_as(self, other: "Standing") -> bool:
+    def is_as(self, other: "ScriptState") -> bool:
         """Whether this state equals the other state, so that both runs continue in the same way."""
         return (
             self.places == other.places
             and self.off == other.off
             and not self.held
-            and are_alike(Numbered(self.board, self.numbers), Numbered(other.board, other.numbers))
+            and are_alike(NumberedState(self.board, self.numbers), NumberedState(other.board, other.numbers))
             and self.others.is_as(other.others)
             and self._all_due() == other._all_due()
         )
 
-    def is_the_same_as(self, other: "Standing") -> bool:
+    def is_the_same_as(self, other: "ScriptState") -> bool:
         """Whether this run and the other run agree in everything that decides how they continue, including the numbers.
         If so, both make exactly the same steps."""
         return (
@@ -115,7 +115,7 @@ class Standing:
             and all(self.coming[g] == other.coming[g] for g in self.following)
         )
 
-    def _watch(self, g: int, place: Place) -> None:
+    def _watch(self, g: int, place: ScriptPlace) -> None:
         """Records the first watched call that fails, and the end of that call."""
         step = self.steps[-1]
         begins = self.script.watched.get((g, place.operation))
@@ -138,12 +138,12 @@ class Standing:
         self._count += 1
         heappush(self._heap, (due if due > self.now else self.now, self._count, actor, which))
 
-    def _stream(self, g: int, at: int) -> Optional[Stream]:
+    def _stream(self, g: int, at: int) -> Optional[WrittenStream]:
         operation = self.script.goroutines[g][at]
-        if operation.sort is not Sort.WRITE:
+        if operation.sort is not OperationType.WRITE:
             return None
         if (g, at) not in self._streams:
-            self._streams[g, at] = Stream(operation)
+            self._streams[g, at] = WrittenStream(operation)
         return self._streams[g, at]
 
     def _next(self, g: int) -> Optional[Step]:

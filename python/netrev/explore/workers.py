@@ -11,7 +11,7 @@ from itertools import islice
 from selectors import EVENT_READ, DefaultSelector
 from typing import IO, Callable, Iterator, NamedTuple
 
-from netrev.recording.where import Lines
+from netrev.recording.where import SourceLines
 
 from .findings import Exploring, Key
 from .schedules import Schedule, schedules
@@ -53,7 +53,7 @@ class Share(NamedTuple):
     """The share of a process: one schedule in `of`, beginning with number `which`."""
 
     script: Script
-    lines: Lines
+    lines: SourceLines
     most: int
     which: int
     of: int

@@ -16,7 +16,7 @@ FEWEST = 64  # the number of timers above which the heap is swept
 
 
 @dataclass(eq=False, slots=True)
-class Timer:
+class DeadlineTimer:
     """A timer that is armed or has gone off: its descriptor, the sides that it covers, and the step that set the
     deadline."""
 
@@ -30,14 +30,14 @@ class Timer:
 
 
 @dataclass(slots=True)
-class Descriptor:
+class DescriptorDeadlines:
     """The deadlines of a descriptor and their timers; each pair has an element for reading and one for writing."""
 
     closing: bool = False
     deadlines: list[int] = field(default_factory=lambda: [0, 0])
     sequences: list[int] = field(default_factory=lambda: [0, 0])
     running: list[bool] = field(default_factory=lambda: [False, False])
-    timers: list[Timer | None] = field(default_factory=lambda: [None, None])
+    timers: list[DeadlineTimer | None] = field(default_factory=lambda: [None, None])
     setters: list[Any] = field(default_factory=lambda: [None, None])
 
 
@@ -45,10 +45,10 @@ class Deadlines:
     """All descriptors' deadlines, the armed timers, and the timers that went off."""
 
     def __init__(self) -> None:
-        self.descriptors: dict[int, Descriptor] = {}
-        self.heap: list[tuple[int, int, Timer]] = []  # including stopped timers
+        self.descriptors: dict[int, DescriptorDeadlines] = {}
+        self.heap: list[tuple[int, int, DeadlineTimer]] = []  # including stopped timers
         self._room = FEWEST  # the heap is swept above this number
-        self.firings: list[Timer] = []
+        self.firings: list[DeadlineTimer] = []
         self._keys: list[tuple[int, int, int]] = []  # the descriptor, side and sequence of each firing
         self._counts: dict[tuple[int, int, int], int] = defaultdict(int)  # how often each of these is in the list
         self.armings = 0
@@ -56,19 +56,19 @@ class Deadlines:
 
     def open(self, number: int) -> tuple[int, int]:
         """Opens a descriptor, and returns its sequences at that time."""
-        descriptor = self.descriptors.setdefault(number, Descriptor())
+        descriptor = self.descriptors.setdefault(number, DescriptorDeadlines())
         descriptor.closing = False
         descriptor.deadlines = [0, 0]
         for side in (READING, WRITING):
             descriptor.sequences[side] += 1
         return descriptor.sequences[READING], descriptor.sequences[WRITING]
 
-    def armed(self, number: int, side: int) -> Timer | None:
+    def armed(self, number: int, side: int) -> DeadlineTimer | None:
         timer = self.descriptors[number].timers[side]
         return timer if timer and timer.armed else None
 
     @staticmethod
-    def disarm(descriptor: Descriptor, side: int) -> None:
+    def disarm(descriptor: DescriptorDeadlines, side: int) -> None:
         timer = descriptor.timers[side]
         if timer:
             timer.armed = False
@@ -116,10 +116,10 @@ class Deadlines:
             if wants:
                 self.arm(number, descriptor, side)
 
-    def arm(self, number: int, descriptor: Descriptor, side: int) -> None:
+    def arm(self, number: int, descriptor: DescriptorDeadlines, side: int) -> None:
         covers = SIDES if are_both(descriptor.deadlines) else SIDES[side]
         due = descriptor.deadlines[side]
-        timer = Timer(due, number, side, descriptor.sequences[side], covers, descriptor.setters[side])
+        timer = DeadlineTimer(due, number, side, descriptor.sequences[side], covers, descriptor.setters[side])
         descriptor.timers[side] = timer
         self.armings += 1
         if len(self.heap) >= self._room:
@@ -132,12 +132,12 @@ class Deadlines:
         heapq.heapify(self.heap)
         self._room = max(FEWEST, 2 * len(self.heap))
 
-    def least(self) -> Timer | None:
+    def least(self) -> DeadlineTimer | None:
         while self.heap and not self.heap[0][2].armed:
             heapq.heappop(self.heap)
         return self.heap[0][2] if self.heap else None
 
-    def pop(self) -> Timer | None:
+    def pop(self) -> DeadlineTimer | None:
         """Lets the first timer go off, if a timer is armed."""
         timer = self.least()
         if timer:
@@ -154,7 +154,7 @@ class Deadlines:
         key = number, side, sequence
         return self._keys.index(key) if self._counts.get(key) else None  # (this usually saves a scan of hundreds)
 
-    def fire(self, place: int, sides: str = "") -> tuple[Timer, bool]:
+    def fire(self, place: int, sides: str = "") -> tuple[DeadlineTimer, bool]:
         """Runs the function of a timer for these sides; by default, for the sides that the timer covers. Returns the
         timer, and whether it is stale."""
         firing = self.firings.pop(place)

@@ -41,7 +41,7 @@ class Request(NamedTuple):
     what: Any = None
 
 
-class State(NamedTuple):
+class SharedState(NamedTuple):
     """The shared state. Marks and checkpoints are pairs of a number and an object, in ascending order."""
 
     position: int = 0
@@ -52,7 +52,7 @@ class State(NamedTuple):
     checkpoint_count: int = 0
 
 
-Answered = tuple[State, Reply]
+Answered = tuple[SharedState, Reply]
 COMMANDS = {"step", "seek", "turn", "mark", "delete", "checkpoint", "restart", "forget"}
 
 
@@ -112,7 +112,7 @@ def is_command(request: Optional[Request]) -> bool:
 
 
 @dataclass(frozen=True, eq=False)
-class Recording:
+class DebuggedRecording:
     """A recording, and the results of some queries at each of its positions. A whole script uses it."""
 
     path: Optional[Path]
@@ -120,7 +120,7 @@ class Recording:
     shown: Mapping[str, Any]
 
     @staticmethod
-    def read(netrev: str, path: Path, looks: Sequence[str]) -> Recording:
+    def read(netrev: str, path: Path, looks: Sequence[str]) -> DebuggedRecording:
         """Reads the recording, and makes the queries at all its positions in one pass of `netrev run`."""
         with open(path, encoding="ascii") as lines:
             kinds = tuple(json.loads(line)[0] for line in list(lines)[1:] if line.strip())
@@ -137,7 +137,7 @@ class Recording:
         every = len(looks) + 1
         moves = [f"at {position}" for position in range(1, len(kinds) + 1)] + [f"at {len(kinds)} end"]
         assert replies[every - 1 :: every] == moves, "one pass of `netrev run` over the recording"
-        return Recording(path, kinds, {look: tuple(replies[at::every]) for at, look in enumerate(looks)})
+        return DebuggedRecording(path, kinds, {look: tuple(replies[at::every]) for at, look in enumerate(looks)})
 
     @property
     def length(self) -> int:
@@ -179,20 +179,20 @@ class Recording:
         at = bisect_left(hits, position)
         return at < len(hits) and hits[at] == position
 
-    def answer(self, state: State, request: Request) -> Answered:
+    def answer(self, state: SharedState, request: Request) -> Answered:
         """The state after a line, and the lines of its reply."""
         return getattr(self, f"answer_{request.sort}")(state, request.what)
 
-    def answer_fault(self, state: State, text: str) -> Answered:
+    def answer_fault(self, state: SharedState, text: str) -> Answered:
         return state, (text,)
 
-    def answer_quit(self, state: State, _: object) -> Answered:
+    def answer_quit(self, state: SharedState, _: object) -> Answered:
         return state, ("bye",)
 
-    def answer_look(self, state: State, look: str) -> Answered:
+    def answer_look(self, state: SharedState, look: str) -> Answered:
         return state, (self.shown[look][state.position],)
 
-    def answer_info(self, state: State, what: str) -> Answered:
+    def answer_info(self, state: SharedState, what: str) -> Answered:
         if what == "position":
             way = "reverse" if state.reverse else "forward"
             return state, (f"at {state.position} of {self.length} {way}",)
@@ -201,7 +201,7 @@ class Recording:
         listed = state.checkpoints
         return state, (f"checkpoints {len(listed)}", *(f"{number} at {place}" for number, place in listed))
 
-    def answer_step(self, state: State, what: tuple[int, bool]) -> Answered:
+    def answer_step(self, state: SharedState, what: tuple[int, bool]) -> Answered:
         count, backwards = what
         if backwards or state.reverse:
             position = max(state.position - count, 0)
@@ -211,7 +211,7 @@ class Recording:
             reply = f"at {position} end" if state.position + count > self.length else f"at {position}"
         return moved(state, position), (reply,)
 
-    def answer_seek(self, state: State, backwards: bool) -> Answered:
+    def answer_seek(self, state: SharedState, backwards: bool) -> Answered:
         reverse = backwards or state.reverse
         found = self.nearest(state.marks, state.position, reverse)
         if found:
@@ -221,23 +221,23 @@ class Recording:
         position = 0 if reverse else self.length
         return moved(state, position), ("at 0 start" if reverse else f"at {position} end",)
 
-    def answer_turn(self, state: State, reverse: bool) -> Answered:
+    def answer_turn(self, state: SharedState, reverse: bool) -> Answered:
         reply = "direction reverse" if reverse else "direction forward"
         return (state if state.reverse == reverse else state._replace(reverse=reverse)), (reply,)
 
-    def answer_mark(self, state: State, mark: str) -> Answered:
+    def answer_mark(self, state: SharedState, mark: str) -> Answered:
         if len(state.marks) == MOST_STANDING:
             return state, (MARKS_FULL,)
         number = state.mark_count + 1
         return state._replace(marks=(*state.marks, (number, mark)), mark_count=number), (f"mark {number}",)
 
-    def answer_delete(self, state: State, number: int) -> Answered:
+    def answer_delete(self, state: SharedState, number: int) -> Answered:
         left = tuple(mark for mark in state.marks if mark[0] != number)
         if len(left) == len(state.marks):
             return state, (NO_MARK,)
         return state._replace(marks=left), (f"deleted mark {number}",)
 
-    def answer_checkpoint(self, state: State, _: object) -> Answered:
+    def answer_checkpoint(self, state: SharedState, _: object) -> Answered:
         if len(state.checkpoints) == MOST_STANDING:
             return state, (CHECKPOINTS_FULL,)
         number = state.checkpoint_count + 1
@@ -245,13 +245,13 @@ class Recording:
         reply = f"checkpoint {number} at {state.position}"
         return state._replace(checkpoints=kept, checkpoint_count=number), (reply,)
 
-    def answer_restart(self, state: State, number: int) -> Answered:
+    def answer_restart(self, state: SharedState, number: int) -> Answered:
         place = 0 if number == 0 else dict(state.checkpoints).get(number)
         if place is None:
             return state, (NO_CHECKPOINT,)
         return moved(state, place), (f"at {place}",)
 
-    def answer_forget(self, state: State, number: int) -> Answered:
+    def answer_forget(self, state: SharedState, number: int) -> Answered:
         left = tuple(kept for kept in state.checkpoints if kept[0] != number)
         if len(left) == len(state.checkpoints):
             return state, (NO_CHECKPOINT,)
@@ -263,6 +263,6 @@ def left_standing(marks: Marks, hitting: Sequence[int]) -> Marks:
     return tuple(mark for mark in marks if mark[0] not in hitting or not mark[1].startswith("tbreak "))
 
 
-def moved(state: State, position: int) -> State:
+def moved(state: SharedState, position: int) -> SharedState:
     """The state at another position, or the same state if the position doesn't change."""
     return state if state.position == position else state._replace(position=position)

@@ -17,7 +17,7 @@ Itself = TypeVar("Itself", bound="Machine")
 WHOLE = -1  # the place for all other parts, each of which is replaced as a whole
 
 
-class Change(NamedTuple):
+class MachineChange(NamedTuple):
     """A change with the old value. If a goroutine, socket or descriptor changed, the old value is the old object at
     that place, or None if the object is new. If any other part changed, the old value is the whole part."""
 
@@ -26,7 +26,7 @@ class Change(NamedTuple):
     old: Any
 
 
-Changes = list[Change]  # the changes of one step, in order
+Changes = list[MachineChange]  # the changes of one step, in order
 
 
 class Machine:
@@ -98,19 +98,19 @@ class Machine:
         return [] if g is None else [g]
 
     def with_status(self, g: int, status: Status) -> Machine:
-        self._changes.append(Change("goroutines", g, self.goroutines[g]))
+        self._changes.append(MachineChange("goroutines", g, self.goroutines[g]))
         self._sits(g, status)
         return self
 
     def with_socket(self, s: int, **changes: Any) -> Machine:
         old = self.sockets[s]
-        self._changes.append(Change("sockets", s, old))
+        self._changes.append(MachineChange("sockets", s, old))
         self.sockets[s] = old._replace(**changes)
         return self
 
     def with_desc(self, d: int, **changes: Any) -> Machine:
         old = self.descs[d]
-        self._changes.append(Change("descs", d, old))
+        self._changes.append(MachineChange("descs", d, old))
         self.descs[d] = old._replace(**changes)
         return self
 
@@ -120,19 +120,19 @@ class Machine:
             if name in ONE_OF_MANY:
                 self._put_all(name, old, value)
             else:
-                self._changes.append(Change(name, WHOLE, old))
+                self._changes.append(MachineChange(name, WHOLE, old))
                 setattr(self, name, value)
         return self
 
     def _put_all(self, name: str, old: list[Any], items: tuple[Any, ...]) -> None:
         """Replaces the goroutines, sockets or descriptors; one of them may be new."""
         if len(items) != len(old):
-            self._changes.append(Change(name, len(old), None))
+            self._changes.append(MachineChange(name, len(old), None))
             old.extend(items[len(old) :])
             return
         for place, item in enumerate(items):
             if item is not old[place]:
-                self._changes.append(Change(name, place, old[place]))
+                self._changes.append(MachineChange(name, place, old[place]))
                 old[place] = item
 
     def _sits(self, g: int, status: Status) -> None:

@@ -2,7 +2,7 @@
 
 from typing import Callable, Iterator, Optional
 
-from netrev.text.contents import Answer, Recording, Step
+from netrev.text.contents import Answer, Contents, Step
 from netrev.text.reading import FaultError
 
 from .machine import StepRefusedError, World
@@ -15,7 +15,7 @@ def differs(recorded: Answer, answer: Answer) -> bool:
     return recorded != answer
 
 
-def answers(recording: Recording, observer: Observer, make: Callable[[Step], Answer]) -> Iterator[Answer]:
+def answers(recording: Contents, observer: Observer, make: Callable[[Step], Answer]) -> Iterator[Answer]:
     """Makes each step and yields its answer. Raises the Fault of the first step that doesn't apply or whose recorded
     answer differs. The observer gets each step."""
     for number, (step, recorded) in enumerate(zip(recording.steps, recording.answers), 1):
@@ -31,7 +31,7 @@ def answers(recording: Recording, observer: Observer, make: Callable[[Step], Ans
         yield answer
 
 
-def positions(recording: Recording, observer: Observer) -> Iterator[tuple[World, Optional[Answer]]]:
+def positions(recording: Contents, observer: Observer) -> Iterator[tuple[World, Optional[Answer]]]:
     """The state of each position in order, with the answer that led to it; raises the first Fault."""
     world = World(recording.limits)
     yield world, None

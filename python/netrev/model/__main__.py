@@ -11,7 +11,7 @@ from netrev.machine.observer import Observer
 from netrev.text.reading import FaultError
 
 from .program import printed, replay
-from .session import Session, recording_of
+from .session import ModelSession, recording_of
 
 
 def run(recording: bytes) -> int:
@@ -21,7 +21,7 @@ def run(recording: bytes) -> int:
     except FaultError as fault:
         print(fault)
         return 1
-    session = Session(recording_of(replayed.text.steps, replayed.worlds), Observer())
+    session = ModelSession(recording_of(replayed.text.steps, replayed.worlds), Observer())
     for line in sys.stdin.buffer:
         for reply in session.answer(line.removesuffix(b"\n")) or ():
             print(reply)

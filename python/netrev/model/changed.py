@@ -12,7 +12,7 @@ SHOWS_QUEUES: Shows = {"rq": lambda socket: socket.queues[0], "wq": lambda socke
 OF_MANY: dict[str, Shows] = {"goroutines": SHOWS_GOROUTINE, "sockets": SHOWS_SOCKET, "descs": SHOWS_DESC}
 
 
-class Before(NamedTuple):
+class MachineBefore(NamedTuple):
     """The values, before the step, of the cells of the whole machine."""
 
     clock: int
@@ -40,7 +40,7 @@ def changed_cells(machine: Machine, with_queues: bool = False) -> list[str]:
 
 def _of_all(machine: Machine, whole: dict[str, Any]) -> list[str]:
     """The cells of the whole machine."""
-    before = Before(*(whole.get(name, getattr(machine, name)) for name in Before._fields))
+    before = MachineBefore(*(whole.get(name, getattr(machine, name)) for name in MachineBefore._fields))
     return [name for name, shows in SHOWS_ALL.items() if shows(before) != shows(machine)]
 
 

@@ -7,13 +7,13 @@ from netrev.machine.invariants import breaches
 from netrev.machine.machine import World
 from netrev.machine.observer import Observer
 from netrev.machine.replay import positions
-from netrev.text.contents import Answer, Recording as Text
+from netrev.text.contents import Answer, Contents as Text
 from netrev.text.jsontext import DoubtfulNumberError
 from netrev.text.reading import FaultError, read_text
 from netrev.text.writing import write_plain
 
 from .changes import changes
-from .session import Session, recording_of, replies_to
+from .session import ModelSession, recording_of, replies_to
 from .suspects import suspects
 
 HELD = 500  # the number of positions whose states are checked
@@ -36,7 +36,7 @@ class BrokenInvariantError(NetrevError):
     """Raised if the model reached a state that isn't well formed."""
 
 
-class Replayed(NamedTuple):
+class ReplayedRecording(NamedTuple):
     """A recording whose steps all apply, with the states of its positions and the answers."""
 
     text: Text
@@ -44,12 +44,14 @@ class Replayed(NamedTuple):
     answers: list[Answer]
 
 
-def replay(recording: bytes, observer: Observer, keeps_worlds: bool = True, keeps_answers: bool = True) -> Replayed:
+def replay(
+    recording: bytes, observer: Observer, keeps_worlds: bool = True, keeps_answers: bool = True
+) -> ReplayedRecording:
     """Replays the recording. Raises FaultError if the recording has a fault, and DoubtfulNumberError if the model can't decide. The
     result has the states and the answers only if the caller asks for them."""
     text = read_text(recording)
     worlds, answers = held_together(positions(text, observer), keeps_worlds, keeps_answers)
-    return Replayed(text, worlds, answers)
+    return ReplayedRecording(text, worlds, answers)
 
 
 def held_together(
@@ -86,5 +88,5 @@ def printed(program: str, recording: bytes, script: bytes, observer: Observer) -
         return Printed(0, f"ok {len(text.steps)} steps\n".encode())
     if program == "upgrade":
         return Printed(0, write_plain(text._replace(version=2, answers=replayed.answers)))
-    replies = replies_to(Session(recording_of(text.steps, replayed.worlds), observer), script)
+    replies = replies_to(ModelSession(recording_of(text.steps, replayed.worlds), observer), script)
     return Printed(0, "".join(f"{line}\n" for line in replies).encode())

@@ -3,7 +3,7 @@
 from typing import Optional, Sequence
 
 from netrev.machine.cells import look
-from netrev.machine.debugger import FULL, Recording, Reply, State, is_command, read_line
+from netrev.machine.debugger import FULL, DebuggedRecording, Reply, SharedState, is_command, read_line
 from netrev.machine.machine import World
 from netrev.machine.observer import Observer
 from netrev.text.contents import Step
@@ -22,7 +22,7 @@ class Looked:
         return look(self.worlds[position], self.query)
 
 
-class Shown(dict[str, Looked]):
+class QueryResults(dict[str, Looked]):
     """The results of each query, by the query's line."""
 
     def __init__(self, worlds: Sequence[World]) -> None:
@@ -34,17 +34,17 @@ class Shown(dict[str, Looked]):
         return self[query]
 
 
-def recording_of(steps: Sequence[Step], worlds: Sequence[World]) -> Recording:
+def recording_of(steps: Sequence[Step], worlds: Sequence[World]) -> DebuggedRecording:
     """The debugger's data for a recording with these steps, whose positions have these states."""
-    return Recording(None, tuple(step[0] for step in steps), Shown(worlds))
+    return DebuggedRecording(None, tuple(step[0] for step in steps), QueryResults(worlds))
 
 
-class Session:
+class ModelSession:
     """Answers lines one after another."""
 
-    def __init__(self, recording: Recording, observer: Observer) -> None:
+    def __init__(self, recording: DebuggedRecording, observer: Observer) -> None:
         self.recording = recording
-        self.state, self.placed, self.has_ended = State(), 0, False
+        self.state, self.placed, self.has_ended = SharedState(), 0, False
         self._observer = observer
 
     def answer(self, line: bytes) -> Optional[Reply]:
@@ -62,8 +62,8 @@ class Session:
 
     def close(self) -> None:
         """Drops the caches."""
-        Recording.hits_of.cache_clear()
-        Recording.nearest.cache_clear()
+        DebuggedRecording.hits_of.cache_clear()
+        DebuggedRecording.nearest.cache_clear()
 
 
 def lines_of(script: bytes) -> list[bytes]:
@@ -72,7 +72,7 @@ def lines_of(script: bytes) -> list[bytes]:
     return lines if lines[-1] else lines[:-1]
 
 
-def replies_to(session: Session, script: bytes) -> list[str]:
+def replies_to(session: ModelSession, script: bytes) -> list[str]:
     """The lines that `netrev run` prints for this script."""
     replies: list[str] = []
     for line in lines_of(script):

@@ -30,7 +30,7 @@ EXPIRED = ("code", 2)
 TAKES_A_REFERENCE, GIVES_A_REFERENCE = ("incref", "increfclose", "rwlock"), ("decref", "rwunlock")
 
 
-class Replayed(NamedTuple):
+class ReplayedStates(NamedTuple):
     """The steps of a recording, their answers, and the states: the state of position n is the state after step n."""
 
     steps: Sequence[Step]
@@ -64,10 +64,10 @@ def suspects(recording: bytes, observer: Observer, hunts: Sequence[str] = HUNTS)
         observer.printed(str(fault))
         return [str(fault)], False
     worlds, answers = zip(*reached)
-    return [*suspect_lines(Replayed(text.steps, answers[1:], worlds), hunts), f"ok {len(text.steps)} steps"], True
+    return [*suspect_lines(ReplayedStates(text.steps, answers[1:], worlds), hunts), f"ok {len(text.steps)} steps"], True
 
 
-def suspect_lines(replayed: Replayed, hunts: Sequence[str] = HUNTS) -> list[str]:
+def suspect_lines(replayed: ReplayedStates, hunts: Sequence[str] = HUNTS) -> list[str]:
     """The lines of these hunts, without the final line."""
     at_the_end = (*lost_wake_ups(replayed), *asleep(replayed), *held_references(replayed))
     lines = [*came_of_deadlines(replayed), *at_the_end]
@@ -77,7 +77,7 @@ def suspect_lines(replayed: Replayed, hunts: Sequence[str] = HUNTS) -> list[str]
 # deadlines
 
 
-def came_of_deadlines(replayed: Replayed) -> Iterator[str]:
+def came_of_deadlines(replayed: ReplayedStates) -> Iterator[str]:
     """The findings about deadlines, step by step, with reading before writing."""
     for n in range(1, replayed.end + 1):
         yield from passed_deadlines(replayed, n)
@@ -85,13 +85,13 @@ def came_of_deadlines(replayed: Replayed) -> Iterator[str]:
         yield from taken_back(replayed, n)
 
 
-def passed_deadlines(replayed: Replayed, n: int) -> Iterator[str]:
+def passed_deadlines(replayed: ReplayedStates, n: int) -> Iterator[str]:
     """Step n, if it is a `fire` with the answer `done` and sets a deadline to -1."""
     for d, side in passings(replayed, n):
         yield f"at {n} {PASSED_DEADLINE} {setting(replayed, n, d, side)}"
 
 
-def passings(replayed: Replayed, n: int) -> Iterator[tuple[int, str]]:
+def passings(replayed: ReplayedStates, n: int) -> Iterator[tuple[int, str]]:
     """The sides whose deadlines pass in step n."""
     if replayed.has(n, "fire", "done"):
         for d, desc in enumerate(replayed.worlds[n].descs):
@@ -101,7 +101,7 @@ def passings(replayed: Replayed, n: int) -> Iterator[tuple[int, str]]:
                     yield d, side
 
 
-def timeouts(replayed: Replayed, n: int) -> Iterator[str]:
+def timeouts(replayed: ReplayedStates, n: int) -> Iterator[str]:
     """Step n, if it is a check answered `code 2` that ends a call."""
     place = checked(replayed, n)
     if place is not None and replayed.answers[n - 1] == EXPIRED:
@@ -109,7 +109,7 @@ def timeouts(replayed: Replayed, n: int) -> Iterator[str]:
         yield f"at {n} {TIMEOUT} gor {g} {setting(replayed, n, d, side)}"
 
 
-def checked(replayed: Replayed, n: int) -> Optional[tuple[int, int, str]]:
+def checked(replayed: ReplayedStates, n: int) -> Optional[tuple[int, int, str]]:
     """The goroutine, the descriptor and the side of step n, if it is a reset, the beginning of a wait, or the last
     check of a wait."""
     kind, *arguments = replayed.step(n)
@@ -122,7 +122,7 @@ def checked(replayed: Replayed, n: int) -> Optional[tuple[int, int, str]]:
     return None
 
 
-def taken_back(replayed: Replayed, n: int) -> Iterator[str]:
+def taken_back(replayed: ReplayedStates, n: int) -> Iterator[str]:
     """A line for each side whose deadline is set by step n, if the side's previous deadline has passed and woken a
     goroutine, and this goroutine hasn't checked yet."""
     if replayed.step(n)[0] == "setdeadline":
@@ -133,7 +133,7 @@ def taken_back(replayed: Replayed, n: int) -> Iterator[str]:
                 yield f"at {n} {TAKEN_BACK} gor {g} {setting(replayed, n, d, side)}"
 
 
-def woken(replayed: Replayed, until: int, d: int, side: str) -> Optional[int]:
+def woken(replayed: ReplayedStates, until: int, d: int, side: str) -> Optional[int]:
     """The goroutine that was parked at a side when the side's deadline last passed before a step. None if, between the
     two, the deadline was set, the descriptor was opened, or the goroutine checked."""
     passed = [n for n in replayed.between(0, until) if (d, side) in passings(replayed, n)]
@@ -149,14 +149,14 @@ def woken(replayed: Replayed, until: int, d: int, side: str) -> Optional[int]:
     return g
 
 
-def looked(replayed: Replayed, n: int, g: int, d: int, side: str) -> bool:
+def looked(replayed: ReplayedStates, n: int, g: int, d: int, side: str) -> bool:
     """Whether goroutine g, in step n, checked a side or consumed the side's readiness."""
     if checked(replayed, n) == (g, d, side):
         return True
     return replayed.step(n)[0] in TAKES_READINESS and replayed.step(n)[1] == g and takes(replayed, n, d, side)
 
 
-def setting(replayed: Replayed, until: int, d: int, side: str) -> str:
+def setting(replayed: ReplayedStates, until: int, d: int, side: str) -> str:
     """The last step that set a side's deadline before this step, and the first later step that set only the other
     side's."""
     other = "w" if side == "r" else "r"
@@ -169,13 +169,13 @@ def setting(replayed: Replayed, until: int, d: int, side: str) -> str:
     return line
 
 
-def last_setting(replayed: Replayed, until: int, d: int, side: str) -> int:
+def last_setting(replayed: ReplayedStates, until: int, d: int, side: str) -> int:
     """The last step before this one that set a side's deadline; 0 if there is none."""
     settings = (n for n in replayed.between(0, until) if is_setting(replayed, n, d))
     return max((n for n in settings if side in replayed.step(n)[3]), default=0)
 
 
-def is_setting(replayed: Replayed, n: int, d: int) -> bool:
+def is_setting(replayed: ReplayedStates, n: int, d: int) -> bool:
     """Whether step n is a `setdeadline` of a descriptor, answered `done`."""
     return replayed.has(n, "setdeadline", "done") and replayed.step(n)[2] == d
 
@@ -183,7 +183,7 @@ def is_setting(replayed: Replayed, n: int, d: int) -> bool:
 # lost wake-ups
 
 
-def lost_wake_ups(replayed: Replayed) -> Iterator[str]:
+def lost_wake_ups(replayed: ReplayedStates) -> Iterator[str]:
     """A line for each goroutine that is parked at the end of the recording, if no try at its side was answered
     `again` after the side's last event."""
     for d, desc in enumerate(replayed.worlds[replayed.end].descs):
@@ -195,7 +195,7 @@ def lost_wake_ups(replayed: Replayed) -> Iterator[str]:
                 yield f"at {replayed.end} {LOST_WAKE_UP} {gor} taken {taken} by {replayed.step(taken)[1]}"
 
 
-def owed(replayed: Replayed, d: int, side: str) -> Optional[int]:
+def owed(replayed: ReplayedStates, d: int, side: str) -> Optional[int]:
     """The last event of a side. None if, after the event, the descriptor was opened or a try at that side was answered
     `again`."""
     events = [n for n in range(1, replayed.end + 1) if is_event(replayed, n, d, side)]
@@ -207,25 +207,25 @@ def owed(replayed: Replayed, d: int, side: str) -> Optional[int]:
     return None if any(replayed.step(n)[2] == socket for n in tries) else events[-1]
 
 
-def is_event(replayed: Replayed, n: int, d: int, side: str) -> bool:
+def is_event(replayed: ReplayedStates, n: int, d: int, side: str) -> bool:
     """Whether step n is an event of a descriptor, answered `done`, whose mode includes the side."""
     step = replayed.step(n)
     return replayed.has(n, "pollevent", "done") and step[1] == d and side in step[3]
 
 
-def last_opening(replayed: Replayed, d: int, until: int) -> int:
+def last_opening(replayed: ReplayedStates, d: int, until: int) -> int:
     """The last `pollopen` before a step that was answered with this descriptor."""
     openings = (n for n in replayed.between(0, until) if replayed.has(n, "pollopen", "number"))
     return max(n for n in openings if replayed.answers[n - 1][1] == d)
 
 
-def last_taking(replayed: Replayed, d: int, side: str, event: int) -> int:
+def last_taking(replayed: ReplayedStates, d: int, side: str, event: int) -> int:
     """The last step that consumed a side's readiness after the given event."""
     taking = (n for n in replayed.between(event, replayed.end + 1) if replayed.step(n)[0] in TAKES_READINESS)
     return max(n for n in taking if takes(replayed, n, d, side))
 
 
-def takes(replayed: Replayed, n: int, d: int, side: str) -> bool:
+def takes(replayed: ReplayedStates, n: int, d: int, side: str) -> bool:
     """Whether the word of a side was ready before step n, and isn't after it."""
     before, after = (replayed.worlds[position].descs[d].words[at(side)] for position in (n - 1, n))
     return before == "ready" and after != "ready"
@@ -234,7 +234,7 @@ def takes(replayed: Replayed, n: int, d: int, side: str) -> bool:
 # goroutines that sleep although a check would end their wait or their socket is ready
 
 
-def asleep(replayed: Replayed) -> Iterator[str]:
+def asleep(replayed: ReplayedStates) -> Iterator[str]:
     """Each goroutine that is parked when the recording ends although its side needn't wait."""
     world = replayed.worlds[replayed.end]
     for d, desc in enumerate(world.descs):
@@ -263,7 +263,7 @@ def reasons_to_answer(world: World, d: int, side: str) -> list[str]:
 # held references
 
 
-def held_references(replayed: Replayed) -> Iterator[str]:
+def held_references(replayed: ReplayedStates) -> Iterator[str]:
     """Each goroutine that still holds references to a closed socket at the end of the recording."""
     world = replayed.worlds[replayed.end]
     for s, socket in enumerate(world.sockets):
@@ -277,7 +277,7 @@ def held_references(replayed: Replayed) -> Iterator[str]:
                     yield f"at {replayed.end} {HELD_REFERENCE} sock {s} gor {g} count {count} since {last}{gone}"
 
 
-def moved(replayed: Replayed, n: int, s: int) -> int:
+def moved(replayed: ReplayedStates, n: int, s: int) -> int:
     """1 if step n took a reference to a socket, -1 if it gave one back, else 0."""
     kind, *arguments = replayed.step(n)
     if kind in TAKES_A_REFERENCE and arguments[1] == s:

@@ -4,7 +4,7 @@ outside the poller, and the objects on which goroutines wait (docs/reference/REC
 from typing import TYPE_CHECKING, Any, Container, Iterator, NamedTuple, Optional, Sequence
 
 if TYPE_CHECKING:
-    from .where import Call
+    from .where import SourceCall
 
 OF_GOROUTINES = frozenset(
     ("goroutines", "parks", "objects", "uses", "timers", "left_out", "channels", "failed_dials", "held")
@@ -34,7 +34,7 @@ class GoGoroutine(NamedTuple):
 
     goid: int
     number: int
-    made: "Optional[Call]"
+    made: "Optional[SourceCall]"
     maker: int
     first: int
     last: int
@@ -79,7 +79,7 @@ class Object(NamedTuple):
     room: int
 
 
-class Use(NamedTuple):
+class ObjectUse(NamedTuple):
     """A goroutine's uses of an object from one stack: their number, and the steps and times of the first and the last
     use. A use of a channel is PUT, TOOK, CLOSED or ENDED; a use of a WaitGroup is ADDED or DONE."""
 
@@ -112,7 +112,7 @@ class Timer(NamedTuple):
         return self.due < 0
 
 
-class Making(NamedTuple):
+class ChannelOrigin(NamedTuple):
     """How a channel was made: by which goroutine, from which stack, after which step and at what time."""
 
     object: int
@@ -136,7 +136,7 @@ class FailedDial(NamedTuple):
     context: int
 
 
-class Held(NamedTuple):
+class HeldMutex(NamedTuple):
     """A mutex that is locked at the end of the recording: the goroutine that locked it, how it is held (READ: for
     reading), the stack that locked it, and the last step before that."""
 
@@ -182,19 +182,19 @@ class AllGoroutines:
         self.goroutines: dict[int, GoGoroutine] = {}
         self.parks: dict[int, list[Park]] = {}  # by goroutine, in the order in which they began
         self.objects: dict[int, Object] = {}
-        self.uses: dict[int, list[Use]] = {}  # by object
+        self.uses: dict[int, list[ObjectUse]] = {}  # by object
         self.timers: dict[int, list[Timer]] = {}  # by channel
         self.left_out: list[LeftOut] = []
-        self.made: dict[int, Making] = {}  # by channel
+        self.made: dict[int, ChannelOrigin] = {}  # by channel
         self.failed_dials: dict[int, list[FailedDial]] = {}  # by goroutine
-        self.held: Optional[dict[int, list[Held]]] = None  # by mutex; None if the recording doesn't have them
+        self.held: Optional[dict[int, list[HeldMutex]]] = None  # by mutex; None if the recording doesn't have them
         self._goids: dict[int, int] = {}  # by the recording's numbers
         self.owners: dict[
             int, list[tuple[int, int]]
         ] = {}  # for a number of the recording: the steps after which goroutines took the number, and their goids
         self._owned: dict[int, int] = {}  # the number that a goroutine has taken, by Go's number
 
-    def add_goroutines(self, line: dict[str, Any], calls: dict[int, "Call"], stacks: Container[int]) -> None:
+    def add_goroutines(self, line: dict[str, Any], calls: dict[int, "SourceCall"], stacks: Container[int]) -> None:
         """Adds a line about all goroutines, or about the objects on which they wait."""
 
         def known(numbers: Sequence[int]) -> Iterator[int]:
@@ -216,7 +216,7 @@ class AllGoroutines:
                 self.objects[made_of.object] = made_of
         elif "uses" in line:
             objects, goids, what, of_stacks, *rest = columns(line["uses"], OF_USE)
-            for use in map(Use._make, zip(objects, goids, what, known(of_stacks), *rest)):
+            for use in map(ObjectUse._make, zip(objects, goids, what, known(of_stacks), *rest)):
                 self.uses.setdefault(use.object, []).append(use)
         elif "timers" in line:
             objects, goids, of_stacks, *rest = columns(line["timers"], OF_TIMER)
@@ -224,7 +224,7 @@ class AllGoroutines:
                 self.timers.setdefault(timer.object, []).append(timer)
         elif "channels" in line:
             objects, goids, of_stacks, *rest = columns(line["channels"], OF_MAKING)
-            self.made.update(zip(objects, map(Making._make, zip(objects, goids, known(of_stacks), *rest))))
+            self.made.update(zip(objects, map(ChannelOrigin._make, zip(objects, goids, known(of_stacks), *rest))))
         elif "failed_dials" in line:
             goids, of_stacks, *rest = columns(line["failed_dials"], OF_FAILED_DIAL)
             for failed in map(FailedDial._make, zip(goids, known(of_stacks), *rest)):
@@ -232,7 +232,7 @@ class AllGoroutines:
         elif "held" in line:
             self.held = {} if self.held is None else self.held
             objects, goids, how, of_stacks, steps = columns(line["held"], OF_HELD)
-            for held in map(Held._make, zip(objects, goids, how, known(of_stacks), steps)):
+            for held in map(HeldMutex._make, zip(objects, goids, how, known(of_stacks), steps)):
                 self.held.setdefault(held.object, []).append(held)
         else:
             reasons, of_stacks, *rest = columns(line["left_out"], OF_LEFT_OUT)

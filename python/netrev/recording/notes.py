@@ -167,7 +167,7 @@ class NoPauses(Pauses):
         self.enough = 2**63
 
 
-class Status(str):
+class GoroutineStatus(str):
     """A status as netrev prints it. For quick access, it has the number and the side of its socket or descriptor, the
     pauses in this status, and the goroutines that sleep in it, in order."""
 
@@ -181,7 +181,7 @@ class Status(str):
     is_acquiring: bool
     is_asleep: bool
 
-    def __new__(cls, text: str, pauses: Pauses) -> "Status":
+    def __new__(cls, text: str, pauses: Pauses) -> "GoroutineStatus":
         status = super().__new__(cls, text)
         place, *rest = text.split(" ")
         status.number, status.side = int(rest[0]) if rest else -1, "".join(rest[1:])
@@ -194,7 +194,7 @@ class Status(str):
         return status
 
 
-class Statuses(dict[str, Status]):
+class Statuses(dict[str, GoroutineStatus]):
     """The statuses that goroutines had, keyed by their texts, and the pauses of each place."""
 
     def __init__(self) -> None:
@@ -202,15 +202,15 @@ class Statuses(dict[str, Status]):
         # an idle goroutine pauses while it holds a reference; the pause is recorded at the goroutine's steps, not when
         # the goroutine leaves the status
         self.pauses: dict[str, Pauses] = {IDLE: Pauses()}
-        self[IDLE] = Status(IDLE, NoPauses())
+        self[IDLE] = GoroutineStatus(IDLE, NoPauses())
 
-    def __missing__(self, text: str) -> Status:
+    def __missing__(self, text: str) -> GoroutineStatus:
         pauses = self.pauses.setdefault(text.partition(" ")[0], Pauses())
-        status = self[text] = Status(text, pauses)
+        status = self[text] = GoroutineStatus(text, pauses)
         return status
 
 
-ABSENT = Status("absent", NoPauses())
+ABSENT = GoroutineStatus("absent", NoPauses())
 
 
 class Goroutine:
@@ -224,6 +224,6 @@ class Goroutine:
         self.number, self.cell, self.status = number, f" gor {number}", ABSENT
         self.since = self.last = self.reset = self.tried = self.held = 0
 
-    def is_made(self, step: int, status: Status) -> None:
+    def is_made(self, step: int, status: GoroutineStatus) -> None:
         self.status = status
         self.since = self.last = step

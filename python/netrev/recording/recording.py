@@ -19,7 +19,7 @@ from netrev.text.vocabulary import KINDS
 
 from .changes import RecordedChanges
 from .suspect_list import SuspectList
-from .where import Lines
+from .where import SourceLines
 
 # any text with a blank line after the first line contains at least one of these
 BEFORE_BLANKS = (b"\n\n", b"\n ", b"\n\t", b"\n\r")
@@ -95,7 +95,7 @@ class Recording:
         blank = {self._starts.line_at(found.start()) for found in blanks}
         self._numbers: Sequence[int] = [number for number in numbers if number not in blank] if blank else numbers
         self.header_line = self._numbers[0] if self._numbers else 1
-        self.lines = Lines()
+        self.lines = SourceLines()
         self.changes: Optional[RecordedChanges] = None  # from netrev, once a caller needs them
         self.suspects: Optional[SuspectList] = None  # the output of `netrev suspects`, for a recording in a file
 
@@ -114,7 +114,7 @@ class Recording:
             with open(path, "rb") as file:
                 check_size(path, os.fstat(file.fileno()).st_size)
                 recording = cls(file.read())
-            recording.lines = Lines.beside(path, recording.length)
+            recording.lines = SourceLines.beside(path, recording.length)
         except MemoryError:
             raise NotARecordingError(too_large(path)) from None
         return recording

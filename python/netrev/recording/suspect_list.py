@@ -63,7 +63,7 @@ class OfDeadline(NamedTuple):
     moved: Optional[By]
 
 
-class Listed:
+class SuspectEntries:
     """The entries of a list of suspects. Lost wake-ups and passed deadlines are in the order of the lines. Sleeping
     goroutines whose read or write could return are keyed by goroutine, descriptor and side. Held references are keyed by
     socket and goroutine, and timeouts by step. Withdrawn deadlines are keyed by step, descriptor and side."""
@@ -128,13 +128,13 @@ class SuspectList:
         except OSError:
             self._lines = []
 
-    def of(self, length: int) -> Optional[Listed]:
+    def of(self, length: int) -> Optional[SuspectEntries]:
         """The list for a recording with this many steps; None if netrev has no such list."""
         if self._lines is None:
             self._lines = self._read()
         *lines, last = self._lines or [""]
         found = LAST.fullmatch(last)
-        return Listed(lines) if found and int(found[1]) == length else None
+        return SuspectEntries(lines) if found and int(found[1]) == length else None
 
     def _read(self) -> list[str]:
         """All lines, after netrev has ended; none if netrev failed."""

@@ -8,7 +8,7 @@ from typing import Iterable, Iterator, NamedTuple, Optional
 
 from .goroutines import A_MUTEX, A_RECEIVER, A_SLEEP, A_WAIT_GROUP, ROOM, STILL, At, Park
 from .recording import Recording
-from .where import Lines, Stack, Wait
+from .where import SourceLines, Stack, RecordedWait
 from .words import duration
 
 MOST_NUMBERS = 8  # the maximum number of goroutines that are listed by number
@@ -50,7 +50,7 @@ class Name(NamedTuple):
         return {"goroutine": None, "goid": self.number} if self.is_goid else {"goroutine": self.number}
 
 
-class Waiting(NamedTuple):
+class ObjectWait(NamedTuple):
     """A wait outside the poller: the steps after which it began and ended (None: it doesn't end), the reason, the
     stack, and the goroutine that ended it, if known. Each of its objects has the operation that the goroutine waits
     for."""
@@ -94,24 +94,24 @@ class Waits:
     """A recording's waits outside the poller, keyed by goroutine. Each list is in the order in which the waits
     began."""
 
-    def __init__(self, waits: Iterable[Waiting]) -> None:
-        self.of: dict[Name, list[Waiting]] = defaultdict(list)
+    def __init__(self, waits: Iterable[ObjectWait]) -> None:
+        self.of: dict[Name, list[ObjectWait]] = defaultdict(list)
         for wait in waits:
             self.of[wait.name].append(wait)
         for some in self.of.values():
             some.sort(key=lambda wait: (wait.first, wait.begin))
 
-    def at(self, name: Name, position: int) -> Optional[Waiting]:
+    def at(self, name: Name, position: int) -> Optional[ObjectWait]:
         """The wait that a goroutine is in at a position."""
         some = self.of.get(name, [])
         last = bisect_right(some, position, key=FIRST) - 1
         return some[last] if last >= 0 and some[last].is_at(position) else None
 
-    def all_at(self, position: int) -> Iterator[Waiting]:
+    def all_at(self, position: int) -> Iterator[ObjectWait]:
         """The waits that are in progress at a position."""
         return (wait for name in self.of if (wait := self.at(name, position)))
 
-    def left(self, position: int) -> Iterator[Waiting]:
+    def left(self, position: int) -> Iterator[ObjectWait]:
         """The waits that were in progress at a position and don't end."""
         return (some[-1] for some in self.of.values() if some[-1].last is None and some[-1].first <= position)
 
@@ -125,23 +125,23 @@ def waits_of(recording: Recording) -> Waits:
     return Waits(of_wait(wait, lines.stacks[wait.stack]) for some in lines.waits.values() for wait in some)
 
 
-def of_wait(wait: Wait, stack: Stack) -> Waiting:
+def of_wait(wait: RecordedWait, stack: Stack) -> ObjectWait:
     """A wait of a goroutine that has steps."""
     by = Name(wait.by) if wait.by >= 0 else None
-    return Waiting(Name(wait.goroutine), wait.first, wait.last or None, wait.reason, stack, by)
+    return ObjectWait(Name(wait.goroutine), wait.first, wait.last or None, wait.reason, stack, by)
 
 
-def of_park(lines: Lines, park: Park) -> Waiting:
+def of_park(lines: SourceLines, park: Park) -> ObjectWait:
     """A wait of any goroutine."""
     by = name_of_goid(lines, park.by, None if park.last == STILL else park.last) if park.by else None
     last = None if park.last == STILL else park.last
     name = name_of_goid(lines, park.goid, park.first)
     known = lines.objects.get(park.objects[0].object) if park.reason == ROOM and park.objects else None
     reason = A_RECEIVER if known and known.room == 0 else park.reason
-    return Waiting(name, park.first, last, reason, lines.stacks[park.stack], by, park.objects, park.begin, park.due)
+    return ObjectWait(name, park.first, last, reason, lines.stacks[park.stack], by, park.objects, park.begin, park.due)
 
 
-def name_of_goid(lines: Lines, goid: int, step: Optional[int] = None) -> Name:
+def name_of_goid(lines: SourceLines, goid: int, step: Optional[int] = None) -> Name:
     """The name of the goroutine with this goid: its number in the recording at the step (by default at the end), or
     else the goid."""
     number = lines.number_of(goid, step)

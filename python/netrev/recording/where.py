@@ -22,7 +22,7 @@ SHOWN = 12  # the maximum number of calls shown from a stack
 FORMS = (1, 2)  # formats of the file; the second has all goroutines
 
 
-class Call(NamedTuple):
+class SourceCall(NamedTuple):
     """A call: its function, file and line, and whether the code is Go's, a library's or the program's."""
 
     function: str
@@ -37,10 +37,10 @@ class Call(NamedTuple):
 class Stack(NamedTuple):
     """The calls at a step, innermost first, and the `go` statement that started the step's goroutine."""
 
-    calls: tuple[Call, ...]
-    made: Optional[Call]
+    calls: tuple[SourceCall, ...]
+    made: Optional[SourceCall]
 
-    def own(self) -> Optional[tuple[Call, str]]:
+    def own(self) -> Optional[tuple[SourceCall, str]]:
         """The innermost call of the program, or else of a library, and the function that it calls."""
         for wanted in ((OF_THE_PROGRAM,), (OF_THE_PROGRAM, OF_A_LIBRARY)):
             inner = ""
@@ -64,7 +64,7 @@ class Stack(NamedTuple):
         return f"{call.place()} {inner or call.function}"
 
 
-class Wait(NamedTuple):
+class RecordedWait(NamedTuple):
     """A goroutine's wait outside the poller: the steps after which it begins and ends (0: it doesn't end in the
     recording), the reason in words (empty if only the stack shows it), the stack, and the goroutine that ended it (-1:
     unknown)."""
@@ -81,7 +81,7 @@ class UnusableFileError(NetrevError):
     """Raised, with the reason, for a NAME.where that can't be used."""
 
 
-class Lines(AllGoroutines):
+class SourceLines(AllGoroutines):
     """The source lines of a recording's steps. If NAME.where can't be used, the reason is kept; a missing file isn't a
     fault."""
 
@@ -93,7 +93,7 @@ class Lines(AllGoroutines):
             self._take(text.splitlines(), steps)
 
     @classmethod
-    def beside(cls, path: str, steps: int) -> "Lines":
+    def beside(cls, path: str, steps: int) -> "SourceLines":
         """The lines from the file beside a recording with this many steps."""
         lines, name = cls(), Path(path).with_suffix(".where")
         try:
@@ -139,10 +139,10 @@ class Lines(AllGoroutines):
         # keyed by step, the number of bytes that a read or a write moved, if the recording counts fewer
         self.sizes: dict[int, int] = {}
         self.errors: dict[int, str] = {}  # the system's errors, keyed by the step after which a call got them
-        self.waits: dict[int, list[Wait]] = {}  # waits outside the poller, keyed by goroutine
+        self.waits: dict[int, list[RecordedWait]] = {}  # waits outside the poller, keyed by goroutine
         # the times of the steps, in nanoseconds from the start of the log; empty if the recorder had none
         self.times = array("q")
-        self._calls: dict[int, Call] = {}
+        self._calls: dict[int, SourceCall] = {}
         self.begin_goroutines()
 
     def _take(self, lines: Iterable[str], steps: int) -> None:
@@ -169,7 +169,7 @@ class Lines(AllGoroutines):
     def _add(self, line: dict[str, Any]) -> None:
         """Adds a line other than the first."""
         if "call" in line:
-            self._calls[line["call"]] = Call(*(typed(line[name], sort) for name, sort in OF_CALL.items()))
+            self._calls[line["call"]] = SourceCall(*(typed(line[name], sort) for name, sort in OF_CALL.items()))
         elif "stack" in line:
             made = self._calls[line["made"]] if "made" in line else None
             self.stacks[line["stack"]] = Stack(tuple(self._calls[number] for number in line["calls"]), made)
@@ -195,7 +195,7 @@ class Lines(AllGoroutines):
             del self.times[-len(line["times"]) - 1]  # (the time from which the sums start)
         elif "waits" in line:
             for values in line["waits"]:
-                wait = Wait(*map(typed, values, (int, int, int, str, int, int)))
+                wait = RecordedWait(*map(typed, values, (int, int, int, str, int, int)))
                 known = wait if wait.stack in self.stacks else wait._replace(stack=0)
                 self.waits.setdefault(wait.goroutine, []).append(known)
         elif not OF_GOROUTINES.isdisjoint(line):

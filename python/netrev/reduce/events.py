@@ -40,7 +40,7 @@ class Rest(NamedTuple):
     holds: int
 
 
-class Use(NamedTuple):
+class DescriptorUse(NamedTuple):
     """A use of a descriptor: its number, the socket for which it is opened, and the step that opened it."""
 
     descriptor: int
@@ -54,7 +54,7 @@ class Events:
     def __init__(self, recording: Recording) -> None:
         self.all: list[Event] = []
         self.rests: list[Rest] = []
-        self.uses: list[Use] = []
+        self.uses: list[DescriptorUse] = []
         self._of: dict[int, int] = {}  # the last use of each descriptor
         self._firings: list[Timer] = []
         notes = Notes(recording, {kind: partial(self._rests, kind) for kind in KINDS})
@@ -100,5 +100,5 @@ class Events:
             behind = int(notes.changes.value(f"fdseq {arguments[0]}", number)) - arguments[1]
         elif kind == "pollopen":
             self._of[parts[1]] = len(self.uses)
-            self.uses.append(Use(parts[1], arguments[1], number))
+            self.uses.append(DescriptorUse(parts[1], arguments[1], number))
         return Event(number, kind, tuple(named), parts, timer, behind)

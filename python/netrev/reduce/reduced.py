@@ -13,10 +13,10 @@ from netrev.text.contents import Limits
 from netrev.text.vocabulary import cell_of, number_of
 
 from .events import Events
-from .replay import Player
+from .replay import ReplayPlayer
 from .shrinking import NotReproducedError, Shrinking
-from .targets import CellTarget, HangTarget, StepsTarget, SuspectTarget, Target
-from .units import Sort, units_of
+from .targets import CellTarget, HangTarget, StepsTarget, SuspectTarget, ReductionTarget
+from .units import UnitKind, units_of
 from .writing import answered_by, taken, write_recording
 
 
@@ -38,13 +38,13 @@ class Reduced(NamedTuple):
 
     path: str
     numbers: list[int]
-    left_out: Counter[Sort]
+    left_out: Counter[UnitKind]
     is_done: bool
 
     def words(self, steps: int) -> str:
         """The size of the result, and what the reduction removed, as text."""
         parts = [
-            f"{self.left_out[sort]} {sort.value[self.left_out[sort] != 1]}" for sort in Sort if self.left_out[sort]
+            f"{self.left_out[sort]} {sort.value[self.left_out[sort] != 1]}" for sort in UnitKind if self.left_out[sort]
         ]
         left = f"left out {', '.join(parts)}" if parts else "nothing could be left out"
         more = "" if self.is_done else "; stopped early, so reduce what is left once more"
@@ -74,7 +74,7 @@ def reduced_of(reducing: Reducing, path: str, wanted: Wanted) -> Reduced:
     events = Events(answered)
     units = units_of(events)
     limits = Limits(*(answered.limits[key] for key in Limits._fields))
-    player = Player(events, units, limits, check)
+    player = ReplayPlayer(events, units, limits, check)
     shrinking = Shrinking(player, events, units, _target(events, answered, wanted))
     try:
         kept = shrinking.run()
@@ -95,7 +95,7 @@ def answered_recording(program: str, recording: Recording, until: int) -> Record
     return Recording(b"".join(text.splitlines(keepends=True)[: until + 1]))
 
 
-def _target(events: Events, recording: Recording, wanted: Wanted) -> Target:
+def _target(events: Events, recording: Recording, wanted: Wanted) -> ReductionTarget:
     if wanted.hangs >= 0:
         return HangTarget(events, wanted.hangs, wanted.behind, wanted.until)
     if wanted.behind:

@@ -10,7 +10,7 @@ from netrev.text.contents import Answer, Limits
 from netrev.text.vocabulary import KINDS
 
 from .events import NUMBERED, Event, Events, Timer
-from .units import Needs, Unit
+from .units import Dependencies, Unit
 
 MADE = {"spawn": "g", "sockopen": "s", "pollopen": "d"}
 COPIES = 2_000  # the maximum number of copies of the world that are kept for going back
@@ -19,13 +19,13 @@ DONE = ("done",)
 Step = tuple[Any, ...]
 
 
-class Player:
+class ReplayPlayer:
     """The Python model of the machine after some of the events. The player keeps the last replay, so that the next
     replay can continue after their common beginning."""
 
     def __init__(self, events: Events, units: list[Unit], limits: Limits, check: Callable[[], None]) -> None:
         self.events, self.units, self.limits, self.check = events, units, limits, check
-        self.needs = Needs(events, units)
+        self.needs = Dependencies(events, units)
         self.owner = {place: at for at, unit in enumerate(units) for place in unit.events}
         self.played = 0  # the number of all steps replayed so far
         self.chosen: list[int] = []  # the events that were replayed

@@ -7,9 +7,9 @@ from typing import Iterable, Iterator, Optional
 from netrev.errors import NetrevError
 
 from .events import Events
-from .replay import Player
-from .targets import Target
-from .units import Sort, Unit
+from .replay import ReplayPlayer
+from .targets import ReductionTarget
+from .units import UnitKind, Unit
 
 WINDOWS = (64, 512, 4_096)  # how many steps around the target are kept at first, smallest window first
 MOST_PLAYED = 600_000  # after this number of replayed steps, the best result so far is used
@@ -22,7 +22,7 @@ class NotReproducedError(NetrevError):
 class Shrinking:
     """The units that remain."""
 
-    def __init__(self, player: Player, events: Events, units: list[Unit], target: Target) -> None:
+    def __init__(self, player: ReplayPlayer, events: Events, units: list[Unit], target: ReductionTarget) -> None:
         self.player, self.events, self.units, self.target = player, events, units, target
         self.kept: set[int] = set()
         self._budget = MOST_PLAYED
@@ -42,7 +42,7 @@ class Shrinking:
             raise NotReproducedError
         self._budget += self.player.played
         self._thin(self._idle_ticks())
-        for sort in (Sort.GOROUTINE, Sort.SOCKET):
+        for sort in (UnitKind.GOROUTINE, UnitKind.SOCKET):
             self._thin(unit for unit in self.kept if self.units[unit].sort is sort)
         while self._thin(self.kept):
             pass
@@ -75,7 +75,7 @@ class Shrinking:
         found, is_needed = [], False
         for unit in sorted(self.kept, key=lambda unit: self.units[unit].events[0], reverse=True):
             kinds = {self.events.all[place].kind for place in self.units[unit].events}
-            if self.units[unit].sort is Sort.TICK:
+            if self.units[unit].sort is UnitKind.TICK:
                 if not is_needed:
                     found.append(unit)
                 is_needed = False

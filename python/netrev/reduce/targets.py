@@ -13,12 +13,12 @@ from netrev.run.changes import PlayedSteps
 from netrev.text.vocabulary import CELLS, Of
 
 from .events import Events
-from .replay import Player
+from .replay import ReplayPlayer
 
 LETTER = {Of.GOROUTINE: "g", Of.SOCKET: "s", Of.DESCRIPTOR: "d"}
 
 
-class Target(ABC):
+class ReductionTarget(ABC):
     """A target: what a reduced recording must show, with its goroutine, socket and use, and the steps at which it
     happens."""
 
@@ -28,11 +28,11 @@ class Target(ABC):
     steps: list[int]
 
     @abstractmethod
-    def shows(self, player: Player) -> bool:
+    def shows(self, player: ReplayPlayer) -> bool:
         """Whether the player's state shows the target."""
 
 
-class SuspectTarget(Target):
+class SuspectTarget(ReductionTarget):
     """A suspect. The same rule must find it for the same objects, with no less weight and no lower rank."""
 
     def __init__(self, events: Events, suspect: Suspect, rank: int) -> None:
@@ -41,7 +41,7 @@ class SuspectTarget(Target):
         self.use = None if suspect.descriptor is None else events.use_at(suspect.descriptor, suspect.step)
         self.steps = [suspect.step, *suspect.steps]
 
-    def shows(self, player: Player) -> bool:
+    def shows(self, player: ReplayPlayer) -> bool:
         ranked = suspects_of(PlayedSteps(step for step, _ in player.steps))
         found = [suspect for suspect in ranked.suspects[: self.rank] if suspect.is_shown]
         named = (("g", self.goroutine), ("s", self.socket), ("d", self.use))
@@ -54,7 +54,7 @@ class SuspectTarget(Target):
         )
 
 
-class CellTarget(Target):
+class CellTarget(ReductionTarget):
     """A cell that has a value after the last remaining step. Numbers in the value are the recording's."""
 
     def __init__(self, events: Events, cell: str, wanted: str, position: int) -> None:
@@ -71,7 +71,7 @@ class CellTarget(Target):
             self.socket = self.which if self.of is Of.SOCKET else None
         self._descriptors = {use: descriptor_use.descriptor for use, descriptor_use in enumerate(events.uses)}
 
-    def shows(self, player: Player) -> bool:
+    def shows(self, player: ReplayPlayer) -> bool:
         number = None
         if self.which is None and self.of is not Of.ALL:  # the recording has no such use of a descriptor
             return False
@@ -82,7 +82,7 @@ class CellTarget(Target):
         value = self._with_recorded_numbers(player, str(value_of_cell(player.world, self.name, number)))
         return fnmatchcase(value, self.wanted) or fnmatchcase(in_words(self.name, value), self.wanted)
 
-    def _with_recorded_numbers(self, player: Player, value: str) -> str:
+    def _with_recorded_numbers(self, player: ReplayPlayer, value: str) -> str:
         """A value with the recording's numbers."""
         if self.name in ("rg", "wg") and value.startswith("g"):
             return f"g{_back(player.numbers['g'], int(value[1:]))}"
@@ -107,14 +107,14 @@ class HangTarget(CellTarget):
         sockets = (events.socket_of(events.all[number - 1]) for number in steps)
         self.socket = next((socket for socket in sockets if socket is not None), None)
 
-    def shows(self, player: Player) -> bool:
+    def shows(self, player: ReplayPlayer) -> bool:
         if not self.stays.issubset(player.chosen) or not super().shows(player):
             return False
         status = player.world.goroutines[player.numbers["g"][self.which or 0]]
         return not player.world.descs[status[1]].deadlines["rw".index(status[2])]
 
 
-class StepsTarget(Target):
+class StepsTarget(ReductionTarget):
     """Steps that must remain with their answers: a call that fails, and its cause."""
 
     def __init__(self, events: Events, steps: Sequence[int]) -> None:
@@ -122,7 +122,7 @@ class StepsTarget(Target):
         self.stays = {number - 1 for number in steps}
         self.socket = events.socket_of(events.all[steps[-1] - 1])
 
-    def shows(self, player: Player) -> bool:
+    def shows(self, player: ReplayPlayer) -> bool:
         return self.stays.issubset(player.chosen)
 
 

@@ -12,7 +12,7 @@ from .events import Event, Events
 SIDE_OF = {"arrive": "r", "peerclose": "r", "drain": "w"}
 
 
-class Sort(Enum):
+class UnitKind(Enum):
     """The kinds of units, each with its name in singular and plural."""
 
     CALL = "call", "calls"
@@ -26,7 +26,7 @@ class Sort(Enum):
 class Unit(NamedTuple):
     """Events that belong together: their indices in the list of all events, in ascending order."""
 
-    sort: Sort
+    sort: UnitKind
     events: list[int]
 
 
@@ -48,7 +48,7 @@ def _calls(events: Events) -> list[Unit]:
             continue
         g = event.arguments[0]
         if has_ended.get(g, True) and not _frees(events, calls.get(g), event):
-            calls.setdefault(g, []).append(Unit(Sort.CALL, []))
+            calls.setdefault(g, []).append(Unit(UnitKind.CALL, []))
         calls[g][-1].events.append(place)
         if event.number in events.kept_for_ever:
             kept[g] = kept.get(g, 0) + 1
@@ -72,21 +72,21 @@ def _others(events: Events) -> list[Unit]:
         elif event.kind == "pollevent":
             socket = events.uses[event.arguments[0]].socket
             before = [arrival for side in event.arguments[2] for arrival in arrivals.pop((socket, side), ())]
-            units.append(Unit(Sort.NETWORK, sorted((*before, place))))
+            units.append(Unit(UnitKind.NETWORK, sorted((*before, place))))
         elif event.kind == "pop":
             assert event.timer
-            units.append(Unit(Sort.TIMER, [place]))
+            units.append(Unit(UnitKind.TIMER, [place]))
             firings.append(units[-1])
         elif event.kind == "fire":
             assert event.timer
             firings.pop(event.arguments[0]).events.append(place)
         elif event.kind not in OF_A_GOROUTINE:
-            sort = {"spawn": Sort.GOROUTINE, "sockopen": Sort.SOCKET}.get(event.kind, Sort.TICK)
+            sort = {"spawn": UnitKind.GOROUTINE, "sockopen": UnitKind.SOCKET}.get(event.kind, UnitKind.TICK)
             units.append(Unit(sort, [place]))
-    return units + [Unit(Sort.NETWORK, [place]) for places in arrivals.values() for place in places]
+    return units + [Unit(UnitKind.NETWORK, [place]) for places in arrivals.values() for place in places]
 
 
-class Needs:
+class Dependencies:
     """The dependencies of units: a unit that names an object depends on the unit that makes it."""
 
     def __init__(self, events: Events, units: list[Unit]) -> None:

@@ -9,14 +9,14 @@ from typing import Any, Sequence
 
 from netrev.machine.machine import World
 from netrev.messages import searches as messages
-from netrev.recording.where import Call, Lines, Stack
+from netrev.recording.where import SourceCall, SourceLines, Stack
 from netrev.session.files import spare, written
 from netrev.session.session import UsageError
 from netrev.text.contents import Answer, Limits, Step
 from netrev.text.files import forget_where
 from netrev.text.writing import line_of
 
-from .replay import Player
+from .replay import ReplayPlayer
 
 
 def answered_by(program: str, command: str, data: bytes) -> tuple[int, bytes]:
@@ -31,7 +31,7 @@ def answered_by(program: str, command: str, data: bytes) -> tuple[int, bytes]:
         os.unlink(path)
 
 
-def taken(program: str, player: Player, has_answers: bool) -> bytes:
+def taken(program: str, player: ReplayPlayer, has_answers: bool) -> bytes:
     """The text of the replayed steps, in the form that netrev accepts. If the recording has answers, the text has
     netrev's own answers."""
     text = text_of(player.world, player.limits.buf, player.steps, has_answers)
@@ -57,9 +57,9 @@ def _needs_answers(steps: Sequence[tuple[Step, Answer]]) -> bool:
     return any(step[0] == "closewrite" for step, _ in steps)
 
 
-def where_text(lines: Lines, numbers: Sequence[int]) -> str:
+def where_text(lines: SourceLines, numbers: Sequence[int]) -> str:
     """NAME.where for these steps, which are renumbered from 1."""
-    calls: dict[Call, int] = {}
+    calls: dict[SourceCall, int] = {}
     stacks: dict[Stack, int] = {}
     rows: list[dict[str, Any]] = [{"where": 1, "steps": len(numbers)}]
     of_steps = []
@@ -84,7 +84,7 @@ def where_text(lines: Lines, numbers: Sequence[int]) -> str:
     return "".join(f"{json.dumps(row, separators=(',', ':'))}\n" for row in rows)
 
 
-def write_recording(path: str, of: str, data: bytes, lines: Lines, numbers: Sequence[int]) -> None:
+def write_recording(path: str, of: str, data: bytes, lines: SourceLines, numbers: Sequence[int]) -> None:
     """Writes these steps of the recording `of` as a recording, with its NAME.where. An existing NAME.where is removed,
     because it belongs to another recording."""
     beside = Path(path).with_suffix(".where")

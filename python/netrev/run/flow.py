@@ -9,7 +9,7 @@ from netrev.text.contents import Answer, Step
 from netrev.text.vocabulary import KINDS
 
 
-class Sort(Enum):
+class OperationType(Enum):
     """The type of an operation, named by the kind of its first step. A read, a write and a wait repeat until they are
     done."""
 
@@ -31,10 +31,13 @@ class Sort(Enum):
     EXIT = "exit"
 
 
-SORTS = {sort.value: sort for sort in Sort}  # by the kind of the first step
-ENDS = {Sort.UNLOCK: (Sort.LOCK,), Sort.GIVE_UP: (Sort.REFER, Sort.CLOSE)}  # for each key, the operations that it ends
+SORTS = {sort.value: sort for sort in OperationType}  # by the kind of the first step
+ENDS = {
+    OperationType.UNLOCK: (OperationType.LOCK,),
+    OperationType.GIVE_UP: (OperationType.REFER, OperationType.CLOSE),
+}  # for each key, the operations that it ends
 # the operations between the first and the last of a call; they are skipped if an earlier operation failed
-TRIES = (Sort.RESET, Sort.WAIT, Sort.READ, Sort.WRITE)
+TRIES = (OperationType.RESET, OperationType.WAIT, OperationType.READ, OperationType.WRITE)
 
 # the step that a goroutine with this status makes, whatever its operation; a sleeping goroutine makes no step
 BY_STATUS = {
@@ -58,12 +61,12 @@ class Names(NamedTuple):
     side: bool
 
 
-def _names(sort: Sort) -> Names:
+def _names(sort: OperationType) -> Names:
     forms = KINDS[sort.value].arguments
     return Names("g" in forms, next((form for form in forms if form in "sd"), ""), "side" in forms or "mode" in forms)
 
 
-NAMES = {sort: _names(sort) for sort in Sort}
+NAMES = {sort: _names(sort) for sort in OperationType}
 
 
 def step_by_status(g: int, status: Status) -> Optional[Step]:
@@ -74,7 +77,7 @@ def step_by_status(g: int, status: Status) -> Optional[Step]:
     return (kind, g, *status[1:]) if kind in SORTS else (kind, g)
 
 
-def first_step(sort: Sort, g: int, which: int, side: str, values: tuple[Any, ...]) -> Step:
+def first_step(sort: OperationType, g: int, which: int, side: str, values: tuple[Any, ...]) -> Step:
     """The step with which an operation begins or tries again; if the operation names a socket or a descriptor, the step
     is at that object."""
     names = NAMES[sort]
@@ -82,7 +85,7 @@ def first_step(sort: Sort, g: int, which: int, side: str, values: tuple[Any, ...
     return sort.value, *named, *values
 
 
-class Came(Enum):
+class Consequence(Enum):
     """The consequence of an answer."""
 
     # the operation, or a part of it, is over; it continues if something is left to read, write or release
@@ -94,29 +97,29 @@ class Came(Enum):
 
 
 LAST = ("last",)  # the goroutine gave up the last reference to the closed descriptor and must destroy it
-CODES = {"code 0": Came.OVER, "code": Came.FAILS}
-STAYS = {"yes": Came.STAYS, "no": Came.STAYS, "wait": Came.STAYS}
+CODES = {"code 0": Consequence.OVER, "code": Consequence.FAILS}
+STAYS = {"yes": Consequence.STAYS, "no": Consequence.STAYS, "wait": Consequence.STAYS}
 # the consequence, by the kind of a step and its answer (`code` is any code but 0), if the operation isn't over
 ANSWERS = {
-    "incref": {"no": Came.FAILS},
-    "increfclose": {"no": Came.FAILS},
-    "rwlock": {"no": Came.FAILS, "wait": Came.STAYS},
+    "incref": {"no": Consequence.FAILS},
+    "increfclose": {"no": Consequence.FAILS},
+    "rwlock": {"no": Consequence.FAILS, "wait": Consequence.STAYS},
     "acquire": STAYS,
     "pollreset": CODES,
-    "waitbegin": CODES | {"code 0": Came.WAITS},
-    "blockarm": STAYS | {"code 0": Came.READY},
-    "blockcheck": {"code 0": Came.STAYS, "code": Came.STAYS},
+    "waitbegin": CODES | {"code 0": Consequence.WAITS},
+    "blockarm": STAYS | {"code 0": Consequence.READY},
+    "blockcheck": {"code 0": Consequence.STAYS, "code": Consequence.STAYS},
     "parkcommit": STAYS,
-    "blockswap": STAYS | {"yes": Came.READY},
-    "waitcheck": CODES | {"code 0": Came.STAYS},
-    "sysread": {"again": Came.WAITS, "eof": Came.FAILS},
-    "syswrite": {"again": Came.WAITS, "pipe": Came.FAILS},
+    "blockswap": STAYS | {"yes": Consequence.READY},
+    "waitcheck": CODES | {"code 0": Consequence.STAYS},
+    "sysread": {"again": Consequence.WAITS, "eof": Consequence.FAILS},
+    "syswrite": {"again": Consequence.WAITS, "pipe": Consequence.FAILS},
 }
 
 
-def came(kind: str, answer: Answer) -> Came:
+def came(kind: str, answer: Answer) -> Consequence:
     """The consequence of an answer to a step of this kind."""
     row = ANSWERS.get(kind)
     if row is None:
-        return Came.OVER
-    return row.get("code 0" if answer == ("code", 0) else answer[0], Came.OVER)
+        return Consequence.OVER
+    return row.get("code 0" if answer == ("code", 0) else answer[0], Consequence.OVER)

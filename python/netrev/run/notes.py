@@ -32,7 +32,7 @@ from netrev.recording.notes import (
     Hold,
     Passing,
     Setting,
-    Status,
+    GoroutineStatus,
     Statuses,
     Taking,
     Timeout,
@@ -89,7 +89,7 @@ def released(notes: Notes, g: int) -> Note:
     return note
 
 
-def wake(notes: Notes, status: Status, step: int, number: str) -> None:
+def wake(notes: Notes, status: GoroutineStatus, step: int, number: str) -> None:
     """Notes that the first of the goroutines that sleep in a status may have been woken."""
     for goroutine in status.sleepers:
         if shown := notes.values.get(number + goroutine.cell):

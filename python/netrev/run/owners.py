@@ -17,7 +17,7 @@ OF_A_SOCKET, OF_A_DESCRIPTOR, AS_BEFORE, OF_NONE, OTHER = range(5)
 OTHERS = ("sockopen", "pollopen", "pollclose", "pollevent", "pop", "fire")
 
 
-class Row(NamedTuple):
+class StepRow(NamedTuple):
     """What a step's line says: how to find the step's socket and descriptor, its goroutine, the socket or descriptor
     that it names, and its kind and arguments."""
 
@@ -28,7 +28,7 @@ class Row(NamedTuple):
     arguments: list[Any]
 
 
-def row_of(values: list[Any]) -> Row:
+def row_of(values: list[Any]) -> StepRow:
     """What a step's array says about the step."""
     kind, *arguments = values
     named = dict(zip(KINDS[kind].arguments, arguments))
@@ -41,7 +41,7 @@ def row_of(values: list[Any]) -> Row:
         how = OF_A_DESCRIPTOR
     elif kind in ("exit", "spawn", "tick"):
         how = OF_NONE
-    return Row(how, named.get("g", NONE), named.get("s", named.get("d", NONE)), kind, arguments)
+    return StepRow(how, named.get("g", NONE), named.get("s", named.get("d", NONE)), kind, arguments)
 
 
 class Whose:

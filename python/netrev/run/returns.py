@@ -4,7 +4,7 @@ NAME.where."""
 from typing import Optional
 
 from netrev.recording.recording import Recording
-from netrev.recording.where import Call, Stack
+from netrev.recording.where import SourceCall, Stack
 
 from .calls import book_of
 
@@ -35,13 +35,13 @@ def stack_at(recording: Recording, goroutine: int, position: int) -> Stack:
     return recording.lines.of(last) if last else Stack((), None)
 
 
-def frames_from_own(stack: Stack) -> tuple[Call, ...]:
+def frames_from_own(stack: Stack) -> tuple[SourceCall, ...]:
     """The calls of a stack, beginning with the program's innermost call."""
     found = stack.own()
     return stack.calls[stack.calls.index(found[0]) :] if found else ()
 
 
-def is_within(stack: Stack, frames: tuple[Call, ...]) -> bool:
+def is_within(stack: Stack, frames: tuple[SourceCall, ...]) -> bool:
     """Whether a goroutine with this stack is still in the function of `frames[0]`, called by the same callers. It may be in
     a call that this function made."""
     outer = stack.calls[len(stack.calls) - len(frames) :] if len(stack.calls) >= len(frames) else ()

@@ -5,7 +5,7 @@ from functools import lru_cache
 from typing import Any, Mapping, NamedTuple, Optional
 
 from netrev.connection.output import Row, Table
-from netrev.machine.deadlines import Deadlines, Timer as Armed
+from netrev.machine.deadlines import Deadlines, DeadlineTimer as Armed
 from netrev.machine.polling import deadline_of
 from netrev.recording.recording import Recording, Step
 from netrev.recording.words import SIDES
@@ -14,7 +14,7 @@ from netrev.recording.words import SIDES
 FOLLOWED = frozenset(("pollopen", "pollclose", "setdeadline", "evict", "tick", "pop", "fire"))
 
 
-class Timer(NamedTuple):
+class StepTimer(NamedTuple):
     """A timer of a `pop` or a `fire`: its sides, its descriptor, the descriptor's socket when the deadline was set,
     the due time, and the step that set the deadline. A stale timer was stopped or moved before its function ran."""
 
@@ -41,7 +41,7 @@ class Following:
         self._free: list[int] = []  # free descriptors, with the one freed last at the end
         self._sockets: dict[int, int] = {}  # the socket of each descriptor
 
-    def follow(self, number: int, kind: str, *arguments: Any) -> Optional[Timer]:
+    def follow(self, number: int, kind: str, *arguments: Any) -> Optional[StepTimer]:
         """Processes a step, and returns the timer that it pops or runs."""
         deadlines = self._deadlines
         match kind, *arguments:
@@ -64,15 +64,15 @@ class Following:
         return None
 
 
-def _timer(armed: Optional[Armed], is_stale: bool) -> Timer:
+def _timer(armed: Optional[Armed], is_stale: bool) -> StepTimer:
     """A timer of the machine, in the form that is printed."""
     assert armed  # (netrev has popped one)
     socket, step, g = armed.setter
-    return Timer(armed.covers, armed.descriptor, socket, armed.due, step, g, is_stale)
+    return StepTimer(armed.covers, armed.descriptor, socket, armed.due, step, g, is_stale)
 
 
 @lru_cache(maxsize=2)
-def timers_of(recording: Recording) -> Mapping[int, Timer]:
+def timers_of(recording: Recording) -> Mapping[int, StepTimer]:
     """The timer of each `pop` and each `fire`, by the step's number."""
     following, end = Following(), -1 if recording.has_answers else None
     rows = recording.rows(lambda values: tuple(values[:end]) if values[0] in FOLLOWED else None)
@@ -80,7 +80,7 @@ def timers_of(recording: Recording) -> Mapping[int, Timer]:
     return {number: timer for number, timer in timers if timer}
 
 
-def timer_of(recording: Recording, step: Optional[Step]) -> Optional[Timer]:
+def timer_of(recording: Recording, step: Optional[Step]) -> Optional[StepTimer]:
     """The timer of a step; None if the step has none."""
     return timers_of(recording)[step.number] if step and step.kind in ("pop", "fire") else None
 

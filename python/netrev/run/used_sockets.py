@@ -9,7 +9,7 @@ from .notes import Notes
 from .owners import AS_BEFORE, NONE, OF_A_DESCRIPTOR, OF_A_SOCKET, Place, row_of
 
 
-class Touched(Counter[Place]):
+class UsedSockets(Counter[Place]):
     """For each goroutine and socket, the number of steps from `first` to `last` that the goroutine made on the
     socket."""
 

@@ -104,7 +104,7 @@ COMMANDS = {**OF_NETREV, **OF_NRDB}
 
 
 @dataclass(frozen=True)
-class Topic:
+class InfoTopic:
     """A topic of `info`: the program that answers it, its usage and what it shows."""
 
     origin: Origin
@@ -115,30 +115,32 @@ class Topic:
 TOPICS = {
     topic.usage.split()[0]: topic
     for topic in (
-        Topic(Origin.NETREV, "position", "the session's position"),
-        Topic(Origin.NETREV, "breakpoints", "the marks"),
-        Topic(Origin.NETREV, "checkpoints", "the checkpoints"),
-        Topic(Origin.NRDB, "goroutines [all|G]", "what each goroutine does, without those that are idle or have ended"),
-        Topic(Origin.NRDB, "sockets [all|S]", "the sockets whose lock word, queues or input aren't at rest"),
-        Topic(Origin.NRDB, "descriptors [all|D]", "the open descriptors: socket, words and deadlines"),
-        Topic(Origin.NRDB, "timers", "the clock, and the coming deadlines"),
-        Topic(
+        InfoTopic(Origin.NETREV, "position", "the session's position"),
+        InfoTopic(Origin.NETREV, "breakpoints", "the marks"),
+        InfoTopic(Origin.NETREV, "checkpoints", "the checkpoints"),
+        InfoTopic(
+            Origin.NRDB, "goroutines [all|G]", "what each goroutine does, without those that are idle or have ended"
+        ),
+        InfoTopic(Origin.NRDB, "sockets [all|S]", "the sockets whose lock word, queues or input aren't at rest"),
+        InfoTopic(Origin.NRDB, "descriptors [all|D]", "the open descriptors: socket, words and deadlines"),
+        InfoTopic(Origin.NRDB, "timers", "the clock, and the coming deadlines"),
+        InfoTopic(
             Origin.NRDB,
             "errors [N|all]",
             "the failed calls, each with its cause: which call set the deadline, or closed the socket",
         ),
-        Topic(
+        InfoTopic(
             Origin.NRDB,
             "hangs",
             "the calls that don't end in the recording, and which goroutines could have woken them",
         ),
-        Topic(
+        InfoTopic(
             Origin.NRDB,
             "requests",
             "the requests of net/http's client in the whole recording: line, connection, and what ended each",
         ),
-        Topic(Origin.NRDB, "suspects", "suspected bugs in the whole recording, found by rules, the worst first"),
-        Topic(Origin.NRDB, "holders S", "which goroutines hold references of socket S, and since which step"),
+        InfoTopic(Origin.NRDB, "suspects", "suspected bugs in the whole recording, found by rules, the worst first"),
+        InfoTopic(Origin.NRDB, "holders S", "which goroutines hold references of socket S, and since which step"),
     )
 }
 # The forms of netrev's commands that nrdb answers itself.

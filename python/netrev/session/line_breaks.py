@@ -8,7 +8,7 @@ from typing import Callable, Optional
 
 from netrev.recording.recording import Recording
 
-from .line_index import Place, is_place
+from .line_index import ProgramPlace, is_place
 
 LETTER = "p"  # the prefix of the breaks' numbers; netrev's numbers have no prefix
 NUMBER = re.compile(rf"{LETTER}\d+")
@@ -19,7 +19,7 @@ class Break:
     """A break: its number, its place, and whether it is temporary, so that its first stop deletes it."""
 
     number: str
-    place: Place
+    place: ProgramPlace
     is_temporary: bool
 
     def words(self) -> str:
@@ -38,7 +38,7 @@ class Breaks:
         [str, int], bool
     ] = lambda number, position: True  # whether a break's condition holds at a position
 
-    def add(self, place: Place, is_temporary: bool) -> Break:
+    def add(self, place: ProgramPlace, is_temporary: bool) -> Break:
         self.given += 1
         mark = Break(f"{LETTER}{self.given}", place, is_temporary)
         self.standing[mark.number] = mark
@@ -79,7 +79,7 @@ def names_a_place(recording: Optional[Recording], words: list[str]) -> bool:
     return name == "delete" and (not rest or (len(rest) == 1 and NUMBER.fullmatch(rest[0]) is not None))
 
 
-def beyond(place: Place, position: int, forwards: bool) -> Optional[int]:
+def beyond(place: ProgramPlace, position: int, forwards: bool) -> Optional[int]:
     """The nearest later (or, backwards, earlier) position at which a goroutine reaches a place."""
     rows = place.positions
     at = bisect_right(rows, position) if forwards else bisect_left(rows, position) - 1

@@ -6,7 +6,7 @@ from typing import Callable, Hashable, Iterable, NamedTuple, Optional, Sequence,
 
 from netrev.messages import session as messages
 from netrev.recording.recording import Recording
-from netrev.recording.where import Call, Stack
+from netrev.recording.where import SourceCall, Stack
 from netrev.run.calls import book_of
 from netrev.text.vocabulary import KINDS, cell_of
 
@@ -16,7 +16,7 @@ POINTER = re.compile(r"\(\*([^()]*)\)")  # a pointer receiver
 MOST_NEAR = 5  # if the requested line has no step, the answer names at most this many other lines
 
 
-class Place(NamedTuple):
+class ProgramPlace(NamedTuple):
     """A line or a function as it was typed, and the positions before the steps at which a goroutine reaches it, in
     ascending order."""
 
@@ -33,11 +33,11 @@ class Places:
         self._makers = book.whose.goroutines
         self._begins = {call.first for call in book.calls}
 
-    def place(self, spelled: str) -> Optional[Place]:
+    def place(self, spelled: str) -> Optional[ProgramPlace]:
         """The place that a word names; None if no recorded step comes from that place."""
         found = OF_A_LINE.fullmatch(spelled)
         positions = self._of_line(found[1], int(found[2])) if found else self._of_function(spelled)
-        return Place(spelled, positions) if positions else None
+        return ProgramPlace(spelled, positions) if positions else None
 
     def lines_of(self, is_meant: Callable[[str], bool]) -> dict[int, list[int]]:
         """For each line of the matching files, the positions at which a goroutine reaches it."""
@@ -102,7 +102,7 @@ def is_file(known: str, spelled: str) -> bool:
     return known == spelled or known.endswith(f"/{spelled.removeprefix('./')}")
 
 
-def is_function(call: Call, name: str) -> bool:
+def is_function(call: SourceCall, name: str) -> bool:
     """Whether a call calls the function with this name. The name may lack the package or the package's path.
     `hub.broadcast` also matches `(*hub).broadcast`."""
     return any(

@@ -6,14 +6,14 @@ from typing import Callable, Mapping, Optional, Sequence
 from netrev.connection.beginnings import tell_begin
 from netrev.connection.errors import MismatchedRecordingError, UsageError, needed, unexpected
 from netrev.connection.netrev import NetrevEndedError, Joined, Netrev, Reply
-from netrev.connection.output import Place, Printer, displays_table
+from netrev.connection.output import SessionPosition, Printer, displays_table
 from netrev.connection.scout import ScoutUnavailableError, Scout
 from netrev.connection.shapes import (
     MARK,
     MOVED,
     POSITION,
     VALUE,
-    Listed,
+    ListedMark,
     Position,
     LineRefusedError,
     StrangeReplyError,
@@ -22,7 +22,7 @@ from netrev.connection.shapes import (
     move_of,
     position_of,
 )
-from netrev.connection.world import World
+from netrev.connection.world import PositionValues
 from netrev.messages import session as messages
 from netrev.recording.changes import RecordedChanges
 from netrev.recording.recording import NotARecordingError, Recording
@@ -92,16 +92,16 @@ class Session:
         """The position, the number of steps and the direction."""
         return position_of(self.ask("info position"))
 
-    def place(self, position: int) -> Place:
+    def place(self, position: int) -> SessionPosition:
         """The position, with the steps before and after it."""
         if self.recording is None:
-            return Place(position, self.length, None, None)
+            return SessionPosition(position, self.length, None, None)
         last, then = (self.recording.step_or_none(number) for number in (position, position + 1))
-        return Place(position, self.length, last, then)
+        return SessionPosition(position, self.length, last, then)
 
-    def world(self) -> World:
+    def world(self) -> PositionValues:
         """The objects at the position."""
-        return World(self.netrev, self.text(), self.stands().position)
+        return PositionValues(self.netrev, self.text(), self.stands().position)
 
     def text(self) -> Recording:
         """The recording; raises UsageError if a session was joined without a recording."""
@@ -260,7 +260,7 @@ class Session:
             return absent_words(cell, self.recording.limits if self.recording else {})
         return dump_words(cell, value) if is_dump else in_words(cell, value) if cell_of(cell.split()) else ""
 
-    def arrive(self, position: int, numbers: Sequence[str] = (), stood: Sequence[Listed] = ()) -> None:
+    def arrive(self, position: int, numbers: Sequence[str] = (), stood: Sequence[ListedMark] = ()) -> None:
         """Prints the position after a move, the marks that were hit, and the changes made by the last step. `stood` are the
         marks listed before the move."""
         self.stood, self.frame, self.is_before, self.goroutine = position, None, False, None
@@ -271,7 +271,7 @@ class Session:
                 self.printer.table(table)
         self.show_displays()
 
-    def hit(self, numbers: Sequence[str], stood: Sequence[Listed]) -> list[Listed]:
+    def hit(self, numbers: Sequence[str], stood: Sequence[ListedMark]) -> list[ListedMark]:
         """The marks with these numbers, as they are listed now or were listed before the move."""
         listed = {mark.number: mark for mark in [*stood, *self.netrev.marks()]} if numbers else {}
         return [listed[number] for number in numbers if number in listed]

@@ -19,7 +19,7 @@ class Limits(NamedTuple):
     buf: int
 
 
-class Recording(NamedTuple):
+class Contents(NamedTuple):
     """A recording's contents: steps as tuples, and in version 2 the recorded answer of each, in the machine's form."""
 
     version: int

@@ -6,7 +6,7 @@ from typing import Any, Optional
 
 from netrev.errors import NetrevError
 
-from .contents import GREATEST_TIME, Answer, Limits, Recording, Step
+from .contents import GREATEST_TIME, Answer, Limits, Contents, Step
 from .jsontext import NotJsonError, read_json
 from .vocabulary import HEADERS, KINDS as OF_NRDB, VERSIONS, Kind, is_answer
 
@@ -107,7 +107,7 @@ def answer_of(value: Any) -> Answer:
     return (value,) if isinstance(value, str) else tuple(value)
 
 
-def read_text(text: bytes) -> Recording:
+def read_text(text: bytes) -> Contents:
     """The Recording in a text, or the Fault of its first faulty line."""
     version, limits = 0, None
     steps: list[Step] = []
@@ -131,4 +131,4 @@ def read_text(text: bytes) -> Recording:
             raise FaultError(f"line {number}: fault {fault}") from fault
     if limits is None:
         raise FaultError(f"line {text.count(10) + 1}: fault 101 header")
-    return Recording(version, limits, steps, answers)
+    return Contents(version, limits, steps, answers)

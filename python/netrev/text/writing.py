@@ -3,10 +3,10 @@
 import json
 from typing import Optional
 
-from .contents import Answer, Recording, Step
+from .contents import Answer, Contents, Step
 
 
-def header_of(recording: Recording) -> dict[str, int]:
+def header_of(recording: Contents) -> dict[str, int]:
     return {"netrev": recording.version, **recording.limits._asdict()}
 
 
@@ -21,7 +21,7 @@ def line_of(step: Step, answer: Optional[Answer]) -> str:
     return json.dumps(parts + ([json_answer(answer)] if answer else []), separators=(",", ":"))
 
 
-def write_plain(recording: Recording) -> bytes:
+def write_plain(recording: Contents) -> bytes:
     """The text of a recording as netrev writes it."""
     header = json.dumps(header_of(recording), separators=(",", ":"), sort_keys=True)
     lines = [header, *map(line_of, recording.steps, recording.answers)]

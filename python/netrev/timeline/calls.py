@@ -23,7 +23,7 @@ WRAPPER = re.compile(r"\.(gowrap|deferwrap)\d*$")
 DONE, FAILED, HANGS, OPEN, LISTENS = range(5)  # the states of a drawn call
 
 
-class Texts(dict[str, int]):
+class IndexedTexts(dict[str, int]):
     """Texts, each stored once, with their indices in order of arrival."""
 
     def __missing__(self, text: str) -> int:
@@ -59,7 +59,7 @@ def calls_data(recording: Recording, window: Window) -> Data:
     """The calls of the window, in packed columns. `first` is relative to the `first` of the previous call. `long` is
     the number of a call's steps, or 0 if the call hasn't ended. `name`, `came`, `line` and `stack` are indices into
     `texts`."""
-    telling, calls = Telling(recording), shown_calls(recording, window)
+    telling, calls = CallColumns(recording), shown_calls(recording, window)
     firsts = [call.first for call in calls]
     columns = [
         [call.goroutine for call in calls],
@@ -91,11 +91,11 @@ def packed(column: list[int]) -> Any:
     return [wide, b64encode(numbers.tobytes()).decode()]
 
 
-class Telling:
+class CallColumns:
     """The name, the result, the line and the stack of calls, each as an index into `texts`, and the calls' states."""
 
     def __init__(self, recording: Recording) -> None:
-        self.texts = Texts({"": 0})
+        self.texts = IndexedTexts({"": 0})
         self._recording, self._index = recording, index_of(recording)
         self._lines: dict[int, int] = {}  # the lines of stacks
         self._stacks: dict[int, int] = {}

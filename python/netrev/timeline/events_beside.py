@@ -43,7 +43,7 @@ def since(run: Changed, begins: int) -> Changed:
 
 def call_events(recording: Recording) -> Iterator[str]:
     """A slice for each call of more than one step, around the statuses and steps of the call's goroutine."""
-    telling, begins = Telling(recording), begins_at(recording)
+    telling, begins = CallTexts(recording), begins_at(recording)
     for call in shown_calls(recording, Window(begins + 1 if begins else 0, recording.length)):
         if call.last == call.first:
             continue
@@ -56,7 +56,7 @@ def call_events(recording: Recording) -> Iterator[str]:
         )
 
 
-class Telling:
+class CallTexts:
     """Calls as text, in JSON. Equal texts are stored once."""
 
     def __init__(self, recording: Recording) -> None:

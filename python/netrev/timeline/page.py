@@ -20,7 +20,7 @@ from netrev.text.plain import plain
 
 from .calls import Data
 from .cell_runs import Window
-from .picture import MOST, Shown, collected
+from .picture import MOST, PageSources, collected
 
 PAGE = Path(__file__).parents[1] / "page"
 of_json = json.JSONEncoder(separators=(",", ":")).encode
@@ -54,11 +54,11 @@ def write_timeline(session: Session, path: str, first: Optional[int] = None, las
             raise UsageError(messages.POSITIONS.format(last=recording.length))
         if last - first > MOST:
             raise UsageError(messages.PAGE_IS_FULL.format(most=MOST, path=path))
-    data = write_page(Shown.by(session, show_progress), path, window)
+    data = write_page(PageSources.by(session, show_progress), path, window)
     return f"{path}: positions {data['first']} to {data['last']}, {len(data['cells'])} cells; {data['calls']['count']} calls"
 
 
-def write_page(shown: Shown, path: str, window: Optional[Window] = None) -> Data:
+def write_page(shown: PageSources, path: str, window: Optional[Window] = None) -> Data:
     """Writes the page, and returns its data."""
     with without_collections():
         data = collected(shown, window)
@@ -77,7 +77,7 @@ def write_page_beside(program: str, path: str, recording: Optional[Recording] = 
     assert recording.changes is not None
     recording.suspects = recording.suspects or SuspectList(program, path, interrupts)
     scout = Scout(lambda: Own(program, path, interrupts))
-    shown = Shown(recording, path, scout, recording.changes, begins_at(recording), [], lambda _: None)
+    shown = PageSources(recording, path, scout, recording.changes, begins_at(recording), [], lambda _: None)
     try:
         write_page(shown, beside)
     finally:

@@ -6,7 +6,7 @@ from typing import Any, Callable, NamedTuple, Optional
 
 from netrev.connection.beginnings import begins_at
 from netrev.connection.scout import Scout
-from netrev.connection.shapes import Listed
+from netrev.connection.shapes import ListedMark
 from netrev.recording.changes import RecordedChanges
 from netrev.recording.recording import Recording, shortened
 from netrev.recording.words import in_words
@@ -30,7 +30,7 @@ STAGES = (
 )
 
 
-class Shown(NamedTuple):
+class PageSources(NamedTuple):
     """The sources of a page: a recording and its file, a netrev for other positions, the changes made by each step, and
     the session's position and marks. `tell` is called with the progress."""
 
@@ -39,11 +39,11 @@ class Shown(NamedTuple):
     scout: Scout
     changes: RecordedChanges
     position: int
-    marks: list[Listed]
+    marks: list[ListedMark]
     tell: Callable[[str], None]
 
     @classmethod
-    def by(cls, session: Session, tell: Callable[[str], None]) -> "Shown":
+    def by(cls, session: Session, tell: Callable[[str], None]) -> "PageSources":
         """The sources of a session's page."""
         looks, changes, marks = session.looks(), session.changes(), session.netrev.marks()
         return cls(session.text(), session.path, looks, changes, session.stands().position, marks, tell)
@@ -53,7 +53,7 @@ class Shown(NamedTuple):
         self.tell(f"the picture, {stage + 1} of {len(STAGES)}: {STAGES[stage]}")
 
 
-def collected(shown: Shown, window: Optional[Window] = None) -> Data:
+def collected(shown: PageSources, window: Optional[Window] = None) -> Data:
     """The contents of the page: the calls and stories of the whole run, and each cell's values for a part of the run.
     If no part is given, `part_round` chooses the part: the whole run or, in a long recording, the steps near the first
     story or the session's position."""
@@ -81,7 +81,7 @@ def part_about(position: int, length: int) -> Window:
     return Window(max(last - AT_ONCE, 0), max(last, AT_ONCE))
 
 
-def whole_of(shown: Shown) -> Data:
+def whole_of(shown: PageSources) -> Data:
     """The data of the whole run: the calls, the waits outside the poller, the clock and what went wrong."""
     shown.begins(0)
     recording, every = shown.recording, Window(0, shown.changes.length)  # (this waits for netrev's whole output)
@@ -105,7 +105,7 @@ def whole_of(shown: Shown) -> Data:
     }
 
 
-def part_of(shown: Shown, window: Window) -> Data:
+def part_of(shown: PageSources, window: Window) -> Data:
     """The data of a part of the run: netrev's values, and the data that nrdb computes from these values."""
     shown.begins(3)
     recording = shown.recording

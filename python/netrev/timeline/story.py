@@ -3,13 +3,13 @@ lines. These data are nrdb's own and aren't proved."""
 
 from typing import Any
 
-from netrev.connection.shapes import Listed
+from netrev.connection.shapes import ListedMark
 from netrev.machine.machine import INSIDE
 from netrev.recording.changes import RecordedChanges
 from netrev.recording.recording import Recording
 from netrev.run.calls import book_of
 from netrev.run.owners import NONE
-from netrev.run.used_sockets import Touched
+from netrev.run.used_sockets import UsedSockets
 
 from .calls import Data
 from .cell_runs import Runs, Window
@@ -35,7 +35,7 @@ class Connections:
             if use.opened <= window.last and not 0 < use.closed <= window.first
         ]
         self._touched: dict[int, dict[int, int]] = {}
-        for (g, s), many in sorted(Touched(notes, window.first, window.last).items()):
+        for (g, s), many in sorted(UsedSockets(notes, window.first, window.last).items()):
             if s != NONE:
                 self._touched.setdefault(g, {})[s] = many
 
@@ -88,7 +88,7 @@ def lines_data(recording: Recording, window: Window) -> Data:
     return {"texts": list(texts), "at": at}
 
 
-def marks_of(listed: list[Listed], recording: Recording, window: Window, runs: Runs) -> list[Data]:
+def marks_of(listed: list[ListedMark], recording: Recording, window: Window, runs: Runs) -> list[Data]:
     """The session's marks, with the positions at which they hit."""
     marks = []
     for number, sort, what in listed:

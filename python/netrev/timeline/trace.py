@@ -19,7 +19,7 @@ from netrev.connection.scout import Scout
 from netrev.messages import searches as messages
 from netrev.recording.changes import RecordedChanges, value_at_start
 from netrev.recording.recording import SHOWN, Recording, shortened
-from netrev.recording.where import Lines
+from netrev.recording.where import SourceLines
 from netrev.session.files import writing
 from netrev.session.session import UsageError, Session
 from netrev.text.plain import plain
@@ -248,7 +248,7 @@ def _thread(kind: str, arguments: list[Any]) -> int:
     return {"pollevent": POLLER, "pop": TIMERS, "fire": TIMERS}.get(kind, CLOCK)
 
 
-def slice_ends(lines: Lines, length: int) -> Iterator[str]:
+def slice_ends(lines: SourceLines, length: int) -> Iterator[str]:
     """The end of each step's slice as text, with the program's line, if known. The text of each stack is made only
     once."""
     texts = {number: stack.words() for number, stack in lines.stacks.items()}

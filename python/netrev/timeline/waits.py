@@ -6,10 +6,10 @@ from netrev.findings.evidence.index import index_of
 from netrev.findings.evidence.words import place_in, short
 from netrev.findings.http.requests import requests_of
 from netrev.recording.recording import Recording
-from netrev.recording.waits import Name, Waiting, waits_of
+from netrev.recording.waits import Name, ObjectWait, waits_of
 from netrev.recording.where import OF_THE_PROGRAM
 
-from .calls import Data, Texts, program_calls, runs_in
+from .calls import Data, IndexedTexts, program_calls, runs_in
 
 MOST_ROWS, MOST_WAITS = 200, 20_000  # the most rows for goroutines without steps, and the most waits
 
@@ -20,7 +20,7 @@ def waits_data(recording: Recording) -> Data:
     into `texts`. A goroutine without steps is in `others`, by Go's number, with the function that it runs; its number
     in `rows` is -1 minus its index in `others`. `left_out` counts the goroutines and waits that don't fit on a page.
     Waits that don't end have priority, and then the newest waits."""
-    waits, texts = waits_of(recording), Texts({"": 0})
+    waits, texts = waits_of(recording), IndexedTexts({"": 0})
     shown = {name: list(filter(is_long, some)) for name, some in waits.of.items()}
     others = [name for name, some in shown.items() if some and name.is_goid]
     others.sort(key=lambda name: rank(shown[name]))
@@ -52,16 +52,16 @@ def requests_data(recording: Recording) -> dict[int, list[str]]:
     return {socket: list(places) for socket, places in found.items()}
 
 
-def is_long(wait: Waiting) -> bool:
+def is_long(wait: ObjectWait) -> bool:
     """Whether a wait was in progress at some position."""
     return wait.last is None or wait.last > wait.first
 
 
-def rank(waits: list[Waiting]) -> tuple[bool, int]:
+def rank(waits: list[ObjectWait]) -> tuple[bool, int]:
     """The sort key of goroutines: goroutines that wait at the end come first, then the goroutines that waited last."""
     return waits[-1].last is not None, -waits[-1].first
 
 
-def runs(waits: list[Waiting]) -> str:
+def runs(waits: list[ObjectWait]) -> str:
     """The outermost function of the program that a goroutine is in; empty if the goroutine is in none."""
     return short(next((found for wait in waits if (found := runs_in(wait.stack, OF_THE_PROGRAM))), ""))

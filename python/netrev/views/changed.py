@@ -3,7 +3,7 @@
 from typing import Collection, Iterator, Optional, Sequence
 
 from netrev.connection.output import Row, Table
-from netrev.connection.shapes import Listed
+from netrev.connection.shapes import ListedMark
 from netrev.recording.changes import RecordedChanges
 from netrev.recording.recording import Recording
 from netrev.run.timers import timers_beside
@@ -17,7 +17,7 @@ NOTHING = "changed: nothing that a cell shows"
 
 
 def tables_beside(
-    changes: RecordedChanges, recording: Recording, position: int, hit: Sequence[Listed]
+    changes: RecordedChanges, recording: Recording, position: int, hit: Sequence[ListedMark]
 ) -> Iterator[Table]:
     """The tables after a move to a position: the timers of the last and the next step, with their owners, the marks
     that were hit, and the changes made by the last step."""

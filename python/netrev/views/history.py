@@ -4,7 +4,7 @@ from itertools import islice
 from typing import Optional, Sequence
 
 from netrev.connection.output import Row, Table, Values
-from netrev.connection.shapes import Listed
+from netrev.connection.shapes import ListedMark
 from netrev.recording.changes import RecordedChanges, value_at_start
 from netrev.recording.recording import Recording
 from netrev.recording.words import in_words
@@ -37,7 +37,7 @@ def _row(recording: Recording, cell: str, number: int, old: str, new: str) -> Ro
     return Row({**values, "words": words or None}, "   ".join([text, *filter(None, behind)]))
 
 
-def marks_table(changes: RecordedChanges, marks: Sequence[Listed], position: int) -> Table:
+def marks_table(changes: RecordedChanges, marks: Sequence[ListedMark], position: int) -> Table:
     """The table of these marks. Each row has the place of a break, or the change that the last step made to a watched
     cell."""
     watched = [mark.what for mark in marks if mark.sort == "watch"]

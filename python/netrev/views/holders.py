@@ -4,7 +4,7 @@ from dataclasses import dataclass
 from typing import NamedTuple
 
 from netrev.connection.output import Row, Table
-from netrev.connection.world import World
+from netrev.connection.world import PositionValues
 from netrev.recording.changes import RecordedChanges
 from netrev.recording.recording import Recording, Step
 from netrev.recording.words import SIDES, LockWord, lock_words
@@ -56,7 +56,7 @@ def _given(held: list[Holding], goroutine: int, side: list[str]) -> Holding:
     return (own or fits or held)[-1]
 
 
-def holders_table(world: World, changes: RecordedChanges, socket: int) -> Table:
+def holders_table(world: PositionValues, changes: RecordedChanges, socket: int) -> Table:
     """The goroutines that hold references to the socket, with what each goroutine does now."""
     shown = world.value(f"lock {socket}")
     if shown == "absent":
@@ -65,7 +65,7 @@ def holders_table(world: World, changes: RecordedChanges, socket: int) -> Table:
     return Table("holders", rows, f"lock {socket} = {shown}: {lock_words(shown)}; {counted(len(rows), 'holder')}")
 
 
-def _row(world: World, held: Reference) -> Row:
+def _row(world: PositionValues, held: Reference) -> Row:
     status = world.value(f"gor {held.goroutine}")
     step = held.step
     words = " ".join((step.kind, *(SIDES[side] for side in held.side)))

@@ -3,7 +3,7 @@
 from typing import Iterable, Optional
 
 from netrev.connection.output import Row, Table, Values
-from netrev.connection.world import World
+from netrev.connection.world import PositionValues
 from netrev.recording.words import SIDES, LockWord, info_words, lock_words
 from netrev.text.plurals import counted
 from netrev.text.vocabulary import Of
@@ -12,7 +12,7 @@ SOCKET_CELLS = ("lock", "rsem", "wsem", "in", "out", "shut")
 DESCRIPTOR_CELLS = ("info", "rg", "wg", "rd", "wd", "fdseq")
 
 
-def sockets_table(world: World, numbers: Optional[Iterable[int]] = None, is_all: bool = False) -> Table:
+def sockets_table(world: PositionValues, numbers: Optional[Iterable[int]] = None, is_all: bool = False) -> Table:
     """The table of the sockets that aren't at rest, of all sockets, or of the sockets with these numbers."""
     every = list(range(world.count(Of.SOCKET)) if numbers is None else numbers)
     cells = world.of_each(every, *SOCKET_CELLS)
@@ -50,7 +50,7 @@ def _socket_row(number: int, values: list[str], queues: list[list[int]], descrip
     return Row(row_values, f"sock {number:<3} {'; '.join(parts)}")
 
 
-def descriptors_table(world: World, numbers: Optional[Iterable[int]] = None, is_all: bool = False) -> Table:
+def descriptors_table(world: PositionValues, numbers: Optional[Iterable[int]] = None, is_all: bool = False) -> Table:
     """The table of the open descriptors, of all descriptors, or of the descriptors with these numbers."""
     sockets = world.sockets_of_open()
     every = list(range(world.count(Of.DESCRIPTOR)) if numbers is None else numbers)
@@ -85,7 +85,7 @@ def _descriptor_row(number: int, values: list[str], socket: Optional[int]) -> Ro
     return Row(row_values, f"desc {number:<3} {'; '.join(parts)}")
 
 
-def timers_table(world: World) -> Table:
+def timers_table(world: PositionValues) -> Table:
     """The clock, and the deadlines of open descriptors that haven't passed yet, earliest first."""
     names = ("clock", "timers", "least", "firings")
     values = dict(zip(names, world.values(list(names))))

@@ -6,10 +6,10 @@ from functools import cached_property
 from typing import Iterable, Mapping, Optional
 
 from netrev.connection.output import Row, Table
-from netrev.connection.world import World
+from netrev.connection.world import PositionValues
 from netrev.recording.backward_search import Lock, last_steps, takings
 from netrev.recording.recording import Step
-from netrev.recording.waits import Name, Waiting, waits_of
+from netrev.recording.waits import Name, ObjectWait, waits_of
 from netrev.recording.where import Stack
 from netrev.recording.words import SIDES, LockWord, status_words
 from netrev.text.plurals import counted
@@ -21,10 +21,10 @@ QUIET = ("idle", "gone")
 QUEUES = {"r": "rq", "w": "wq"}
 
 
-class Queue:
+class LockQueue:
     """The goroutines that wait for one side of a socket's lock, cached for one table."""
 
-    def __init__(self, world: World, socket: int, side: str):
+    def __init__(self, world: PositionValues, socket: int, side: str):
         self._world, self._socket, self._side = world, socket, side
 
     @cached_property
@@ -56,10 +56,10 @@ def lock_of(status: str) -> Optional[Lock]:
     return (int(rest[0]), rest[1]) if name in ("acquiring", "queued", "relock") else None
 
 
-def queues_of(world: World, statuses: Iterable[str]) -> dict[Lock, Queue]:
+def queues_of(world: PositionValues, statuses: Iterable[str]) -> dict[Lock, LockQueue]:
     """The queues in which goroutines with these statuses wait, keyed by lock. Each queue has the step that took the
     lock."""
-    queues = {lock: Queue(world, *lock) for lock in map(lock_of, statuses) if lock}
+    queues = {lock: LockQueue(world, *lock) for lock in map(lock_of, statuses) if lock}
     taken = [lock for lock, queue in queues.items() if queue.is_taken]
     found = takings(world.recording, world.position, taken)
     for lock in taken:
@@ -67,10 +67,10 @@ def queues_of(world: World, statuses: Iterable[str]) -> dict[Lock, Queue]:
     return queues
 
 
-class Waits:
+class TableWaits:
     """What the goroutines of one table wait for; `statuses` has the status of each of these goroutines."""
 
-    def __init__(self, world: World, statuses: Mapping[int, str]):
+    def __init__(self, world: PositionValues, statuses: Mapping[int, str]):
         self._world, self._statuses = world, statuses
         self._queues = queues_of(world, statuses.values())
         self._sockets = world.sockets_of_open()
@@ -110,14 +110,14 @@ class Waits:
             else f"{place_words}nobody has that lock{self._owed(socket, queue)}"
         )
 
-    def _owed(self, socket: int, queue: Queue) -> str:
+    def _owed(self, socket: int, queue: LockQueue) -> str:
         """Words that name the goroutines that owe releases on a socket, and say whether the socket is closed."""
         owed = "".join(f"; goroutine {number} owes a release there" for number in self._owing.get(socket, ()))
         return owed + ("; the socket is closed" if queue.word.closed else "")
 
     def of_queue(self, socket: int, side: str) -> str:
         """The holder of a lock for which goroutines are queued."""
-        queue = self._queues.setdefault((socket, side), Queue(self._world, socket, side))
+        queue = self._queues.setdefault((socket, side), LockQueue(self._world, socket, side))
         taking = queue.taking if queue.is_taken else None
         if taking:
             return f"which goroutine {taking.argument('g')} has since step {taking.number}"
@@ -142,7 +142,7 @@ class Waits:
         return [*parts, f"deadline at {deadline}, now it is {world.value('clock')}"]
 
 
-def goroutines_table(world: World, numbers: Optional[Iterable[int]] = None, is_all: bool = False) -> Table:
+def goroutines_table(world: PositionValues, numbers: Optional[Iterable[int]] = None, is_all: bool = False) -> Table:
     """The table of the goroutines that do something or wait, of all goroutines, or of the goroutines with these
     numbers. Waiting goroutines without a step in the recording come last."""
     every = list(range(world.count(Of.GOROUTINE)) if numbers is None else numbers)
@@ -152,7 +152,7 @@ def goroutines_table(world: World, numbers: Optional[Iterable[int]] = None, is_a
         number for number in every
         if is_all or numbers is not None or statuses[number] not in QUIET or Name(number) in elsewhere
     ]  # fmt: skip
-    waits = Waits(world, statuses)
+    waits = TableWaits(world, statuses)
     goid = world.recording.lines.reused_goid
     rows = [_row(number, goid(number, world.position), statuses[number], waits.of(number)) for number in shown]
     if world.recording.lines:
@@ -179,13 +179,13 @@ def _row(number: int, goid: int, status: str, why: str) -> Row:
     return Row(values, f"gor {number:<4} {f'(goid {goid}) ' if goid else ''}{status:<16} {why}".rstrip())
 
 
-def _with_wait(row: Row, wait: Waiting) -> Row:
+def _with_wait(row: Row, wait: ObjectWait) -> Row:
     """The row of a goroutine that waits outside the poller, and is idle by its status."""
     values = row.values | {"waits_for": wait.does, "elsewhere": True}
     return _with_line(Row(values, f"{row.text:<25} {wait.does}"), wait.stack, wait.first)
 
 
-def row_of_wait(wait: Waiting) -> Row:
+def row_of_wait(wait: ObjectWait) -> Row:
     """The row of a goroutine that waits and has no step in the recording."""
     values = {**wait.name.values, "status": QUIET[0], "waits_for": wait.does, "elsewhere": True}
     return _with_line(Row(values, f"{str(wait.name):<25} {wait.does}"), wait.stack, wait.first)

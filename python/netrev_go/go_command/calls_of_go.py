@@ -17,7 +17,7 @@ from netrev.messages import recorder as messages
 from .toolchain import Go, RecorderError, find_go, points_program
 
 
-class Row(NamedTuple):
+class CallRow(NamedTuple):
     """Calls that make the same steps, those steps, and what the recording omits of the calls."""
 
     calls: str
@@ -35,40 +35,44 @@ OPTIONS = (
 )
 FILES = "FD.Fstat FD.Fstatat FD.Fchmod FD.Fchown FD.Fchdir FD.Fsync FD.Ftruncate FD.Seek FD.ReadDirent FD.Pread FD.Pwrite FD.Dup"
 ROWS = (
-    Row("FD.Init", "`sockopen`, `pollopen`", "files that the poller doesn't accept, and all calls on them"),
-    Row(
+    CallRow("FD.Init", "`sockopen`, `pollopen`", "files that the poller doesn't accept, and all calls on them"),
+    CallRow(
         "FD.Close", "`increfclose`, a `release` for each waiter, `evict`, `decref`, `pollclose` with the last reference"
     ),
-    Row("FD.Read", READING, "errors other than `EAGAIN`"),
-    Row("FD.Write", WRITING, "errors other than `EAGAIN` and, after a `CloseWrite`, `EPIPE`"),
-    Row("FD.Accept", READING, "the connection: it is recorded as one byte that arrives and is read"),
-    Row(
+    CallRow("FD.Read", READING, "errors other than `EAGAIN`"),
+    CallRow("FD.Write", WRITING, "errors other than `EAGAIN` and, after a `CloseWrite`, `EPIPE`"),
+    CallRow("FD.Accept", READING, "the connection: it is recorded as one byte that arrives and is read"),
+    CallRow(
         "FD.ReadFrom FD.ReadFromInet4 FD.ReadFromInet6 FD.ReadMsg FD.ReadMsgInet4 FD.ReadMsgInet6",
         READING,
         f"{UNSEEN}; the bytes cut off a datagram. An empty datagram is recorded as one byte",
     ),
-    Row(
+    CallRow(
         "FD.WriteTo FD.WriteToInet4 FD.WriteToInet6 FD.WriteMsg FD.WriteMsgInet4 FD.WriteMsgInet6",
         WRITING,
         f"{UNSEEN}. An empty datagram is recorded as one byte",
     ),
-    Row("FD.Writev", WRITING, "the borders between buffers; the length of a try that answered `again`"),
-    Row("SendFile", WRITING, "the file; the length of a try that answered `again`"),
-    Row(
+    CallRow("FD.Writev", WRITING, "the borders between buffers; the length of a try that answered `again`"),
+    CallRow("SendFile", WRITING, "the file; the length of a try that answered `again`"),
+    CallRow(
         "Splice",
         "those of `Read` on one socket and of `Write` on the other",
         "the pipe between them; the length of a try that answered `again`",
     ),
-    Row("FD.RawRead", "`rwlock`, `pollreset`, the steps of each wait, `rwunlock`", "what the program's function does"),
-    Row("FD.RawWrite", "`rwlock`, `pollreset`, the steps of each wait, `rwunlock`", "what the program's function does"),
-    Row("FD.RawControl", HELD, "what the program's function does"),
-    Row("FD.WaitWrite", "the steps of a wait, without a lock", "`connect`, which waits with this call"),
-    Row("FD.Shutdown", f"{HELD}, and a `closewrite` if the write side is closed", "closing the read side"),
-    Row("FD.SetDeadline FD.SetReadDeadline FD.SetWriteDeadline", "`incref`, `setdeadline`, `decref`"),
-    Row(OPTIONS, HELD, "the option"),
-    Row(FILES, HELD, "the operation, in which the poller isn't involved"),
-    Row("FD.WriteOnce", "`rwlock`, `rwunlock`", "the bytes: only Go's own tests call it"),
-    Row("CopyFileRange", "`rwlock`, `rwunlock` on each of the two", "the copy: the poller has neither file"),
+    CallRow(
+        "FD.RawRead", "`rwlock`, `pollreset`, the steps of each wait, `rwunlock`", "what the program's function does"
+    ),
+    CallRow(
+        "FD.RawWrite", "`rwlock`, `pollreset`, the steps of each wait, `rwunlock`", "what the program's function does"
+    ),
+    CallRow("FD.RawControl", HELD, "what the program's function does"),
+    CallRow("FD.WaitWrite", "the steps of a wait, without a lock", "`connect`, which waits with this call"),
+    CallRow("FD.Shutdown", f"{HELD}, and a `closewrite` if the write side is closed", "closing the read side"),
+    CallRow("FD.SetDeadline FD.SetReadDeadline FD.SetWriteDeadline", "`incref`, `setdeadline`, `decref`"),
+    CallRow(OPTIONS, HELD, "the option"),
+    CallRow(FILES, HELD, "the operation, in which the poller isn't involved"),
+    CallRow("FD.WriteOnce", "`rwlock`, `rwunlock`", "the bytes: only Go's own tests call it"),
+    CallRow("CopyFileRange", "`rwlock`, `rwunlock` on each of the two", "the copy: the poller has neither file"),
 )
 
 

@@ -34,7 +34,7 @@ FROM_THE_TERMINAL = 0x80  # the si_code of signals from the kernel itself, SI_KE
 
 
 @dataclass(frozen=True)
-class Limits:
+class RunLimits:
     """The limits of a run."""
 
     seconds: float | None = None
@@ -44,8 +44,8 @@ class Limits:
     orders: bool = True
 
 
-def limits_of(options: argparse.Namespace) -> Limits:
-    return Limits(options.n, options.procs, options.points, not options.no_lines, not options.no_orders)
+def limits_of(options: argparse.Namespace) -> RunLimits:
+    return RunLimits(options.n, options.procs, options.points, not options.no_lines, not options.no_orders)
 
 
 def as_a_shell_has_it(status: int) -> int:
@@ -108,7 +108,7 @@ def stop_at_once() -> None:
     unblock_signals()
 
 
-def environment(folder: pathlib.Path, limits: Limits, delays: int = 0) -> dict[str, str]:
+def environment(folder: pathlib.Path, limits: RunLimits, delays: int = 0) -> dict[str, str]:
     """The environment in which programs record. `delays` is the seed of the recorder's delays, 0 for none."""
     settings = {"NETREV_LOG": str(folder / "log"), "NETREV_POINTS": str(limits.points)}
     if limits.processors:
@@ -142,11 +142,11 @@ def send(log: pathlib.Path, number: signal.Signals) -> None:
             os.kill(process_of(log), number)
 
 
-class Runner:
+class GoRunner:
     """Go's command, and the programs that it starts. Signals for netrev-go are queued until it checks them; signals for the command are
     not queued."""
 
-    def __init__(self, command: list[str], folder: pathlib.Path, limits: Limits, delays: int = 0) -> None:
+    def __init__(self, command: list[str], folder: pathlib.Path, limits: RunLimits, delays: int = 0) -> None:
         self.folder, self.limits = folder, limits
         self.began: dict[pathlib.Path, float] = {}
         self.told: set[pathlib.Path] = set()  # to quit

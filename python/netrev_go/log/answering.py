@@ -5,12 +5,12 @@ from __future__ import annotations
 from netrev.errors import NetrevError
 from netrev.messages import recorder as messages
 
-from .points import Kind, Point
-from .sockets import AGAIN, Socket
+from .points import PointKind, Point
+from .sockets import AGAIN, LoggedSocket
 
 BROKEN_PIPE = 2
 MODES = {ord("r"): "r", ord("w"): "w", ord("r") + ord("w"): "rw"}
-UNLOCKING = {int(Kind.DECREF), int(Kind.RW_UNLOCK)}
+UNLOCKING = {int(PointKind.DECREF), int(PointKind.RW_UNLOCK)}
 
 
 class UnconvertibleError(NetrevError):
@@ -48,11 +48,11 @@ def lock_answer(kind: int, was_closed: bool, bits: int) -> str:
     return "yes" if bits & 2 else "wait"
 
 
-def can_answer(socket: Socket, point: Point) -> bool:
+def can_answer(socket: LoggedSocket, point: Point) -> bool:
     """Whether the machine has an answer for the result of a read or a write. The machine has no answer for most errors, for an EPIPE that
     the other end caused, and for an output that is full of unrecorded bytes."""
     if point.b > 0:
         return True
     if point.c == AGAIN:
-        return point.kind == Kind.READ or socket.held == socket.capacity()
-    return point.c == BROKEN_PIPE and socket.shut if point.kind == Kind.WRITE else point.c == 0
+        return point.kind == PointKind.READ or socket.held == socket.capacity()
+    return point.c == BROKEN_PIPE and socket.shut if point.kind == PointKind.WRITE else point.c == 0

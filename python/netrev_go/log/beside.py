@@ -6,9 +6,9 @@ import errno
 from dataclasses import dataclass, field
 
 from .answering import BROKEN_PIPE
-from .points import Kind, Point
+from .points import PointKind, Point
 from .sockets import AGAIN
-from .waits import Wait
+from .waits import LoggedWait
 
 # Errors that end a call of the program. After other errors, Go tries another way,
 # for example if it can't splice a file.
@@ -40,7 +40,7 @@ class Beside:
 
     peers: list[tuple[int, int]] = field(default_factory=list)
     errors: list[tuple[int, str]] = field(default_factory=list)
-    waits: list[Wait] = field(default_factory=list)  # outside the poller
+    waits: list[LoggedWait] = field(default_factory=list)  # outside the poller
     ends: list[tuple[int, int, int]] = field(default_factory=list)  # sockets with the numbers of both ends' names
     # the addresses of datagram sockets, and the addresses that they are connected to
     addresses: list[tuple[int, str, str]] = field(default_factory=list)
@@ -91,6 +91,6 @@ class Beside:
         """Records a read or a write without a step, because the machine has no such answer."""
         if not step or point.c == AGAIN:
             return
-        number = errno.EPIPE if point.kind == Kind.WRITE and point.c == BROKEN_PIPE else -point.b
+        number = errno.EPIPE if point.kind == PointKind.WRITE and point.c == BROKEN_PIPE else -point.b
         if number in OF_CONNECTIONS:
             self.errors.append((step, errno.errorcode[number]))

@@ -10,15 +10,23 @@ from operator import itemgetter
 from typing import NamedTuple
 
 from .orders import Made
-from .points import ORDERING, WAITING, Holder, Kind, Point
+from .points import ORDERING, WAITING, LoggedHolder, PointKind, Point
 
 READY, SENT, RECEIVED, MET, CLOSED, FOUND_CLOSED = map(
-    int, (Kind.READY, Kind.SENT, Kind.RECEIVED, Kind.MET, Kind.CHANNEL_CLOSED, Kind.FOUND_CLOSED)
+    int,
+    (
+        PointKind.READY,
+        PointKind.SENT,
+        PointKind.RECEIVED,
+        PointKind.MET,
+        PointKind.CHANNEL_CLOSED,
+        PointKind.FOUND_CLOSED,
+    ),
 )
 PARKS, GOES_ON, CASES, HANDED, ENDS, TIMER, GROUP, STOPPED, MAKES, DIAL_FAILED = map(
     int,
     (
-        Kind.PARKS, Kind.GOES_ON, Kind.CASES, Kind.HANDED, Kind.ENDS, Kind.TIMER, Kind.GROUP, Kind.STOPPED, Kind.MAKES, Kind.DIAL_FAILED,
+        PointKind.PARKS, PointKind.GOES_ON, PointKind.CASES, PointKind.HANDED, PointKind.ENDS, PointKind.TIMER, PointKind.GROUP, PointKind.STOPPED, PointKind.MAKES, PointKind.DIAL_FAILED,
     ),
 )  # fmt: skip
 CONCERNED = ORDERING | WAITING
@@ -45,7 +53,7 @@ class At(NamedTuple):
     use: int
 
 
-class Park(NamedTuple):
+class LoggedPark(NamedTuple):
     """A wait outside the poller: the goroutine, the steps after which it begins and ends, both times, the reason, the stack, the goroutine
     that ended it (0 if unknown), the objects, and the end of a sleep (0 if unknown)."""
 
@@ -69,7 +77,7 @@ class Born(NamedTuple):
     time: int
 
 
-class Timer(NamedTuple):
+class LoggedTimer(NamedTuple):
     """A timer that a goroutine made, reset or stopped: its channel's address (0 if it calls a function), the goroutine, the stack,
     the step before, the time, and when it was due (NEVER if it was stopped)."""
 
@@ -90,7 +98,7 @@ class Used(NamedTuple):
     stack: int
 
 
-class Span(NamedTuple):
+class UseSpan(NamedTuple):
     """A count, and the first and the last time, by steps and by the clock."""
 
     often: int
@@ -100,7 +108,7 @@ class Span(NamedTuple):
     end: int
 
 
-class Making(NamedTuple):
+class LoggedChannel(NamedTuple):
     """A new channel: the goroutine that made it, the stack, the step before, and the time."""
 
     goroutine: int
@@ -109,7 +117,7 @@ class Making(NamedTuple):
     time: int
 
 
-class Held(NamedTuple):
+class LoggedMutex(NamedTuple):
     """A mutex that is locked when the log ends: its address, the goroutine that locked it, whether it is locked for reading, the goroutine's
     stack, and the last step before it was locked."""
 
@@ -120,7 +128,7 @@ class Held(NamedTuple):
     step: int
 
 
-class FailedDial(NamedTuple):
+class LoggedDial(NamedTuple):
     """A dial that failed: the goroutine, the stack, the step before, the time, the error, the address as the recorder packs it, and
     the channel of its context (0 if it has none)."""
 
@@ -139,16 +147,16 @@ class Goroutines:
     it was made at an older channel's address, by a key of its own. `held` is None if the log doesn't say which mutexes are
     locked."""
 
-    parks: list[Park] = field(default_factory=list)
+    parks: list[LoggedPark] = field(default_factory=list)
     finished: list[int] = field(default_factory=list)  # the indices of those that ended, in the order of their ends
     born: dict[int, Born] = field(default_factory=dict)
     ended: dict[int, tuple[int, int]] = field(default_factory=dict)  # after which step, and when
-    uses: dict[Used, Span] = field(default_factory=dict)
+    uses: dict[Used, UseSpan] = field(default_factory=dict)
     rooms: dict[int, int] = field(default_factory=dict)  # for channels, by address
-    timers: list[Timer] = field(default_factory=list)
-    made: dict[int, Making] = field(default_factory=dict)  # for channels, by key
-    dials: list[FailedDial] = field(default_factory=list)
-    held: list[Held] | None = None
+    timers: list[LoggedTimer] = field(default_factory=list)
+    made: dict[int, LoggedChannel] = field(default_factory=dict)  # for channels, by key
+    dials: list[LoggedDial] = field(default_factory=list)
+    held: list[LoggedMutex] | None = None
 
     def stacks(self) -> set[int]:
         """The stacks of waits, uses, timers, channels, failed connects and locked mutexes."""
@@ -213,7 +221,7 @@ class Passing:
 
     def __init__(self, begin: int) -> None:
         self.found = Goroutines()
-        self.parks: list[Park | None] = []
+        self.parks: list[LoggedPark | None] = []
         self._begin = begin
         self._parked: dict[int, Begun] = {}
         self._ready: dict[int, int] = {}
@@ -248,13 +256,13 @@ class Passing:
         elif kind == MAKES:
             self._makes(point, step, time)
         elif kind == DIAL_FAILED:
-            self.found.dials.append(FailedDial(g, stack, step, time, a, b, channel))
+            self.found.dials.append(LoggedDial(g, stack, step, time, a, b, channel))
         elif kind == ENDS:
             self.found.ended[g] = step, time
         elif kind == TIMER:
-            self.found.timers.append(Timer(channel, g, stack, step, time, max(a - self._begin, 0)))
+            self.found.timers.append(LoggedTimer(channel, g, stack, step, time, max(a - self._begin, 0)))
         elif kind == STOPPED:
-            self.found.timers.append(Timer(channel, g, stack, step, time, NEVER))
+            self.found.timers.append(LoggedTimer(channel, g, stack, step, time, NEVER))
         elif kind == GROUP:
             self._used(at + OF_A_WAIT_GROUP, g, ADDED if a > 0 else DONE, stack, step, time, abs(a))
 
@@ -263,7 +271,7 @@ class Passing:
         for g, begun in self._parked.items():
             self.parks[begun.place] = self._park(g, begun, UNENDED, UNENDED, 0)
         self.found.parks = [park for park in self.parks if park]
-        self.found.uses = {Used(*use): Span(*span) for use, span in self._uses.items()}
+        self.found.uses = {Used(*use): UseSpan(*span) for use, span in self._uses.items()}
         return self.found
 
     def _makes(self, point: Point, step: int, time: int) -> None:
@@ -272,7 +280,7 @@ class Passing:
         if key in self.found.made or key in self.found.rooms:
             key += 1 << GENERATION
             self._keys[point.at] = key
-        self.found.made[key] = Making(point.goroutine, point.stack, step, time)
+        self.found.made[key] = LoggedChannel(point.goroutine, point.stack, step, time)
         self.found.rooms[key] = point.b
 
     def _objects(self, what: int, at: int, b: int, c: int) -> tuple[At, ...]:
@@ -304,9 +312,9 @@ class Passing:
         self.found.finished.append(begun.place)
 
     @staticmethod
-    def _park(g: int, begun: Begun, step: int, time: int, by: int) -> Park:
+    def _park(g: int, begun: Begun, step: int, time: int, by: int) -> LoggedPark:
         _, first, begin, what, stack, objects, due = begun
-        return Park(g, first, step, begin, time, what, stack, by, objects, due)
+        return LoggedPark(g, first, step, begin, time, what, stack, by, objects, due)
 
     def _met(self, point: Point, step: int, time: int) -> None:
         """Records that a value passes from one goroutine to another that waits for it."""
@@ -337,7 +345,7 @@ class Passing:
 
 
 def goroutines_of(
-    points: Iterable[Point], steps: list[Made], begin: int, holders: list[Holder] | None = None
+    points: Iterable[Point], steps: list[Made], begin: int, holders: list[LoggedHolder] | None = None
 ) -> Goroutines:
     """All goroutines, from the points about them and the locked mutexes. `steps` has the steps of each point, in the order of the
     points."""
@@ -352,7 +360,7 @@ def goroutines_of(
     found = passing.all()
     if holders is not None:
         found.held = [
-            Held(one.address, one.goroutine, one.is_reader, one.stack, steps[made - 1][2] if made else 0)
+            LoggedMutex(one.address, one.goroutine, one.is_reader, one.stack, steps[made - 1][2] if made else 0)
             for one in holders
             for made in [bisect_left(steps, one.passed, key=itemgetter(0))]
         ]

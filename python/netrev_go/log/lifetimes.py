@@ -6,9 +6,9 @@ from __future__ import annotations
 from collections.abc import Iterable
 from dataclasses import dataclass, field
 
-from .points import Kind, Point
+from .points import PointKind, Point
 
-ENDS = int(Kind.ENDS)
+ENDS = int(PointKind.ENDS)
 
 
 @dataclass

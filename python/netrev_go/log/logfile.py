@@ -20,7 +20,7 @@ from operator import xor
 from netrev.errors import NetrevError
 from netrev.messages import recorder as messages
 
-from .points import KINDS, Holder, Log, Point, Stack
+from .points import KINDS, LoggedHolder, Log, Point, PointStack
 
 MAGIC = 0x31676F6C7665726E
 HEADER_BYTES = 4096
@@ -79,7 +79,7 @@ class Header:
             self.passed = min(self.passed, self.ended - 1)
 
 
-def read_stacks(file: BinaryIO, count: int) -> dict[int, Stack]:
+def read_stacks(file: BinaryIO, count: int) -> dict[int, PointStack]:
     """The table of this many stacks, each by its number. A stack that was still being written has no calls."""
     stacks = {}
     for slot in range(count):
@@ -88,19 +88,19 @@ def read_stacks(file: BinaryIO, count: int) -> dict[int, Stack]:
             break
         filled, calls, made, started = struct.unpack_from("<4Q", text)
         if filled and calls <= STACK_WORDS - 4:
-            stacks[slot + 1] = Stack(made, started, struct.unpack_from(f"<{calls}Q", text, 4 * WORD))
+            stacks[slot + 1] = PointStack(made, started, struct.unpack_from(f"<{calls}Q", text, 4 * WORD))
     return stacks
 
 
-def stack_at(file: BinaryIO, number: int) -> Stack | None:
+def stack_at(file: BinaryIO, number: int) -> PointStack | None:
     """One stack of the table, by its number."""
     file.seek(HEADER_BYTES + (number - 1) * STACK_BYTES)
     return next(iter(read_stacks(file, 1).values()), None)
 
 
-def read_holders(file: BinaryIO, count: int, stacks: dict[int, Stack]) -> list[Holder]:
+def read_holders(file: BinaryIO, count: int, stacks: dict[int, PointStack]) -> list[LoggedHolder]:
     """The table of locked mutexes, which has this many rows. Their stacks are added to the stacks of points, with numbers of their own."""
-    found: dict[tuple[int, int], Holder] = {}
+    found: dict[tuple[int, int], LoggedHolder] = {}
     for row in range(count):
         text = file.read(HOLDER_BYTES)
         if len(text) < HOLDER_BYTES:
@@ -110,8 +110,8 @@ def read_holders(file: BinaryIO, count: int, stacks: dict[int, Stack]) -> list[H
             continue
         number = MOST_STACKS + 1 + row if calls else 0
         if calls:
-            stacks[number] = Stack(0, 0, struct.unpack_from(f"<{calls}Q", text, HOLDER_CALL * WORD))
-        holder = Holder(address, whose >> 1, whose & 1 == 1, passed, number)
+            stacks[number] = PointStack(0, 0, struct.unpack_from(f"<{calls}Q", text, HOLDER_CALL * WORD))
+        holder = LoggedHolder(address, whose >> 1, whose & 1 == 1, passed, number)
         key = address, row if holder.is_reader else -1
         # (the memory of a mutex that was left locked may have been reused)
         if key not in found or found[key].passed < passed:

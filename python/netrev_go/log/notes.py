@@ -9,18 +9,27 @@ from collections.abc import Iterable
 from dataclasses import dataclass, field
 from typing import NamedTuple
 
-from .points import Kind, Point
+from .points import PointKind, Point
 
 NOTED, POLL, DEADLINES, INSIDE, QUEUED, BEGIN, END, NAMED = map(
     int,
     (
-        Kind.NOTED, Kind.NOTED_POLL, Kind.NOTED_DEADLINES, Kind.NOTED_INSIDE, Kind.NOTED_QUEUED, Kind.NOTES_BEGIN, Kind.NOTES_END,
-        Kind.NOTED_NAMED,
+        PointKind.NOTED, PointKind.NOTED_POLL, PointKind.NOTED_DEADLINES, PointKind.NOTED_INSIDE, PointKind.NOTED_QUEUED, PointKind.NOTES_BEGIN, PointKind.NOTES_END,
+        PointKind.NOTED_NAMED,
     ),
 )  # fmt: skip
 INCREF, INCREF_CLOSE, DECREF, RW_LOCK, RW_UNLOCK, RELEASE, ACQUIRE, EVICT = map(
     int,
-    (Kind.INCREF, Kind.INCREF_CLOSE, Kind.DECREF, Kind.RW_LOCK, Kind.RW_UNLOCK, Kind.RELEASE, Kind.ACQUIRE, Kind.EVICT),
+    (
+        PointKind.INCREF,
+        PointKind.INCREF_CLOSE,
+        PointKind.DECREF,
+        PointKind.RW_LOCK,
+        PointKind.RW_UNLOCK,
+        PointKind.RELEASE,
+        PointKind.ACQUIRE,
+        PointKind.EVICT,
+    ),
 )
 # Stages of a wait, as go/log/notes.go numbers them.
 ENTERING, ARMED, PARKING, PARKED, SWAPPING, CHECKING = range(1, 7)
@@ -158,14 +167,14 @@ class Debts:
             note.evicter = g
 
 
-class Span(NamedTuple):
+class NotesSpan(NamedTuple):
     """The numbers of the first and the last point of notes about all open descriptors."""
 
     begin: int
     end: int
 
 
-def spans(points: Iterable[Point]) -> list[Span]:
+def spans(points: Iterable[Point]) -> list[NotesSpan]:
     """The spans of the complete notes. A note is complete if the log has its first and its last point."""
     begun: dict[int, int] = {}
     found = []
@@ -173,5 +182,5 @@ def spans(points: Iterable[Point]) -> list[Span]:
         if point.kind == BEGIN:
             begun[point.a] = point.number
         elif point.kind == END and point.a in begun:
-            found.append(Span(begun[point.a], point.number))
+            found.append(NotesSpan(begun[point.a], point.number))
     return found

@@ -6,17 +6,18 @@ from __future__ import annotations
 from collections import defaultdict, deque
 from collections.abc import Iterable, Iterator
 
-from .points import Kind, Point
+from .points import PointKind, Point
 
 READY, SENT, RECEIVED, MET, CHANNEL_CLOSED, HANDED = map(
-    int, (Kind.READY, Kind.SENT, Kind.RECEIVED, Kind.MET, Kind.CHANNEL_CLOSED, Kind.HANDED)
+    int,
+    (PointKind.READY, PointKind.SENT, PointKind.RECEIVED, PointKind.MET, PointKind.CHANNEL_CLOSED, PointKind.HANDED),
 )
 END = Point(2**63, 0, 0, 0, 0, 0, 0, 0, 0)  # after the last point
 
 Frontier = dict[int, int]  # for each goroutine, its last step that precedes others
 
 
-class Queue:
+class ValueQueue:
     """The steps that precede each value in a queue. The first values may be unknown and are only counted, because a channel's capacity
     isn't known."""
 
@@ -48,8 +49,8 @@ class Channel:
     """For a channel: the steps that precede each value in its buffer, each free place, and its close."""
 
     def __init__(self) -> None:
-        self.values = Queue()
-        self.places = Queue()
+        self.values = ValueQueue()
+        self.places = ValueQueue()
         self.closed: Frontier = {}
 
 

@@ -13,7 +13,7 @@ from typing import NamedTuple
 from netrev.text.vocabulary import NUMBERS
 
 
-class Kind(IntEnum):
+class PointKind(IntEnum):
     """The kind of a point: the number of the step's kind, or a number above 100 for a point that isn't a step."""
 
     INIT = NUMBERS["sockopen"]
@@ -70,18 +70,25 @@ class Kind(IntEnum):
 
 
 # Sets of plain numbers, as in points: comparing an enumeration's members is much slower.
-KINDS = frozenset(map(int, Kind))
+KINDS = frozenset(map(int, PointKind))
 # Points at which the program itself puts goroutines in order; they belong to no socket.
-ORDERING = frozenset(range(Kind.READY, Kind.FOUND_CLOSED + 1)) | {int(Kind.HANDED)}
+ORDERING = frozenset(range(PointKind.READY, PointKind.FOUND_CLOSED + 1)) | {int(PointKind.HANDED)}
 # Points at which a goroutine begins to wait outside the poller, continues, gets a value that it waits for, makes or stops
 # a timer, adds to a WaitGroup, makes a channel, fails to connect a socket, or ends.
-WAITING = frozenset(range(Kind.PARKS, Kind.DIAL_FAILED + 1))
+WAITING = frozenset(range(PointKind.PARKS, PointKind.DIAL_FAILED + 1))
 # Points that note the state of a socket that may have been opened before the oldest point.
-NOTING = frozenset(range(Kind.NOTED, Kind.NOTED_NAMED + 1))
+NOTING = frozenset(range(PointKind.NOTED, PointKind.NOTED_NAMED + 1))
 AT_A_SOCKET = KINDS - ORDERING - WAITING - NOTING
-LOCKING = frozenset(map(int, (Kind.INCREF, Kind.INCREF_CLOSE, Kind.DECREF, Kind.RW_LOCK, Kind.RW_UNLOCK)))
+LOCKING = frozenset(
+    map(int, (PointKind.INCREF, PointKind.INCREF_CLOSE, PointKind.DECREF, PointKind.RW_LOCK, PointKind.RW_UNLOCK))
+)
 # The kinds of points that have a lock word's address. All other points except INIT have a descriptor's address.
-AT_A_WORD = LOCKING | set(map(int, (Kind.READ, Kind.WRITE, Kind.ACQUIRE, Kind.RELEASE, Kind.CLOSE_WRITE, Kind.NAMED)))
+AT_A_WORD = LOCKING | set(
+    map(
+        int,
+        (PointKind.READ, PointKind.WRITE, PointKind.ACQUIRE, PointKind.RELEASE, PointKind.CLOSE_WRITE, PointKind.NAMED),
+    )
+)
 
 
 class Point(NamedTuple):
@@ -104,7 +111,7 @@ NUMBER, KIND, GOROUTINE, TIME = (
 )
 
 
-class Stack(NamedTuple):
+class PointStack(NamedTuple):
     """The return addresses of the calls, innermost first; then the address of the `go` statement that started the goroutine, and the
     address of the goroutine's function."""
 
@@ -113,7 +120,7 @@ class Stack(NamedTuple):
     calls: tuple[int, ...]
 
 
-class Holder(NamedTuple):
+class LoggedHolder(NamedTuple):
     """A mutex that was locked when the log ended: its address, the goroutine that had locked it, whether for reading, how many points had
     been logged by then, and the stack from which it was locked (0 if unknown)."""
 
@@ -129,7 +136,7 @@ class Log:
     """A log that was read. `holders` is None if the log doesn't say which mutexes are locked."""
 
     points: list[Point]
-    stacks: dict[int, Stack] = field(default_factory=dict)
+    stacks: dict[int, PointStack] = field(default_factory=dict)
     begin: int = 0
     process: int = 0
     text: int = 0
@@ -137,7 +144,7 @@ class Log:
     from_the_start: bool = True  # the log still has the first point that was logged
     has_orders: bool = False  # whether the log has the points that order the program's goroutines
     notes: list[str] = field(default_factory=list)
-    holders: list[Holder] | None = None
+    holders: list[LoggedHolder] | None = None
 
     @cached_property
     def kinds(self) -> bytes:

@@ -13,22 +13,27 @@ from dataclasses import dataclass, field
 from operator import itemgetter
 
 from .notes import NAMED as NOTED_NAMED, NOTED, Debts, Note
-from .points import AT_A_SOCKET, AT_A_WORD, GOROUTINE, LOCKING, NOTING, NUMBER, Kind, Point
+from .points import AT_A_SOCKET, AT_A_WORD, GOROUTINE, LOCKING, NOTING, NUMBER, PointKind, Point
 from .prelude import Lead, UnreachableStateError, led
 
 BUFFER = 65_536
 OUTPUT = 4_096
 CLOSED = 1
 AGAIN = 1
-READ, WRITE, NAMED = int(Kind.READ), int(Kind.WRITE), int(Kind.NAMED)
+READ, WRITE, NAMED = int(PointKind.READ), int(PointKind.WRITE), int(PointKind.NAMED)
 DEADLINE_CALL, INCREF, SET_DEADLINE, DECREF = map(
-    int, (Kind.DEADLINE_CALL, Kind.INCREF, Kind.SET_DEADLINE, Kind.DECREF)
+    int, (PointKind.DEADLINE_CALL, PointKind.INCREF, PointKind.SET_DEADLINE, PointKind.DECREF)
 )
 UNLIKE = {READ, WRITE, NAMED, NOTED, NOTED_NAMED, DEADLINE_CALL}  # points with more than one step of their socket
 # one reference in a lock word; the bit of a point that says that Go's function returned true
 REFERENCE, RETURNS_TRUE = 8, 2
-INIT, OPEN, OPEN_FAILED, CLOSE = int(Kind.INIT), int(Kind.OPEN), int(Kind.OPEN_FAILED), int(Kind.CLOSE)
-EVENT, FIRE = int(Kind.EVENT), int(Kind.FIRE)
+INIT, OPEN, OPEN_FAILED, CLOSE = (
+    int(PointKind.INIT),
+    int(PointKind.OPEN),
+    int(PointKind.OPEN_FAILED),
+    int(PointKind.CLOSE),
+)
+EVENT, FIRE = int(PointKind.EVENT), int(PointKind.FIRE)
 # points about the descriptor's newest use
 AT_USE = AT_A_SOCKET - AT_A_WORD - {INIT, OPEN, OPEN_FAILED, CLOSE, EVENT, FIRE}
 POINT, SOCKET = itemgetter(0), itemgetter(1)  # of a pair
@@ -40,7 +45,7 @@ FEW_BYTES = 64  # a read or a write of more bytes is recorded with this many, un
 
 
 @dataclass(eq=False)
-class Socket:
+class LoggedSocket:
     """A socket from its opening on: what the log says about it, and the converter's own data."""
 
     opening: int
@@ -65,7 +70,7 @@ class Socket:
     peer_closed: bool = False
     shut: bool = False
     word: int = 0  # the address of its lock word
-    before: Socket | None = None  # the socket that had the same lock word when it was opened
+    before: LoggedSocket | None = None  # the socket that had the same lock word when it was opened
     note: Note | None = None  # the note of its state, if its opening isn't in the log
     leads: list[Lead] = field(default_factory=list)  # the steps that lead to that state
     is_filled: bool = False  # a noted socket whose output a later write found full
@@ -82,19 +87,19 @@ class Owners:
     """Finds the socket of each point."""
 
     def __init__(self) -> None:
-        self.sockets: list[Socket] = []
-        self.words: dict[int, Socket] = {}
-        self.uses: dict[int, list[Socket]] = {}
-        self.opening: dict[int, Socket] = {}
-        self.noted: dict[int, Socket] = {}  # by both addresses, sockets whose notes are incomplete
+        self.sockets: list[LoggedSocket] = []
+        self.words: dict[int, LoggedSocket] = {}
+        self.uses: dict[int, list[LoggedSocket]] = {}
+        self.opening: dict[int, LoggedSocket] = {}
+        self.noted: dict[int, LoggedSocket] = {}  # by both addresses, sockets whose notes are incomplete
 
-    def of(self, point: Point) -> Socket | None:
+    def of(self, point: Point) -> LoggedSocket | None:
         """The socket of the next point, if it is known."""
         kind = point.kind
         if kind in AT_A_WORD:
             return self.at_a_word(point)
         if kind == INIT:
-            socket = Socket(len(self.sockets), point.goroutine, word=point.at, before=self.words.get(point.at))
+            socket = LoggedSocket(len(self.sockets), point.goroutine, word=point.at, before=self.words.get(point.at))
             self.sockets.append(socket)
             self.words[point.at] = self.opening[point.goroutine] = socket
             return socket
@@ -117,14 +122,14 @@ class Owners:
             return self.not_opened(uses.pop())
         return uses[-1]
 
-    def not_opened(self, socket: Socket) -> Socket:
+    def not_opened(self, socket: LoggedSocket) -> LoggedSocket:
         """Marks a socket as rejected by the poller. If an earlier socket with the same lock word is still open, that socket continues."""
         socket.failed = True
         if socket.before and not socket.before.closed:
             self.words[socket.word] = socket.before
         return socket
 
-    def note(self, point: Point) -> Socket | None:
+    def note(self, point: Point) -> LoggedSocket | None:
         """Reads one of a note's points. Returns the note's socket if this is the note's first point and the socket isn't known yet, or if
         this is a point with the socket's names."""
         kind, at = point.kind, point.at
@@ -134,7 +139,7 @@ class Owners:
             self.noted.pop(point.b, None)
             if known and not known.closed:
                 return None
-            socket = Socket(len(self.sockets), word=at, has_descriptor=True)
+            socket = LoggedSocket(len(self.sockets), word=at, has_descriptor=True)
             socket.note = Note(point.number, point.a, (point.c & LOW, point.c >> 32))
             self.sockets.append(socket)
             self.words[at] = self.noted[at] = self.noted[point.b] = socket
@@ -149,14 +154,14 @@ class Owners:
         noted.sequences, noted.go_tag = noted.note.sequences, noted.note.tag
         return None
 
-    def at_a_word(self, point: Point) -> Socket | None:
+    def at_a_word(self, point: Point) -> LoggedSocket | None:
         socket = self.words.get(point.at)
         if socket and socket.closed and point.kind in LOCKING and not point.a & CLOSED:
             del self.words[point.at]  # the address now belongs to another socket, whose opening isn't in the log
             return None
         return socket
 
-    def opened(self, point: Point) -> Socket | None:
+    def opened(self, point: Point) -> LoggedSocket | None:
         socket = self.opening.pop(point.goroutine, None)
         uses = self.uses.setdefault(point.at, [])
         if socket is None:
@@ -168,11 +173,11 @@ class Owners:
         uses.append(socket)
         return socket
 
-    def tagged(self, point: Point) -> Socket | None:
+    def tagged(self, point: Point) -> LoggedSocket | None:
         """The descriptor's use to which an event belongs, by the event's tag."""
         return next((use for use in reversed(self.uses.get(point.at, ())) if use.go_tag == point.c), None)
 
-    def fired(self, point: Point) -> Socket | None:
+    def fired(self, point: Point) -> LoggedSocket | None:
         """The descriptor's use that set the timer: an earlier use if the firing has an old sequence."""
         side = 0 if point.b & 1 else 1
         for socket in reversed(self.uses.get(point.at, ())):
@@ -189,7 +194,7 @@ def of_few(point: Point) -> Point:
     return Point(number, kind, goroutine, at, asked, min(moved, FEW_BYTES), failed, time, stack)
 
 
-def points_of_call(point: Point, socket: Socket) -> list[tuple[Point, Socket]]:
+def points_of_call(point: Point, socket: LoggedSocket) -> list[tuple[Point, LoggedSocket]]:
     """The three points of a call that sets a deadline: it takes a reference to the socket, sets the deadline, and drops the reference."""
     number, _, g, at, mode, deadline, state, time, stack = point
     held, word = state + REFERENCE, socket.word
@@ -200,7 +205,7 @@ def points_of_call(point: Point, socket: Socket) -> list[tuple[Point, Socket]]:
     ]
 
 
-def count_bytes(socket: Socket, point: Point) -> None:
+def count_bytes(socket: LoggedSocket, point: Point) -> None:
     """Counts a read or a write for its socket: the characters of its text, and the steps of a read or the bytes of a
     write. A write also updates the last and the largest write, and whether the output is full."""
     _, kind, _, _, asked, got, failed, _, _ = point
@@ -222,13 +227,13 @@ def count_bytes(socket: Socket, point: Point) -> None:
         socket.full_at = max(1, min(socket.written, BUFFER))
 
 
-def count_parts(points: list[tuple[Point, Socket]]) -> None:
+def count_parts(points: list[tuple[Point, LoggedSocket]]) -> None:
     """Counts the steps of writes once the sizes of the outputs are known: a write is split into parts that fit."""
     for point, socket in points:
         socket.steps += -(-max(point.b, 0) // socket.capacity()) - 1
 
 
-def count_points(points: list[tuple[Point, Socket]]) -> None:
+def count_points(points: list[tuple[Point, LoggedSocket]]) -> None:
     """Counts each point as a step of its socket, and adds the point's goroutine to the socket's goroutines."""
     goroutines = map(GOROUTINE, map(POINT, points))
     for (goroutine, socket), steps in Counter(zip(goroutines, map(SOCKET, points))).items():
@@ -237,9 +242,9 @@ def count_points(points: list[tuple[Point, Socket]]) -> None:
             socket.goroutines.add(goroutine)
 
 
-def find_debts(points: list[tuple[Point, Socket]]) -> None:
+def find_debts(points: list[tuple[Point, LoggedSocket]]) -> None:
     """Finds which goroutines had the locks and the references of noted sockets."""
-    debts: dict[Socket, Debts] = {}
+    debts: dict[LoggedSocket, Debts] = {}
     for point, socket in points:
         if socket.note:
             if socket not in debts:
@@ -252,8 +257,8 @@ def find_debts(points: list[tuple[Point, Socket]]) -> None:
 class Owned:
     """Points with their sockets, and all sockets."""
 
-    points: list[tuple[Point, Socket]]
-    sockets: list[Socket]
+    points: list[tuple[Point, LoggedSocket]]
+    sockets: list[LoggedSocket]
     cut: int  # how many reads and writes are recorded with fewer bytes than they moved
 
     def began(self) -> dict[int, int]:
@@ -273,8 +278,8 @@ def owned(points: list[Point], all_bytes: bool = True) -> Owned:
     """Each point with its socket. Also finds each socket's goroutines, and a lower bound on the number of its steps."""
     owners = Owners()
     of, words, uses = owners.of, owners.words, owners.uses
-    mine: list[tuple[Point, Socket]] = []
-    writes: list[tuple[Point, Socket]] = []
+    mine: list[tuple[Point, LoggedSocket]] = []
+    writes: list[tuple[Point, LoggedSocket]] = []
     cut = 0
     for point in points:
         kind, at = point[1], point[3]
@@ -310,7 +315,7 @@ def owned(points: list[Point], all_bytes: bool = True) -> Owned:
     return Owned(mine, known, cut)
 
 
-def lead_to(sockets: list[Socket], begin: int) -> dict[str, int]:
+def lead_to(sockets: list[LoggedSocket], begin: int) -> dict[str, int]:
     """Finds the steps that lead to noted sockets. If no steps lead to a socket, it is left out; returns the reasons, each with the number
     of such sockets."""
     left_out: Counter[str] = Counter()
@@ -327,17 +332,17 @@ def lead_to(sockets: list[Socket], begin: int) -> dict[str, int]:
 
 
 def chosen(
-    sockets: list[Socket],
+    sockets: list[LoggedSocket],
     most: int = MOST_SOCKETS,
     megabytes: int = MOST_MEGABYTES,
     room: int = MOST_STEPS,
     at_once: Callable[[set[int]], int] = len,
     first: int = 0,
-) -> set[Socket]:
+) -> set[LoggedSocket]:
     """The sockets that fit into a recording of this many steps: the open ones first, and within each group the newest; before all
     others, the socket whose lock word has the address `first`. `at_once` gives the number of goroutines that exist at one
     time."""
-    kept: set[Socket] = set()
+    kept: set[LoggedSocket] = set()
     goroutines: set[int] = set()
     steps, text = 0, 0
     everybody = set[int]().union(*(socket.goroutines for socket in sockets))

@@ -16,9 +16,9 @@ from netrev.messages import recorder as messages
 from netrev_go.log.answering import BROKEN_PIPE, UnconvertibleError, can_answer, mode_of, parts
 from netrev_go.log.beside import OF_UNIX, Beside
 from netrev_go.log.orders import Made
-from netrev_go.log.points import LOCKING, Kind, Point
+from netrev_go.log.points import LOCKING, PointKind, Point
 from netrev_go.log.prelude import NOBODY, Lead, passing
-from netrev_go.log.sockets import AGAIN, BUFFER, FEW_BYTES, Socket
+from netrev_go.log.sockets import AGAIN, BUFFER, FEW_BYTES, LoggedSocket
 
 from .leading import close_write, lead
 from .repeated import REPEATED, read_line, repeated_line
@@ -27,7 +27,7 @@ from .zeros import Line, arrival, drained, put_line, written
 CURRENT_READ, STALE = 1, 4
 EVENT_ERROR, EVENT_STALE = 1, 2
 GREATEST = 2**63 - 1
-READ, FIRE, NOTED = int(Kind.READ), int(Kind.FIRE), int(Kind.NOTED)
+READ, FIRE, NOTED = int(PointKind.READ), int(PointKind.FIRE), int(PointKind.NOTED)
 
 # The bytes that arrive before the step, the goroutine's own line and its number, and the stack of its call.
 Repeated = tuple[Line | None, Line, int, list[int]]
@@ -37,7 +37,7 @@ class Converter:
     """The recording so far: its lines, the stack of each line (0 if unknown), and Go's lock words."""
 
     def __init__(
-        self, points: list[tuple[Point, Socket]], begin: int, ends: list[tuple[int, int]] | None = None
+        self, points: list[tuple[Point, LoggedSocket]], begin: int, ends: list[tuple[int, int]] | None = None
     ) -> None:
         self.points = points
         self._ends = ends or []  # free numbers of goroutines, the last one first
@@ -55,7 +55,7 @@ class Converter:
         self.ended: list[int] = []  # the number of steps after each point
         self.made: list[Made] = []  # the goroutines' steps, by Go's names
         self._number = 0  # of the point
-        self.calls: dict[tuple[int, Socket], list[int]] = {}  # a goroutine's last stack on a socket
+        self.calls: dict[tuple[int, LoggedSocket], list[int]] = {}  # a goroutine's last stack on a socket
         self.sockets = 0
         self.free: list[int] = []
         self.descriptors = 0
@@ -107,23 +107,23 @@ class Converter:
             made.append((number, identity, step))
             ended.append(step)
 
-    def _repeated(self, point: Point, socket: Socket) -> Repeated:
+    def _repeated(self, point: Point, socket: LoggedSocket) -> Repeated:
         self._number = point.number
         g = self.goroutine(point.goroutine)
         before = arrival(socket.number, point.b) if point.kind == READ else None
         return before, repeated_line(point, g, socket), g, self.call(point.goroutine, socket)
 
-    def call(self, identity: int, socket: Socket) -> list[int]:
+    def call(self, identity: int, socket: LoggedSocket) -> list[int]:
         """The stack of a goroutine's last call on a socket; 0 if none is known."""
         return self.calls.setdefault((identity, socket), [0])
 
-    def _others(self) -> dict[int, Callable[[Point, Socket], None]]:
+    def _others(self) -> dict[int, Callable[[Point, LoggedSocket], None]]:
         """For each kind, the function that makes the steps of a point, unless the point has a repeated line."""
         return {
-            Kind.INIT: self.socket_opens, Kind.READ: self.read, Kind.WRITE: self.write, Kind.CLOSE_WRITE: self.close_write,
-            Kind.OPEN: self.open, Kind.CLOSE: self.close, Kind.PARK: self.park, Kind.SET_DEADLINE: self.set_deadline,
-            Kind.EVICT: self.evict, Kind.EVENT: self.event, Kind.FIRE: self.fire, Kind.NAMED: self.named,
-            Kind.NOTED: self.noted, Kind.NOTED_NAMED: self.noted_name,
+            PointKind.INIT: self.socket_opens, PointKind.READ: self.read, PointKind.WRITE: self.write, PointKind.CLOSE_WRITE: self.close_write,
+            PointKind.OPEN: self.open, PointKind.CLOSE: self.close, PointKind.PARK: self.park, PointKind.SET_DEADLINE: self.set_deadline,
+            PointKind.EVICT: self.evict, PointKind.EVENT: self.event, PointKind.FIRE: self.fire, PointKind.NAMED: self.named,
+            PointKind.NOTED: self.noted, PointKind.NOTED_NAMED: self.noted_name,
         }  # fmt: skip
 
     def made_of(self) -> dict[int, int]:
@@ -143,7 +143,7 @@ class Converter:
         self.lines.append(text)
         self.stacks.append(0)
 
-    def of(self, g: int, socket: Socket, stack: int, text: Line) -> None:
+    def of(self, g: int, socket: LoggedSocket, stack: int, text: Line) -> None:
         """Adds a step of a goroutine on a socket. If its point has no stack, the step gets the stack of the goroutine's last call on the socket."""
         call = self.call(self.names[g], socket)
         if stack:
@@ -189,13 +189,13 @@ class Converter:
             self.lines.append(f'["tick",{time},"done"]')
             self.stacks.append(0)
 
-    def socket_opens(self, point: Point, socket: Socket) -> None:
+    def socket_opens(self, point: Point, socket: LoggedSocket) -> None:
         g = self.goroutine(point.goroutine)
         socket.number = self.sockets
         self.sockets += 1
         self.of(g, socket, point.stack, f'["sockopen",{BUFFER},{socket.capacity()},["number",{socket.number}]]')
 
-    def read(self, point: Point, socket: Socket) -> None:
+    def read(self, point: Point, socket: LoggedSocket) -> None:
         """Makes the steps of a read that gets no bytes, or many bytes. (A read of a few bytes is a repeated line.)"""
         g = self.goroutine(point.goroutine)
         if not can_answer(socket, point):
@@ -211,7 +211,7 @@ class Converter:
         answer = '"again"' if point.c == AGAIN else '"eof"'
         self.of(g, socket, point.stack, read_line(g, socket.number, point.a, answer))
 
-    def write(self, point: Point, socket: Socket) -> None:
+    def write(self, point: Point, socket: LoggedSocket) -> None:
         """Makes the steps of a write, unless they were made earlier because a closewrite overtook the write. If a noted closewrite overtook
         the write, makes the closewrite's steps too."""
         if point.number not in self.early:
@@ -219,7 +219,7 @@ class Converter:
             if closing := self.closings.get(point.number):
                 close_write(self, socket, closing)
 
-    def make_write(self, point: Point, socket: Socket) -> None:
+    def make_write(self, point: Point, socket: LoggedSocket) -> None:
         _, _, identity, _, asked, put, error, _, stack = point
         g, number = self.goroutine(identity), socket.number
         if put <= 0:
@@ -237,7 +237,7 @@ class Converter:
             socket.held += count
             self.of(g, socket, stack, put_line(g, number, count))
 
-    def close_write(self, point: Point, socket: Socket) -> None:
+    def close_write(self, point: Point, socket: LoggedSocket) -> None:
         """Closes the write side. Points are logged after their system calls, so an earlier write may have a later point. At most one
         write can: the next write has to wait for it. That write's goroutine was already in the call before this point.
         """
@@ -248,11 +248,11 @@ class Converter:
         socket.shut = True
         self.of(g, socket, point.stack, f'["closewrite",{g},{socket.number},"done"]')
 
-    def park(self, point: Point, socket: Socket) -> None:
+    def park(self, point: Point, socket: LoggedSocket) -> None:
         g = self.goroutine(point.goroutine)
         self.of(g, socket, 0, f'["parkcommit",{g},"{"yes" if point.b else "no"}"]')
 
-    def event(self, point: Point, socket: Socket) -> None:
+    def event(self, point: Point, socket: LoggedSocket) -> None:
         """Makes the step of an event. If the event was fetched before the descriptor was closed, it comes too late: if events have tags,
         Go reports the event; otherwise Go ignores it for a free descriptor."""
         is_stale = point.b & EVENT_STALE if point.c else not socket.is_open
@@ -260,13 +260,13 @@ class Converter:
         tag, error = socket.tag, point.b & EVENT_ERROR
         self.step(f'["pollevent",{socket.descriptor},{tag},"{mode_of(point)}",{error},"{answer}"]')
 
-    def open(self, point: Point, socket: Socket) -> None:
+    def open(self, point: Point, socket: LoggedSocket) -> None:
         g = self.goroutine(point.goroutine)
         reading, writing = self.takes_descriptor(socket)
         socket.sequences = socket.sequences[READING] - reading, socket.sequences[WRITING] - writing
         self.of(g, socket, point.stack, f'["pollopen",{g},{socket.number},["number",{socket.descriptor}]]')
 
-    def takes_descriptor(self, socket: Socket) -> tuple[int, int]:
+    def takes_descriptor(self, socket: LoggedSocket) -> tuple[int, int]:
         """Opens a descriptor for a socket, and stores Go's sequences at that time."""
         if self.free:
             socket.descriptor = self.free.pop()
@@ -278,21 +278,21 @@ class Converter:
         socket.is_open = True
         return self.deadlines.open(socket.descriptor)
 
-    def close(self, point: Point, socket: Socket) -> None:
+    def close(self, point: Point, socket: LoggedSocket) -> None:
         g = self.goroutine(point.goroutine)
         socket.is_open = False
         self.free.append(socket.descriptor)
         self.tags[socket.descriptor] += 1
         self.of(g, socket, point.stack, f'["pollclose",{g},{socket.descriptor},"done"]')
 
-    def evict(self, point: Point, socket: Socket) -> None:
+    def evict(self, point: Point, socket: LoggedSocket) -> None:
         g = self.goroutine(point.goroutine)
         for side in (READING, WRITING):
             self.pop_what_fires(socket, side)
         self.deadlines.evict(socket.descriptor)
         self.of(g, socket, point.stack, f'["evict",{g},{socket.descriptor},"done"]')
 
-    def set_deadline(self, point: Point, socket: Socket) -> None:
+    def set_deadline(self, point: Point, socket: LoggedSocket) -> None:
         """The deadline is exactly Go's, even if another processor read a later time before this point was logged."""
         _, _, identity, _, _, time, _, passed, stack = point
         g, mode, number = self.goroutine(identity), mode_of(point), socket.descriptor
@@ -309,7 +309,7 @@ class Converter:
         self.deadlines.set(number, mode, ends, changes=changes if ends == first else None)
         self.of(g, socket, stack, f'["setdeadline",{g},{number},"{mode}",{time},"done"]')
 
-    def pop_what_fires(self, socket: Socket, side: int) -> None:
+    def pop_what_fires(self, socket: LoggedSocket, side: int) -> None:
         """Pops a timer before it is stopped or reset, if a later point shows that the timer fired: it had already left Go's heap."""
         timer = self.deadlines.armed(socket.descriptor, side)
         if timer and (socket, side, timer.sequence + socket.sequences[side]) in self.later_fires:
@@ -325,7 +325,7 @@ class Converter:
         """The side and the sequence of a firing; the read side if the timer is for both."""
         return (READING if point.b & CURRENT_READ else WRITING), point.a
 
-    def fire(self, point: Point, socket: Socket) -> None:
+    def fire(self, point: Point, socket: LoggedSocket) -> None:
         side, sequence = self.firing(point)
         sequence -= socket.sequences[side]
         now = point.time - self.begin
@@ -342,22 +342,22 @@ class Converter:
         self.deadlines.fire(place, sides)
         self.step(f'["fire",{place},"{"stale" if point.b & STALE else "done"}"]')
 
-    def named(self, point: Point, socket: Socket) -> None:
+    def named(self, point: Point, socket: LoggedSocket) -> None:
         self.beside.named(socket.number, point, self.last_steps[self.goroutine(point.goroutine)] if point.c else 0)
 
-    def noted(self, point: Point, socket: Socket) -> None:
+    def noted(self, point: Point, socket: LoggedSocket) -> None:
         """Makes the steps that bring a socket into its noted state. At the first note, the clock advances to the note's time, but not past a
         deadline that these steps will set. The steps of later notes advance the clock too. Until the last note,
         the clock lags Go's by the time that the steps of the remaining notes will add. So deadlines set between the
         notes equal Go's."""
         if not self.clock:
-            sockets = {socket for one, socket in self.points if one.kind == Kind.NOTED}
+            sockets = {socket for one, socket in self.points if one.kind == PointKind.NOTED}
             dues = [due - 1 for socket in sockets if socket.note for due in socket.note.deadlines if due > 0]
             self.go_on_to(min([point.time, *dues]) - self.begin - self.behind)
         lead(self, socket)
         self.behind -= passing(socket.leads)
 
-    def noted_name(self, point: Point, socket: Socket) -> None:
+    def noted_name(self, point: Point, socket: LoggedSocket) -> None:
         if point.c != OF_UNIX:  # (goroutines pair the ends of Unix sockets)
             self.beside.named(socket.number, point)
 

@@ -15,7 +15,7 @@ from netrev_go.go_command.line_reader import line_reader
 from netrev_go.go_command.outputs import LINES, WORDS
 from netrev_go.go_command.toolchain import Go
 from netrev_go.log.goroutines import Goroutines
-from netrev_go.log.lines import Calls, Roots, lines_of
+from netrev_go.log.lines import Calls, SourceRoots, lines_of
 from netrev_go.log.logfile import NotALogError, read_log
 from netrev_go.log.points import Log
 from netrev_go.log.ran import Ran, Tests, of_log
@@ -23,7 +23,16 @@ from netrev_go.log.sockets import MOST_MEGABYTES, MOST_SOCKETS
 
 from .cutting import goroutines_of, sockets_of
 from .goroutine_lines import Everybody, kept
-from .making import NoSocketError, NothingRecordedError, Part, Recording, UnconvertibleError, make, write, write_words
+from .making import (
+    NoSocketError,
+    NothingRecordedError,
+    Part,
+    NewRecording,
+    UnconvertibleError,
+    make,
+    write,
+    write_words,
+)
 from .report import Hear, Outcome, report, unheard
 from .where import STEPS_A_LINE, write_where
 
@@ -31,7 +40,7 @@ PROCESS = re.compile(r"(\.\d+){1,2}(\.snapshot)?\Z")
 
 
 @dataclass(frozen=True)
-class Wish:
+class RecordingOptions:
     """The recording that is requested from a log."""
 
     sockets: int = MOST_SOCKETS
@@ -60,7 +69,7 @@ def convert(
     log: pathlib.Path,
     name: pathlib.Path,
     go: Go | None,
-    wish: Wish,
+    wish: RecordingOptions,
     known: list[object] | None = None,
     hear: Hear = unheard,
     is_written: bool = False,
@@ -79,7 +88,7 @@ def converted(
     read: ReadLog,
     name: pathlib.Path,
     go: Go | None,
-    wish: Wish,
+    wish: RecordingOptions,
     test: Ran | None = None,
     known: list[object] | None = None,
     hear: Hear = unheard,
@@ -105,7 +114,7 @@ def converted(
         found = goroutines_of(test, found, read.tests.ran, recording.numbers)
     calls = {}
     if go:
-        roots = Roots(go.sources(), pathlib.Path.cwd())
+        roots = SourceRoots(go.sources(), pathlib.Path.cwd())
         used = set(recording.stacks) | found.stacks()
         calls = lines_of(log, used, program_of(read.path, log.program), line_reader(go), roots)
     has_lines = any(known.calls for known in calls.values())
@@ -121,7 +130,7 @@ def converted(
     return report(recording, name, calls, wish.failed, hear)
 
 
-def everybody_of(recording: Recording, found: Goroutines, calls: dict[int, Calls]) -> Everybody | None:
+def everybody_of(recording: NewRecording, found: Goroutines, calls: dict[int, Calls]) -> Everybody | None:
     """All goroutines, as NAME.where has them; None if the log has no data about their waits and uses."""
     if not (found.parks or found.uses):
         return None
@@ -130,7 +139,7 @@ def everybody_of(recording: Recording, found: Goroutines, calls: dict[int, Calls
     return Everybody(found, kept(found, recording.numbers, calls), recording.numbers, stacks)
 
 
-def of_tests(recording: Recording, tests: Tests) -> list[dict[str, object]]:
+def of_tests(recording: NewRecording, tests: Tests) -> list[dict[str, object]]:
     """More lines for NAME.where: the greatest number of bytes that a read or a write counts, and the steps between which each test ran."""
     more: list[dict[str, object]] = [] if recording.bytes is None else [{"bytes": recording.bytes}]
     if recording.prelude:

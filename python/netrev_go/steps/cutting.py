@@ -6,9 +6,9 @@ from __future__ import annotations
 from collections.abc import Iterable, Mapping
 
 from netrev_go.log.goroutines import Goroutines
-from netrev_go.log.points import Kind, Log
+from netrev_go.log.points import PointKind, Log
 from netrev_go.log.ran import Ran
-from netrev_go.log.sockets import Owned, Socket
+from netrev_go.log.sockets import Owned, LoggedSocket
 
 MADE = 1  # in a READY point: the goroutine started another one, instead of waking it
 
@@ -31,15 +31,15 @@ class Makers:
         return self.tests[goroutine]
 
 
-def sockets_of(test: Ran, log: Log, found: Owned, tests: list[Ran]) -> list[Socket]:
+def sockets_of(test: Ran, log: Log, found: Owned, tests: list[Ran]) -> list[LoggedSocket]:
     """The sockets of one test."""
-    made_by = {point.a: point.goroutine for point in log.points if point.kind == Kind.READY and point.b == MADE}
+    made_by = {point.a: point.goroutine for point in log.points if point.kind == PointKind.READY and point.b == MADE}
     makers = Makers(made_by, tests)
     opened = {socket: makers.test_of(socket.opener) for socket in found.sockets}
     end = test.ended if test.ended is not None else log.points[-1].number + 1 if log.points else 0
     used = {socket for point, socket in found.points if test.began <= point.number < end}
 
-    def is_of(socket: Socket) -> bool:
+    def is_of(socket: LoggedSocket) -> bool:
         owner = opened[socket]
         if owner is not None and (owner is test or owner.is_below(test)):
             return True

@@ -11,7 +11,7 @@ from itertools import compress
 
 from netrev_go.log.beside import address_words
 
-from netrev_go.log.goroutines import ADDED, CONDITION, DONE, MUTEX, OF_A_WAIT_GROUP, OTHER, READ_LOCK, ROOM, SEMAPHORE, UNENDED, VALUE, WAIT_GROUP, WRITE_LOCK, FailedDial, Goroutines, Held, Park, Span, Timer, Used  # fmt: skip
+from netrev_go.log.goroutines import ADDED, CONDITION, DONE, MUTEX, OF_A_WAIT_GROUP, OTHER, READ_LOCK, ROOM, SEMAPHORE, UNENDED, VALUE, WAIT_GROUP, WRITE_LOCK, LoggedDial, Goroutines, LoggedMutex, LoggedPark, UseSpan, LoggedTimer, Used  # fmt: skip
 from netrev_go.log.lines import OF_GO, OF_THE_PROGRAM, Calls
 
 MOST = 2**16  # the greatest number of entries kept in each list: waits, uses of channels, timers, goroutines
@@ -68,15 +68,15 @@ def semaphore_at(what: int, found: int, calls: Calls | None) -> int:
 
 
 @dataclass
-class Kept:
+class KeptData:
     """The data to keep: waits, uses, timers, failed connects, the locked mutexes (None if unknown), and how many waits were left out, by
     reason, stack, and whether they have ended."""
 
-    parks: list[Park] = field(default_factory=list)
-    uses: list[tuple[Used, Span]] = field(default_factory=list)
-    timers: list[Timer] = field(default_factory=list)
-    dials: list[FailedDial] = field(default_factory=list)
-    held: list[Held] | None = None
+    parks: list[LoggedPark] = field(default_factory=list)
+    uses: list[tuple[Used, UseSpan]] = field(default_factory=list)
+    timers: list[LoggedTimer] = field(default_factory=list)
+    dials: list[LoggedDial] = field(default_factory=list)
+    held: list[LoggedMutex] | None = None
     left: Counter[tuple[int, int, bool]] = field(default_factory=Counter)
 
 
@@ -95,7 +95,7 @@ def newest(waits: list[bool], most: int) -> Iterator[bool]:
             yield too_old < 0
 
 
-def kept(found: Goroutines, numbers: dict[int, int], calls: dict[int, Calls], most: int = MOST) -> Kept:
+def kept(found: Goroutines, numbers: dict[int, int], calls: dict[int, Calls], most: int = MOST) -> KeptData:
     """The data to keep about all goroutines: actions of recorded goroutines, and actions with a line of the program on their stack, or in a
     goroutine that the program started. If no lines are known, everything is kept."""
     of_program = {
@@ -108,7 +108,7 @@ def kept(found: Goroutines, numbers: dict[int, int], calls: dict[int, Calls], mo
     def is_concerned(goroutine: int, stack: int) -> bool:
         return not knows or goroutine in numbers or stack in of_program
 
-    made = Kept()
+    made = KeptData()
     parks = [park for park in found.parks if is_concerned(park.goroutine, park.stack)]
     choice = list(newest([park.last == UNENDED for park in parks], most))
     made.parks = list(compress(parks, choice))
@@ -173,7 +173,7 @@ class Everybody:
     """All goroutines, as the file has them."""
 
     found: Goroutines
-    kept: Kept
+    kept: KeptData
     numbers: dict[int, int]  # the recording's number for each goroutine, by Go's number
     last_stacks: dict[int, int]  # the last stack of each goroutine in the recording, by Go's number
 
@@ -232,7 +232,7 @@ class Everybody:
         return objects.number(use.address, CHANNEL)
 
     @staticmethod
-    def park(park: Park, calls: Calls | None, objects: Objects, stack: int) -> tuple[object, ...]:
+    def park(park: LoggedPark, calls: Calls | None, objects: Objects, stack: int) -> tuple[object, ...]:
         """A wait in the file's form."""
         found = waited_for(park.what, calls)
         back = semaphore_at(park.what, found, calls)

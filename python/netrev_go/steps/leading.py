@@ -9,7 +9,7 @@ from netrev.errors import NetrevError
 from netrev.machine.deadlines import READING, WRITING
 from netrev.machine.polling import deadline_of
 from netrev_go.log.prelude import Lead, UnreachableStateError, relative, spelled
-from netrev_go.log.sockets import BUFFER, Socket
+from netrev_go.log.sockets import BUFFER, LoggedSocket
 
 from .zeros import Line, written
 
@@ -22,12 +22,12 @@ of_json = json.JSONEncoder(separators=(",", ":")).encode
 class LatePreludeError(NetrevError):
     """The clock is too late for a socket: its deadline has passed, and its timer hasn't run."""
 
-    def __init__(self, socket: Socket, why: str) -> None:
+    def __init__(self, socket: LoggedSocket, why: str) -> None:
         super().__init__(why)
         self.opening = socket.opening
 
 
-def lead(converter: Converter, socket: Socket) -> None:
+def lead(converter: Converter, socket: LoggedSocket) -> None:
     """Makes the steps that lead to the noted state of a socket."""
     soon = converter.clock
     for step in socket.leads:
@@ -60,14 +60,14 @@ def lead(converter: Converter, socket: Socket) -> None:
     socket.sequences = socket.note.sequences[READING] - reading, socket.note.sequences[WRITING] - writing
 
 
-def is_written_later(socket: Socket) -> bool:
+def is_written_later(socket: LoggedSocket) -> bool:
     """Whether the point of a write comes after the note although the write came before it. If the write side was closed by the time of the
     note, the write was made before that."""
     assert socket.note
     return socket.last_write is not None and socket.last_write.number > socket.note.number
 
 
-def close_write(converter: Converter, socket: Socket, step: Lead) -> None:
+def close_write(converter: Converter, socket: LoggedSocket, step: Lead) -> None:
     """Adds the step that closes the write side of a socket that was noted as shut."""
     socket.shut = True
     g = converter.goroutine(step.goroutine)
@@ -79,7 +79,7 @@ def answer_of(step: Lead) -> object:
     return step.answer[0] if len(step.answer) == 1 else list(step.answer)
 
 
-def put(converter: Converter, socket: Socket, step: Lead, g: int, line: Line) -> None:
+def put(converter: Converter, socket: LoggedSocket, step: Lead, g: int, line: Line) -> None:
     """Adds a step of a goroutine, with its stack. The step isn't used to order the program's steps."""
     converter.lines.append(line)
     converter.stacks.append(step.stack)
@@ -88,7 +88,7 @@ def put(converter: Converter, socket: Socket, step: Lead, g: int, line: Line) ->
         converter.call(step.goroutine, socket)[0] = step.stack
 
 
-def set_deadline(converter: Converter, socket: Socket, step: Lead, g: int) -> int:
+def set_deadline(converter: Converter, socket: LoggedSocket, step: Lead, g: int) -> int:
     """Sets a noted deadline, or a deadline that passes soon, and returns the time at which it passes."""
     mode, deadline = step.arguments
     if step.kind == "soon":
@@ -104,7 +104,7 @@ def set_deadline(converter: Converter, socket: Socket, step: Lead, g: int) -> in
     return ends if step.kind == "soon" else 0
 
 
-def passes(converter: Converter, socket: Socket, side: int, soon: int) -> None:
+def passes(converter: Converter, socket: LoggedSocket, side: int, soon: int) -> None:
     """Lets a deadline pass and its timer's function run."""
     timer = converter.deadlines.armed(socket.descriptor, side)
     converter.go_on_to(soon)

@@ -18,10 +18,10 @@ from netrev_go.log.goroutines import CONCERNED, Goroutines, goroutines_of
 from netrev_go.log.lifetimes import ENDS, Lifetimes, lifetimes_of
 from netrev_go.log.notes import spans
 from netrev_go.log.orders import Made, orders_of
-from netrev_go.log.points import AT_A_SOCKET, LOCKING, NOTING, ORDERING, Kind, Log, Point
+from netrev_go.log.points import AT_A_SOCKET, LOCKING, NOTING, ORDERING, PointKind, Log, Point
 from netrev_go.log.prelude import NOBODY
 
-from netrev_go.log.sockets import FEW_BYTES, MOST_GOROUTINES, MOST_MEGABYTES, MOST_SOCKETS, MOST_STEPS, POINT, Owned, Socket, chosen, lead_to, owned  # fmt: skip
+from netrev_go.log.sockets import FEW_BYTES, MOST_GOROUTINES, MOST_MEGABYTES, MOST_SOCKETS, MOST_STEPS, POINT, Owned, LoggedSocket, chosen, lead_to, owned  # fmt: skip
 from netrev_go.log.times import times_of
 from netrev_go.log.waits import waits_of
 
@@ -42,7 +42,7 @@ class NoSocketError(NothingRecordedError):
 
 
 @dataclass
-class Recording:
+class NewRecording:
     """A recording that isn't written yet."""
 
     header: str
@@ -57,7 +57,7 @@ class Recording:
     bytes: int | None = None  # the limit for the count of a read or a write, if one moved more bytes
     made: list[Made] = field(default_factory=list)  # the goroutines' steps
     times: list[int] | None = None  # the time of each step since the log began; None if the log has no times
-    points: list[tuple[Point, Socket]] = field(default_factory=list)
+    points: list[tuple[Point, LoggedSocket]] = field(default_factory=list)
     ended: list[int] = field(default_factory=list)  # the number of steps after each point
     everybody: Goroutines = field(default_factory=Goroutines)  # also goroutines without a step
     numbers: dict[int, int] = field(default_factory=dict)  # the recording's goroutines, by Go's numbers
@@ -77,12 +77,12 @@ class Recording:
         """The earlier value of each of these lock words."""
         return [point.a for point, _, _ in self._locks()]
 
-    def _locks(self) -> Iterator[tuple[Point, Socket, int]]:
+    def _locks(self) -> Iterator[tuple[Point, LoggedSocket, int]]:
         """The points that changed a lock word, each with its step."""
         return ((*pair, step) for pair, step in zip(self.points, self.ended) if pair[0].kind in LOCKING)
 
 
-Part = Callable[[Log, Owned], list[Socket]]
+Part = Callable[[Log, Owned], list[LoggedSocket]]
 ENDING = frozenset((ENDS,))
 AT_ONCE = 1_024  # lines that are written together
 
@@ -94,7 +94,7 @@ def make(
     all_bytes: bool = True,
     part: Part | None = None,
     first: int = 0,
-) -> Recording:
+) -> NewRecording:
     """The recording of a log's newest sockets, or of the sockets that `part` chooses: at most `most` sockets, and at most `megabytes` of
     text for their bytes. A socket whose lock word has the address `first` is kept before all others."""
     window = window_of(log, all_bytes)
@@ -127,17 +127,17 @@ def make(
         for (point, socket), step in zip(converter.points, converter.ended)
         if socket.whole and step and (size := socket.whole.get(point.number))
     ]  # fmt: skip
-    return Recording(
+    return NewRecording(
         converter.header(), converter.lines, converter.stacks,
         len(converter.goroutines) - (NOBODY in converter.goroutines), converter.last_steps, converter.sockets, orders, notes,
         converter.beside, FEW_BYTES if found.cut else None, converter.made,
         times_of(map(POINT, converter.points), converter.ended, log.begin), converter.points, converter.ended,
-        everybody, numbers, prelude, any(point.kind == Kind.EVENT and point.c for point, _ in converter.points), converter.taken,
+        everybody, numbers, prelude, any(point.kind == PointKind.EVENT and point.c for point, _ in converter.points), converter.taken,
     )  # fmt: skip
 
 
 @dataclass
-class Window:
+class PointWindow:
     """The points of a recording: all points of sockets, or those from the first complete notes on."""
 
     found: Owned
@@ -145,16 +145,16 @@ class Window:
     notes: list[str] = field(default_factory=list)
 
 
-def window_of(log: Log, all_bytes: bool) -> Window:
+def window_of(log: Log, all_bytes: bool) -> PointWindow:
     """If the log lacks its first points, the points that begin with the first complete notes; otherwise all points."""
     noted = [] if log.from_the_start else spans(log.of_kinds(NOTING))
     if not noted:
-        return Window(owned(list(log.of_kinds(AT_A_SOCKET)), all_bytes))
+        return PointWindow(owned(list(log.of_kinds(AT_A_SOCKET)), all_bytes))
     begin, end = noted[0]
     points = [point for point in log.of_kinds(AT_A_SOCKET | NOTING) if point.number >= begin]
     found = owned(points, all_bytes)
     left_out = lead_to(found.sockets, log.begin)
-    return Window(found, end, [lacks(*one) for one in left_out.items()])
+    return PointWindow(found, end, [lacks(*one) for one in left_out.items()])
 
 
 def lacks(why: str, number: int) -> str:
@@ -173,7 +173,7 @@ def owners_of(converter: Converter) -> tuple[dict[int, int], dict[int, int]]:
 class Fitted:
     """The sockets that fit; their steps are counted exactly if an estimate isn't enough."""
 
-    def __init__(self, found: Owned, wanted: list[Socket], ends: list[Point], first: int = 0) -> None:
+    def __init__(self, found: Owned, wanted: list[LoggedSocket], ends: list[Point], first: int = 0) -> None:
         self.found = found
         self.first = first
         self.ends = ends
@@ -220,7 +220,7 @@ class Fitted:
         for socket, before in zip(self.found.sockets, self.before):
             vars(socket).update(before)
 
-    def chosen(self, most: int, megabytes: int, room: int) -> list[tuple[Point, Socket]]:
+    def chosen(self, most: int, megabytes: int, room: int) -> list[tuple[Point, LoggedSocket]]:
         """The points of the sockets that may fit."""
         wanted = [socket for socket in self.found.sockets if socket.opening in self.wanted]
         kept = chosen(wanted, most, megabytes, room, self.at_once, self.first)
@@ -231,7 +231,7 @@ class Fitted:
         return [pair for pair in self.found.points if pair[1] in kept]
 
 
-def write(recording: Recording, name: pathlib.Path) -> None:
+def write(recording: NewRecording, name: pathlib.Path) -> None:
     """Writes the recording atomically; raises an OSError that names the file if that fails."""
     with whole(name) as file:
         file.write(recording.header + "\n")
@@ -239,11 +239,19 @@ def write(recording: Recording, name: pathlib.Path) -> None:
             file.write("\n".join(map(str, recording.lines[first : first + AT_ONCE])) + "\n")
 
 
-def write_words(recording: Recording, name: pathlib.Path) -> None:
+def write_words(recording: NewRecording, name: pathlib.Path) -> None:
     """Writes Go's lock words, a line of JSON for each: the step before, the cell, and the value."""
     with whole(name) as file:
         for step, socket, word in recording.words:
             file.write(json.dumps([step, f"lock {socket}", str(word % 2**64)]) + "\n")
 
 
-__all__ = ["NoSocketError", "NothingRecordedError", "Recording", "UnconvertibleError", "make", "write", "write_words"]
+__all__ = [
+    "NoSocketError",
+    "NothingRecordedError",
+    "NewRecording",
+    "UnconvertibleError",
+    "make",
+    "write",
+    "write_words",
+]

@@ -4,25 +4,25 @@ points are like this."""
 from __future__ import annotations
 
 from netrev_go.log.answering import lock_answer, side_of
-from netrev_go.log.points import Kind, Point
-from netrev_go.log.sockets import BUFFER, Socket
+from netrev_go.log.points import PointKind, Point
+from netrev_go.log.sockets import BUFFER, LoggedSocket
 
 LOCK_STEPS: dict[int, str] = {
-    Kind.INCREF: "incref",
-    Kind.INCREF_CLOSE: "increfclose",
-    Kind.DECREF: "decref",
-    Kind.RW_LOCK: "rwlock",
-    Kind.RW_UNLOCK: "rwunlock",
+    PointKind.INCREF: "incref",
+    PointKind.INCREF_CLOSE: "increfclose",
+    PointKind.DECREF: "decref",
+    PointKind.RW_LOCK: "rwlock",
+    PointKind.RW_UNLOCK: "rwunlock",
 }
-SIDED = {int(Kind.RW_LOCK), int(Kind.RW_UNLOCK)}
+SIDED = {int(PointKind.RW_LOCK), int(PointKind.RW_UNLOCK)}
 CHECKS: dict[int, str] = {
-    Kind.RESET: "pollreset",
-    Kind.WAIT_BEGIN: "waitbegin",
-    Kind.CHECK: "blockcheck",
-    Kind.WAIT_CHECK: "waitcheck",
+    PointKind.RESET: "pollreset",
+    PointKind.WAIT_BEGIN: "waitbegin",
+    PointKind.CHECK: "blockcheck",
+    PointKind.WAIT_CHECK: "waitcheck",
 }
-OF_ONE_SIDE = {int(Kind.RESET), int(Kind.WAIT_BEGIN)}
-REPEATED = frozenset(map(int, (*CHECKS, Kind.ACQUIRE, Kind.RELEASE, Kind.ARM, Kind.SWAP)))
+OF_ONE_SIDE = {int(PointKind.RESET), int(PointKind.WAIT_BEGIN)}
+REPEATED = frozenset(map(int, (*CHECKS, PointKind.ACQUIRE, PointKind.RELEASE, PointKind.ARM, PointKind.SWAP)))
 
 
 def read_line(g: int, socket: int, asked: int, answer: str) -> str:
@@ -30,7 +30,7 @@ def read_line(g: int, socket: int, asked: int, answer: str) -> str:
     return f'["sysread",{g},{socket},{min(max(asked, 1), BUFFER)},{answer}]'
 
 
-def repeated_line(point: Point, g: int, socket: Socket) -> str:
+def repeated_line(point: Point, g: int, socket: LoggedSocket) -> str:
     """The line for such a point, logged by the goroutine with this number for its socket."""
     kind = point.kind
     if kind in LOCK_STEPS:
@@ -40,13 +40,13 @@ def repeated_line(point: Point, g: int, socket: Socket) -> str:
     if kind in CHECKS:
         where = f',{socket.descriptor},"{side_of(point)}"' if kind in OF_ONE_SIDE else ""
         return f'["{CHECKS[kind]}",{g}{where},["code",{point.b}]]'
-    if kind == Kind.READ:
+    if kind == PointKind.READ:
         return read_line(g, socket.number, point.a, f'["got",{point.b}]')
-    if kind == Kind.ACQUIRE:
+    if kind == PointKind.ACQUIRE:
         return f'["acquire",{g},"{"yes" if point.a else "wait"}"]'
-    if kind == Kind.RELEASE:
+    if kind == PointKind.RELEASE:
         return f'["release",{g},"done"]'
-    if kind == Kind.ARM:
+    if kind == PointKind.ARM:
         answer = '["code",0]' if point.b else '"wait"'
         return f'["blockarm",{g},{answer}]'
     return f'["blockswap",{g},"{"yes" if point.b else "no"}"]'

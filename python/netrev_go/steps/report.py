@@ -19,10 +19,10 @@ from netrev.system.command_lines import command_line, file_word, how_to_get_netr
 from netrev.system.time_limits import LateError
 from netrev.text.plain import plain
 from netrev.text.plurals import counted
-from netrev_go.log.lines import OF_GO, Call, Calls
+from netrev_go.log.lines import OF_GO, LineCall, Calls
 
 from .analysis import Analysis, hanging, never_closed
-from .making import Recording
+from .making import NewRecording
 from .where import own_line
 
 MOST_TOLD, MOST_SUSPECTS = 20, 12
@@ -71,7 +71,7 @@ def in_words(status: str) -> str:
     return WAITS.get(side, "waits")
 
 
-def short(call: Call) -> str:
+def short(call: LineCall) -> str:
     """A call's file and line."""
     return plain(f"{call.file}:{call.line}")
 
@@ -102,12 +102,14 @@ def wait_of(g: int, status: str, last: int, since: str, calls: Calls | None) -> 
     return Finding(Kind.WAIT, (words,), Place(own[0].file, own[0].line) if own else None, (last,), (Name(g),))
 
 
-def since_words(recording: Recording, step: int) -> str:
+def since_words(recording: NewRecording, step: int) -> str:
     """The text that says how long a goroutine has waited, given its last step."""
     return f"step {step}" if step > recording.prelude else "before the recording begins"
 
 
-def waits_of(recording: Recording, calls: dict[int, Calls], waiting: dict[int, str]) -> tuple[list[Finding], list[str]]:
+def waits_of(
+    recording: NewRecording, calls: dict[int, Calls], waiting: dict[int, str]
+) -> tuple[list[Finding], list[str]]:
     """The findings about hanging goroutines, first those with a line of the program, and lines about those that are left out."""
 
     def calls_of(g: int) -> Calls | None:
@@ -154,7 +156,7 @@ def computed(compute: Callable[[], Result], nothing: Result, line: str) -> tuple
 class Report:
     """The report about a recording."""
 
-    def __init__(self, recording: Recording, name: pathlib.Path, calls: dict[int, Calls], hear: Hear) -> None:
+    def __init__(self, recording: NewRecording, name: pathlib.Path, calls: dict[int, Calls], hear: Hear) -> None:
         self._recording, self._name, self._calls, self._hear = recording, name, calls, hear
         self.lines: list[str] = []
         self.shown: list[Shown] = []
@@ -236,7 +238,7 @@ def shown_suspects(suspects: list[Finding]) -> list[Shown]:
 
 
 def report(
-    recording: Recording,
+    recording: NewRecording,
     name: pathlib.Path,
     calls: dict[int, Calls],
     failed: bool = False,

@@ -8,7 +8,7 @@ from collections.abc import Iterable, Sequence
 
 from netrev.text.files import written_whole
 from netrev_go.log.beside import Beside
-from netrev_go.log.lines import OF_A_LIBRARY, OF_THE_PROGRAM, Call, Calls
+from netrev_go.log.lines import OF_A_LIBRARY, OF_THE_PROGRAM, LineCall, Calls
 from netrev_go.log.orders import parts
 from netrev_go.log.times import deltas
 
@@ -19,19 +19,19 @@ of_json = json.JSONEncoder(separators=(",", ":")).encode
 Order = tuple[int, int]
 
 
-class Numbered:
+class NumberedLines:
     """The lines of the file: each call and each stack once, numbered from 1 in the order of their first use."""
 
     def __init__(self, calls: dict[int, Calls]) -> None:
         self.stacks = calls
         self.lines: list[str] = []
-        self.calls: dict[Call, int] = {}
+        self.calls: dict[LineCall, int] = {}
         self.numbers: dict[int, int] = {}
 
     def add(self, value: object) -> None:
         self.lines.append(of_json(value) + "\n")
 
-    def call(self, call: Call) -> int:
+    def call(self, call: LineCall) -> int:
         if call not in self.calls:
             self.calls[call] = len(self.calls) + 1
             self.add({"call": self.calls[call], **call._asdict()})
@@ -67,7 +67,7 @@ def write_where(
 ) -> None:
     """Writes the file of a recording whose steps have these stacks and orders, with the log's other facts, further lines, the steps' times,
     and all goroutines."""
-    numbered = Numbered(calls)
+    numbered = NumberedLines(calls)
     numbered.add({"where": 1 if everybody is None else 2, "steps": len(stacks)})
     number_of = {key: str(numbered.stack(key)) for key in dict.fromkeys(stacks)}.__getitem__
     for first in range(0, len(stacks), STEPS_A_LINE):
@@ -98,7 +98,7 @@ def write_where(
     written_whole(name, "".join(numbered.lines).encode("ascii"))
 
 
-def own_line(calls: Calls) -> tuple[Call, str] | None:
+def own_line(calls: Calls) -> tuple[LineCall, str] | None:
     """The innermost line of the program, or else of a library, and the function called there."""
     for wanted in ((OF_THE_PROGRAM,), (OF_THE_PROGRAM, OF_A_LIBRARY)):
         inner = ""

@@ -18,11 +18,11 @@ from netrev.text.plain import plain
 from . import breakpoints, looks
 from .hearing import CANCEL, Source
 from .moving import Stop, text_of
-from .target import Launch, Target
+from .target import Launch, DebugTarget
 from .view.capabilities import CAPABILITIES
 from .view.debuggee import debuggee
 from .view.looking import maker_of, thread_of
-from .view.messages import Body, EditorGoneError, Request, UnanswerableError, Wire
+from .view.messages import Body, EditorGoneError, Request, UnanswerableError, EditorStreams
 from .view.numbering import Numbering
 from .working import Work
 
@@ -34,7 +34,7 @@ def shown(text: str) -> str:
     return "\n".join(plain(line) for line in text.split("\n"))
 
 
-class Outcome(NamedTuple):
+class Response(NamedTuple):
     """The result of a request: the body of its response. After the response, the adapter reports a stop, an event, or
     the end of the session."""
 
@@ -47,13 +47,13 @@ class Outcome(NamedTuple):
 class Adapter:
     """Serves one editor, whose requests come from `source`. No message can change `program`, the path of netrev."""
 
-    def __init__(self, wire: Wire, source: Source, program: str):
+    def __init__(self, wire: EditorStreams, source: Source, program: str):
         self._wire, self._source, self._program = wire, source, program
         self._opened, self._interrupts, self._shows_progress = ExitStack(), Interrupts(), False
-        self._target_or_none: Optional[Target] = None
+        self._target_or_none: Optional[DebugTarget] = None
         self._numbering = Numbering()
         of_target = self._of_target
-        self._answers: dict[str, Callable[[Request], Outcome]] = {
+        self._answers: dict[str, Callable[[Request], Response]] = {
             "initialize": self._initialize, "launch": self._launch, "attach": self._attach,
             "configurationDone": self._configured, "terminate": self._terminate, "disconnect": self._disconnect,
             "restart": self._restart, "continue": self._continue, "reverseContinue": self._reverse_continue,
@@ -122,7 +122,7 @@ class Adapter:
             if outcome.ends:
                 self._close()
 
-    def _worked(self, request: Request, work: Work) -> Outcome:
+    def _worked(self, request: Request, work: Work) -> Response:
         """The result of a request. While nrdb works on the request, a thread reads the editor's messages."""
         if self._source.ends(request):
             raise SearchInterruptedError
@@ -146,7 +146,7 @@ class Adapter:
         if work.refuses(why):
             self._stopped(Stop("pause", why))
 
-    def _outcome(self, request: Request) -> Outcome:
+    def _outcome(self, request: Request) -> Response:
         """The outcome of a request; raises UnanswerableError if the request fails."""
         answer = self._answers.get(request.command)
         if answer is None:
@@ -160,14 +160,14 @@ class Adapter:
             raise UnanswerableError(str(wrong)) from None
 
     @property
-    def _target(self) -> Target:
+    def _target(self) -> DebugTarget:
         if self._target_or_none is None:
             raise UnanswerableError(texts.LAUNCH_FIRST)
         return self._target_or_none
 
-    def _of_target(self, answer: Callable[[Target, Numbering, Request], Body]) -> Callable[[Request], Outcome]:
+    def _of_target(self, answer: Callable[[DebugTarget, Numbering, Request], Body]) -> Callable[[Request], Response]:
         """The answer to a request that needs an open recording and moves nothing."""
-        return lambda request: Outcome(answer(self._target, self._numbering, request))
+        return lambda request: Response(answer(self._target, self._numbering, request))
 
     def _stopped(self, stop: Stop) -> None:
         """Reports a new position, and the reason for the stop."""
@@ -198,18 +198,18 @@ class Adapter:
 
     # --- the beginning and the end
 
-    def _initialize(self, request: Request) -> Outcome:
+    def _initialize(self, request: Request) -> Response:
         self._numbering = Numbering(0 if request.arguments.get("linesStartAt1") is False else 1)
         self._shows_progress = request.arguments.get("supportsProgressReporting") is True
-        return Outcome(CAPABILITIES)
+        return Response(CAPABILITIES)
 
-    def _launch(self, request: Request) -> Outcome:
+    def _launch(self, request: Request) -> Response:
         return self._begin(Launch.of(request))
 
-    def _attach(self, request: Request) -> Outcome:
+    def _attach(self, request: Request) -> Response:
         return self._begin(Launch.of_attach(request))
 
-    def _begin(self, launch: Launch) -> Outcome:
+    def _begin(self, launch: Launch) -> Response:
         self._close()
         debugged = self._opened.enter_context(
             debuggee(self._program, launch.recording, self._interrupts, launch.address)
@@ -219,55 +219,55 @@ class Adapter:
             self._console(f"| {plain(debugged.recording.lines.why_unused(launch.recording))}\n")
         if words := begin_words(debugged.recording):
             self._console(f"| {words}\n")
-        self._target_or_none = Target(debugged, launch, self._interrupts)
+        self._target_or_none = DebugTarget(debugged, launch, self._interrupts)
         self._target.stop = self._target.moves.goto(launch.position(debugged), "entry")
-        return Outcome(event="initialized")
+        return Response(event="initialized")
 
-    def _cancel(self, request: Request) -> Outcome:
-        return Outcome()  # (the cancelled work was stopped when the request arrived, or has finished)
+    def _cancel(self, request: Request) -> Response:
+        return Response()  # (the cancelled work was stopped when the request arrived, or has finished)
 
-    def _configured(self, request: Request) -> Outcome:
-        return Outcome(stop=self._target.stop)
+    def _configured(self, request: Request) -> Response:
+        return Response(stop=self._target.stop)
 
-    def _restart(self, request: Request) -> Outcome:
-        return Outcome(stop=self._target.moves.goto(begins_at(self._target.debuggee.recording), "entry"))
+    def _restart(self, request: Request) -> Response:
+        return Response(stop=self._target.moves.goto(begins_at(self._target.debuggee.recording), "entry"))
 
-    def _terminate(self, request: Request) -> Outcome:
-        return Outcome(event="terminated", ends=True)
+    def _terminate(self, request: Request) -> Response:
+        return Response(event="terminated", ends=True)
 
-    def _disconnect(self, request: Request) -> Outcome:
-        return Outcome(ends=True)
+    def _disconnect(self, request: Request) -> Response:
+        return Response(ends=True)
 
     # --- moves
 
-    def _continue(self, request: Request) -> Outcome:
-        return Outcome({"allThreadsContinued": True}, self._target.moves.run(True))
+    def _continue(self, request: Request) -> Response:
+        return Response({"allThreadsContinued": True}, self._target.moves.run(True))
 
-    def _reverse_continue(self, request: Request) -> Outcome:
-        return Outcome({}, self._target.moves.run(False))
+    def _reverse_continue(self, request: Request) -> Response:
+        return Response({}, self._target.moves.run(False))
 
-    def _step_in(self, request: Request) -> Outcome:
-        return Outcome(stop=self._target.moves.step("stepi"))
+    def _step_in(self, request: Request) -> Response:
+        return Response(stop=self._target.moves.step("stepi"))
 
-    def _step_back(self, request: Request) -> Outcome:
-        return Outcome(stop=self._target.moves.step("reverse-stepi"))
+    def _step_back(self, request: Request) -> Response:
+        return Response(stop=self._target.moves.step("reverse-stepi"))
 
-    def _next(self, request: Request) -> Outcome:
-        return Outcome(stop=self._target.moves.next_of(maker_of(request.whole_number("threadId"))))
+    def _next(self, request: Request) -> Response:
+        return Response(stop=self._target.moves.next_of(maker_of(request.whole_number("threadId"))))
 
-    def _step_out(self, request: Request) -> Outcome:
+    def _step_out(self, request: Request) -> Response:
         goroutine = maker_of(request.whole_number("threadId"))
         if goroutine is None:
             raise UnanswerableError(texts.NO_CALLS)
-        return Outcome(stop=self._target.moves.out_of(goroutine))
+        return Response(stop=self._target.moves.out_of(goroutine))
 
-    def _pause(self, request: Request) -> Outcome:
-        return Outcome(stop=Stop("pause", f"at {self._target.debuggee.position}"))
+    def _pause(self, request: Request) -> Response:
+        return Response(stop=Stop("pause", f"at {self._target.debuggee.position}"))
 
-    def _goto_targets(self, request: Request) -> Outcome:
+    def _goto_targets(self, request: Request) -> Response:
         line = self._numbering.requested_line(request, "line")
         if not breakpoints.is_the_recording(self._target, request):
-            return Outcome({"targets": breakpoints.targets(self._target, self._numbering, request)})
+            return Response({"targets": breakpoints.targets(self._target, self._numbering, request)})
         step = self._target.debuggee.step_at(line)
         if step is None:
             raise UnanswerableError(texts.NO_STEP)
@@ -277,19 +277,19 @@ class Adapter:
             "label": f"position {position}, before {step.kind}",
             "line": self._numbering.to(step.line),
         }
-        return Outcome({"targets": [named]})
+        return Response({"targets": [named]})
 
-    def _goto(self, request: Request) -> Outcome:
+    def _goto(self, request: Request) -> Response:
         position = request.whole_number("targetId")
         if not 0 <= position <= self._target.debuggee.length:
             raise UnanswerableError(texts.HAS_STEPS.format(steps=self._target.debuggee.length))
-        return Outcome(stop=self._target.moves.goto(position))
+        return Response(stop=self._target.moves.goto(position))
 
-    def _evaluate(self, request: Request) -> Outcome:
+    def _evaluate(self, request: Request) -> Response:
         text, context = request.text("expression"), request.arguments.get("context")
-        return self._typed(text) if context == "repl" else Outcome(looks.value(self._target, text, context))
+        return self._typed(text) if context == "repl" else Response(looks.value(self._target, text, context))
 
-    def _typed(self, text: str) -> Outcome:
+    def _typed(self, text: str) -> Response:
         """Runs a line of nrdb that was typed in the console."""
         target, before = self._target, self._target.debuggee.position
         goes_on = target.debuggee.session.run(text)
@@ -297,6 +297,6 @@ class Adapter:
         body: Body = {"result": output, "variablesReference": 0}
         if not goes_on:
             self._close()
-            return Outcome(body, event="terminated")
+            return Response(body, event="terminated")
         moved = Stop("goto", f"at {target.debuggee.position}") if target.debuggee.position != before else None
-        return Outcome(body, moved)
+        return Response(body, moved)

@@ -5,16 +5,16 @@ from netrev.text.plain import plain
 from netrev.text.vocabulary import KINDS
 
 from .go_lines import FUNCTIONS
-from .marks import Sort
-from .target import Target
+from .marks import BreakpointKind
+from .target import DebugTarget
 from .view.messages import Body, Request, UnanswerableError
 from .view.numbering import Numbering
-from .wishes import BreakpointError, Wish, cell_wish, kind_wish, positions_of, wish_of
+from .wishes import BreakpointError, BreakpointRequest, cell_wish, kind_wish, positions_of, wish_of
 
 MOST_TARGETS = 1_000  # the maximum number of lines searched for steps
 
 
-def set_lines(target: Target, numbering: Numbering, request: Request) -> Body:
+def set_lines(target: DebugTarget, numbering: Numbering, request: Request) -> Body:
     """Sets the breakpoints at lines of the recording."""
     bodies = request.objects("breakpoints")
     if not is_the_recording(target, request):
@@ -26,22 +26,24 @@ def set_lines(target: Target, numbering: Numbering, request: Request) -> Body:
     return {"breakpoints": [answer | line for answer, line in zip(answers, lines)]}
 
 
-def of_steps(target: Target, path: str, wishes: list[Wish | BreakpointError]) -> list[Body]:
+def of_steps(target: DebugTarget, path: str, wishes: list[BreakpointRequest | BreakpointError]) -> list[Body]:
     """Replaces the breakpoints before steps, and returns the protocol's answer for each. Log messages use no marks of
     netrev."""
     session = target.debuggee.session
     target.logpoints.clear(path)
     answers = [
         target.logpoints.set(path, positions_of(session, wish.what), wish)
-        if isinstance(wish, Wish) and wish.message
+        if isinstance(wish, BreakpointRequest) and wish.message
         else None
         for wish in wishes
     ]
-    of_marks = iter(target.marks.replace(Sort.LINE, [wish for wish, answer in zip(wishes, answers) if answer is None]))
+    of_marks = iter(
+        target.marks.replace(BreakpointKind.LINE, [wish for wish, answer in zip(wishes, answers) if answer is None])
+    )
     return [answer or next(of_marks) for answer in answers]
 
 
-def in_the_program(target: Target, numbering: Numbering, path: str, bodies: list[Body]) -> list[Body]:
+def in_the_program(target: DebugTarget, numbering: Numbering, path: str, bodies: list[Body]) -> list[Body]:
     """Sets the breakpoints in a file of the program."""
     if not target.debuggee.recording.lines:
         return [{"verified": False, "message": texts.NO_LINES} for _ in bodies]
@@ -58,12 +60,12 @@ def path_of(request: Request) -> str:
     return path if isinstance(path, str) else ""
 
 
-def is_the_recording(target: Target, request: Request) -> bool:
+def is_the_recording(target: DebugTarget, request: Request) -> bool:
     """Whether a request names the recording as its source."""
     return bool(path_of(request)) and target.debuggee.is_at(path_of(request))
 
 
-def set_functions(target: Target, _: Numbering, request: Request) -> Body:
+def set_functions(target: DebugTarget, _: Numbering, request: Request) -> Body:
     """Sets the breakpoints at kinds of steps and at the program's functions."""
     bodies = request.objects("breakpoints")
     target.go_lines.clear(FUNCTIONS)
@@ -72,7 +74,7 @@ def set_functions(target: Target, _: Numbering, request: Request) -> Body:
         for body in bodies
     ]
     wishes = [kind_wish(body) for body, answer in zip(bodies, of_program) if answer is None]
-    of_kinds = iter(target.marks.replace(Sort.FUNCTION, wishes))
+    of_kinds = iter(target.marks.replace(BreakpointKind.FUNCTION, wishes))
     return {"breakpoints": [answer or next(of_kinds) for answer in of_program]}
 
 
@@ -81,7 +83,7 @@ def is_function(body: Body) -> bool:
     return isinstance(body.get("name"), str) and body["name"] not in KINDS
 
 
-def data_info(target: Target, _: Numbering, request: Request) -> Body:
+def data_info(target: DebugTarget, _: Numbering, request: Request) -> Body:
     """The protocol's reply that says whether a name is a cell that can be watched."""
     name = request.text("name")
     if target.looks.value(name) is None:
@@ -89,7 +91,7 @@ def data_info(target: Target, _: Numbering, request: Request) -> Body:
     return {"dataId": name, "description": name, "accessTypes": ["write"], "canPersist": True}
 
 
-def targets(target: Target, numbering: Numbering, request: Request) -> list[Body]:
+def targets(target: DebugTarget, numbering: Numbering, request: Request) -> list[Body]:
     """The positions at which a goroutine reaches a line of the program."""
     line = numbering.requested_line(request, "line")
     positions = target.go_lines.positions(path_of(request), line)
@@ -100,13 +102,13 @@ def targets(target: Target, numbering: Numbering, request: Request) -> list[Body
     ]
 
 
-def set_data(target: Target, _: Numbering, request: Request) -> Body:
+def set_data(target: DebugTarget, _: Numbering, request: Request) -> Body:
     """Sets the watched cells."""
     wishes = [cell_wish(body) for body in request.objects("breakpoints")]
-    return {"breakpoints": target.marks.replace(Sort.DATA, wishes)}
+    return {"breakpoints": target.marks.replace(BreakpointKind.DATA, wishes)}
 
 
-def set_filters(target: Target, _: Numbering, request: Request) -> Body:
+def set_filters(target: DebugTarget, _: Numbering, request: Request) -> Body:
     """Sets the exception filters, which stop a move before the steps that they select."""
     names = request.arguments.get("filters") or []
     if not isinstance(names, list) or not all(isinstance(name, str) for name in names):
@@ -114,7 +116,7 @@ def set_filters(target: Target, _: Numbering, request: Request) -> Body:
     return {"breakpoints": target.filters.replace(names)}
 
 
-def exception_info(target: Target, _: Numbering, __: Request) -> Body:
+def exception_info(target: DebugTarget, _: Numbering, __: Request) -> Body:
     """The description of what went wrong at the position."""
     wrong = target.filters.at(target.debuggee.position)
     if not wrong:
@@ -123,7 +125,7 @@ def exception_info(target: Target, _: Numbering, __: Request) -> Body:
     return {"exceptionId": wrong[0].sort, "description": says, "breakMode": "always"}
 
 
-def locations(target: Target, numbering: Numbering, request: Request) -> Body:
+def locations(target: DebugTarget, numbering: Numbering, request: Request) -> Body:
     """The requested lines of the recording that have a step; none for another source."""
     first = numbering.requested_line(request, "line")
     last = numbering.requested_line(request, "endLine") if "endLine" in request.arguments else first

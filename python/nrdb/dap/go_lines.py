@@ -15,7 +15,7 @@ from .logpoints import LogPoints
 from .view.debuggee import Debuggee
 from .view.messages import Body, UnanswerableError
 from .view.roots import Roots
-from .wishes import BreakpointError, Wish, is_in, refused
+from .wishes import BreakpointError, BreakpointRequest, is_in, refused
 
 FIRST = 1_000_000  # the number of the first of these breakpoints; marks have smaller numbers
 FUNCTIONS = "functions"  # used in place of a file name for breakpoints on functions
@@ -25,7 +25,7 @@ class Hits:
     """A breakpoint: its number, the positions at which a goroutine reaches it, in ascending order, and its condition,
     hit count and message."""
 
-    def __init__(self, number: int, session: Session, reached: Sequence[int], wish: Wish):
+    def __init__(self, number: int, session: Session, reached: Sequence[int], wish: BreakpointRequest):
         self.number = number
         self._session, self._reached, self._wish = session, reached, wish
 
@@ -65,19 +65,19 @@ class GoLines:
             raise UnanswerableError(no_step_from(f"{name}:{line}", near_lines(name, line, lines)))
         return lines[line]
 
-    def set_line(self, path: str, line: int, wish: "Wish | BreakpointError") -> Body:
+    def set_line(self, path: str, line: int, wish: "BreakpointRequest | BreakpointError") -> Body:
         """Sets a breakpoint at a line from which steps come, and returns the protocol's object for the breakpoint."""
         try:
             return self._set(path, self.positions(path, line), wish)
         except UnanswerableError as why:
             return refused(str(why))
 
-    def set_function(self, name: str, wish: "Wish | BreakpointError") -> Optional[Body]:
+    def set_function(self, name: str, wish: "BreakpointRequest | BreakpointError") -> Optional[Body]:
         """Sets a breakpoint at a function; returns None if no step comes from a function of that name."""
         place = places_of(self._debuggee.recording).place(name)
         return self._set(FUNCTIONS, place.positions, wish) if place else None
 
-    def _set(self, path: str, positions: list[int], wish: "Wish | BreakpointError") -> Body:
+    def _set(self, path: str, positions: list[int], wish: "BreakpointRequest | BreakpointError") -> Body:
         if isinstance(wish, BreakpointError):
             return refused(str(wish))
         if wish.message:

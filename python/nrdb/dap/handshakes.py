@@ -9,7 +9,7 @@ from typing import Optional
 
 from .admission import StrangerError, is_let_in
 from .view.capabilities import CAPABILITIES
-from .view.messages import MalformedMessageError, Request, UnanswerableError, Wire
+from .view.messages import MalformedMessageError, Request, UnanswerableError, EditorStreams
 
 IN_TIME = 10.0  # seconds that an editor at the port has to send a launch
 MOST = 64  # the maximum number of connections that haven't sent the token; a further one closes the oldest
@@ -26,7 +26,7 @@ class Connection:
         reader = self._opened.enter_context(connected.makefile("rb"))
         writer = self._opened.enter_context(connected.makefile("wb"))
         self._opened.callback(self.hang_up)  # so that no thread still reads when the streams are closed
-        self.wire = Wire(reader, writer, MOST_BYTES)
+        self.wire = EditorStreams(reader, writer, MOST_BYTES)
         self.initialize: Optional[Request] = None
         self.launch: Optional[Request] = None
 

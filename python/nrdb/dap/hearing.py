@@ -10,7 +10,7 @@ from typing import Iterator, Optional, Protocol
 
 from netrev.system.interrupts import Interrupts
 
-from .view.messages import MalformedMessageError, Request, Wire
+from .view.messages import MalformedMessageError, Request, EditorStreams
 
 ENDING = ("disconnect", "terminate")
 CANCEL, PAUSE = "cancel", "pause"
@@ -42,7 +42,7 @@ class Source(Protocol):
 class Reading:
     """Reads each request only after the previous request has been answered."""
 
-    def __init__(self, wire: Wire):
+    def __init__(self, wire: EditorStreams):
         self.request = wire.request
 
     @contextmanager
@@ -59,7 +59,7 @@ class Reading:
 class Hearing:
     """Reads requests in a thread. Everything else in this class runs in the main thread."""
 
-    def __init__(self, wire: Wire):
+    def __init__(self, wire: EditorStreams):
         self._wire = wire
         self._messages: "SimpleQueue[tuple[Request | Exception | None, int]]" = SimpleQueue()
         self._room, self._held, self._is_over = Condition(), 0, False

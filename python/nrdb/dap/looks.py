@@ -3,18 +3,18 @@
 from netrev.messages import editors as texts
 from nrdb.prompt.completion import candidates
 
-from .target import Target
+from .target import DebugTarget
 from .view import memory
 from .view.messages import Body, Request, UnanswerableError
 from .view.numbering import Numbering
 
 
-def threads(target: Target, _: Numbering, __: Request) -> Body:
+def threads(target: DebugTarget, _: Numbering, __: Request) -> Body:
     """The goroutines."""
     return {"threads": target.looks.threads()}
 
 
-def stack(target: Target, numbering: Numbering, request: Request) -> Body:
+def stack(target: DebugTarget, numbering: Numbering, request: Request) -> Body:
     """The stack of a thread, or the requested part of it."""
     frames = target.looks.frames_of(request.whole_number("threadId"))
     shown = page(request, frames, "startFrame", "levels")
@@ -22,12 +22,12 @@ def stack(target: Target, numbering: Numbering, request: Request) -> Body:
     return {"stackFrames": placed, "totalFrames": len(frames)}
 
 
-def scopes(target: Target, _: Numbering, request: Request) -> Body:
+def scopes(target: DebugTarget, _: Numbering, request: Request) -> Body:
     """The scopes of a frame."""
     return {"scopes": target.looks.scopes(request.whole_number("frameId"))}
 
 
-def variables(target: Target, _: Numbering, request: Request) -> Body:
+def variables(target: DebugTarget, _: Numbering, request: Request) -> Body:
     """The variables of a scope, or the requested part of them."""
     found = target.looks.variables(request.whole_number("variablesReference"))
     return {"variables": page(request, found, "start", "count")}
@@ -41,7 +41,7 @@ def page(request: Request, rows: list[Body], first: str, count: str) -> list[Bod
     return rows[begin : begin + most if most else None]
 
 
-def value(target: Target, text: str, context: object) -> Body:
+def value(target: DebugTarget, text: str, context: object) -> Body:
     """The value of the cell that a text names. On a hover, the text may also name a kind of step; the result is then
     the kind's meaning."""
     shown = (target.looks.meaning if context == "hover" else target.looks.value)(text)
@@ -51,12 +51,12 @@ def value(target: Target, text: str, context: object) -> Body:
     return {"result": shown, "variablesReference": 0} | ({"memoryReference": named} if named else {})
 
 
-def read_memory(target: Target, _: Numbering, request: Request) -> Body:
+def read_memory(target: DebugTarget, _: Numbering, request: Request) -> Body:
     """The bytes in a buffer."""
     return memory.read(target.debuggee.session.netrev, request)
 
 
-def completions(target: Target, numbering: Numbering, request: Request) -> Body:
+def completions(target: DebugTarget, numbering: Numbering, request: Request) -> Body:
     """The completions of a word in the console."""
     text, column = request.text("text"), request.whole_number("column")
     typed = text[: max(column - numbering.first, 0)]
@@ -67,6 +67,6 @@ def completions(target: Target, numbering: Numbering, request: Request) -> Body:
     return {"targets": [{"label": label, "start": start, "length": len(last)} for label in labels]}
 
 
-def refuse_change(_: Target, __: Numbering, ___: Request) -> Body:
+def refuse_change(_: DebugTarget, __: Numbering, ___: Request) -> Body:
     """Refuses a request to set a value."""
     raise UnanswerableError(texts.READ_ONLY)

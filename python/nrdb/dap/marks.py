@@ -8,10 +8,10 @@ from netrev.session.line_hints import hint
 from netrev.session.session import Session
 
 from .view.messages import Body
-from .wishes import BreakpointError, Wish, is_in, positions_of, refused
+from .wishes import BreakpointError, BreakpointRequest, is_in, positions_of, refused
 
 
-class Sort(Enum):
+class BreakpointKind(Enum):
     """The kinds of breakpoints, each with the protocol's name for the reason why it stops."""
 
     LINE = "breakpoint"
@@ -24,23 +24,25 @@ class Marks:
 
     def __init__(self, session: Session):
         self._session = session
-        self._numbers: dict[tuple[Sort, str], str] = {}
-        self._wishes: dict[tuple[Sort, str], list[Wish]] = {}
-        self._counted: dict[Wish, list[int]] = {}  # the positions at which breakpoints with a hit count stop
+        self._numbers: dict[tuple[BreakpointKind, str], str] = {}
+        self._wishes: dict[tuple[BreakpointKind, str], list[BreakpointRequest]] = {}
+        self._counted: dict[
+            BreakpointRequest, list[int]
+        ] = {}  # the positions at which breakpoints with a hit count stop
 
-    def replace(self, sort: Sort, wishes: Sequence["Wish | BreakpointError"]) -> list[Body]:
+    def replace(self, sort: BreakpointKind, wishes: Sequence["BreakpointRequest | BreakpointError"]) -> list[Body]:
         """Replaces the breakpoints of a kind. Returns the protocol's answer for each breakpoint, in order."""
         # some marks may have been deleted in the console
         standing = {mark.number for mark in self._session.netrev.marks()}
         self._numbers = {mark: number for mark, number in self._numbers.items() if number in standing}
-        wanted = {wish.what for wish in wishes if isinstance(wish, Wish)}
+        wanted = {wish.what for wish in wishes if isinstance(wish, BreakpointRequest)}
         for mark in [mark for mark in self._numbers if mark[0] is sort and mark[1] not in wanted]:
             self._session.ask(f"delete {self._numbers.pop(mark)}")
         for mark in [mark for mark in self._wishes if mark[0] is sort]:
             del self._wishes[mark]
         return [self._set(sort, wish) for wish in wishes]
 
-    def _set(self, sort: Sort, wish: "Wish | BreakpointError") -> Body:
+    def _set(self, sort: BreakpointKind, wish: "BreakpointRequest | BreakpointError") -> Body:
         """Sets a breakpoint, and returns the protocol's object for it."""
         try:
             if isinstance(wish, BreakpointError):
@@ -51,10 +53,10 @@ class Marks:
         self._wishes.setdefault((sort, wish.what), []).append(wish)
         return {"id": int(number), "verified": True}
 
-    def _number(self, sort: Sort, wish: Wish) -> str:
+    def _number(self, sort: BreakpointKind, wish: BreakpointRequest) -> str:
         """The number of the mark for a breakpoint; sets the mark if it doesn't exist."""
         if (sort, wish.what) not in self._numbers:
-            line = f"{'watch' if sort is Sort.DATA else 'break'} {wish.what}"
+            line = f"{'watch' if sort is BreakpointKind.DATA else 'break'} {wish.what}"
             reply = self._session.ask(line)
             if (mark := MARK.fullmatch(reply)) is None:
                 raise BreakpointError(f"{reply}: {hint(line.split(), reply)}")
@@ -67,10 +69,10 @@ class Marks:
         met = self._session.holding(numbers)  # according to the conditions that were set in the console
         return [number for number in met if number not in marks or self._holds(marks[number])]
 
-    def _holds(self, mark: tuple[Sort, str]) -> bool:
+    def _holds(self, mark: tuple[BreakpointKind, str]) -> bool:
         return any(self._stops(wish) for wish in self._wishes[mark])
 
-    def _stops(self, wish: Wish) -> bool:
+    def _stops(self, wish: BreakpointRequest) -> bool:
         """Whether a breakpoint that is reached at the session's position stops there."""
         if wish.times is None:
             return wish.condition is None or self._session.holds(wish.condition)
@@ -81,4 +83,4 @@ class Marks:
     def reason(self, number: str) -> str:
         """The protocol's reason for a stop at a mark."""
         sorts = {number: sort for (sort, _), number in self._numbers.items()}
-        return sorts.get(number, Sort.LINE).value
+        return sorts.get(number, BreakpointKind.LINE).value

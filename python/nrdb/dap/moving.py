@@ -4,7 +4,7 @@ netrev."""
 from typing import Callable, NamedTuple, Optional, Sequence
 
 from netrev.connection.netrev import Reply
-from netrev.connection.shapes import MARK, Listed, Move, move_of
+from netrev.connection.shapes import MARK, ListedMark, Move, move_of
 from netrev.findings.causes import root_sentence
 from netrev.recording.recording import Recording
 from netrev.system.interrupts import SearchInterruptedError, Interrupts
@@ -109,7 +109,7 @@ class Moves:
             self._session.printer.note(message)
         return stop
 
-    def _run(self, forwards: bool, target: Optional[int], stood: Sequence[Listed]) -> Stop:
+    def _run(self, forwards: bool, target: Optional[int], stood: Sequence[ListedMark]) -> Stop:
         with self._interrupts.at_once():
             bound = self._bound(forwards, target)
         line = "continue" if forwards else "reverse-continue"
@@ -156,7 +156,7 @@ class Moves:
         self._interrupts.check()
         return self._session.go(position)
 
-    def _paused(self, stood: Sequence[Listed]) -> Stop:
+    def _paused(self, stood: Sequence[ListedMark]) -> Stop:
         """The stop at a pause."""
         position = self._session.stands().position
         if position == self._debuggee.position:
@@ -205,7 +205,7 @@ class Moves:
         if self._session.stands().direction == "reverse":
             self._session.ask("set exec-direction forward")
 
-    def _arrived(self, line: str, reply: str, move: Move, stood: Sequence[Listed], why: Stop) -> Stop:
+    def _arrived(self, line: str, reply: str, move: Move, stood: Sequence[ListedMark], why: Stop) -> Stop:
         """Reports the new position, and returns the reason for the stop."""
         self._session.printer.reply(line, Reply(reply), "")
         self._session.arrive(move.position, move.marks, stood)

@@ -14,13 +14,13 @@ from .adapter import Adapter
 from .admission import NAMED_BY, InvalidTokenError, token_for_a_port
 from .handshakes import Connection, Handshakes
 from .hearing import Hearing, Reading, Source
-from .view.messages import MalformedMessageError, Request, Wire
+from .view.messages import MalformedMessageError, Request, EditorStreams
 
 LOOPBACK = "127.0.0.1"
 DONE, USAGE, FAILED = 0, 2, 3
 
 
-def serve(wire: Wire, program: str, begun: Sequence[Request] = ()) -> int:
+def serve(wire: EditorStreams, program: str, begun: Sequence[Request] = ()) -> int:
     """Serves one editor, whose first requests have been read, and returns the exit status."""
     try:
         Adapter(wire, source_of(wire), program).serve(begun)
@@ -32,7 +32,7 @@ def serve(wire: Wire, program: str, begun: Sequence[Request] = ()) -> int:
     return DONE
 
 
-def source_of(wire: Wire) -> Source:
+def source_of(wire: EditorStreams) -> Source:
     """The source of the requests. If the main thread does the work, another thread reads them meanwhile. Otherwise they
     are read directly, because only the main thread can be interrupted."""
     if current_thread() is main_thread():
@@ -45,7 +45,7 @@ def serve_streams(program: str) -> int:
     reader = open(
         os.dup(sys.stdin.fileno()), "rb"
     )  # (a thread may still read from it at the end, which sys.stdin's own file doesn't allow)
-    return serve(Wire(reader, sys.stdout.buffer), program)
+    return serve(EditorStreams(reader, sys.stdout.buffer), program)
 
 
 def serve_port(program: str, port: int) -> int:

@@ -83,7 +83,7 @@ def _text(given: dict[str, Any], name: str) -> Optional[str]:
     return value
 
 
-class Target:
+class DebugTarget:
     """A debuggee with its marks, filters, moves and displays, and the reason for the last stop."""
 
     def __init__(self, debuggee: Debuggee, launch: Launch, interrupts: Interrupts):

@@ -56,7 +56,7 @@ class HitCount(NamedTuple):
 
 
 @dataclass(frozen=True)
-class Wish:
+class BreakpointRequest:
     """A requested breakpoint: the mark in netrev's spelling (empty for a line of the program), its condition, its hit
     count, and its message instead of a stop."""
 
@@ -88,14 +88,14 @@ def is_in(rising: Sequence[int], position: int) -> bool:
     return at < len(rising) and rising[at] == position
 
 
-def wish_of(what: str, body: Body) -> "Wish | BreakpointError":
+def wish_of(what: str, body: Body) -> "BreakpointRequest | BreakpointError":
     """The request for a mark, with the editor's condition, hit count and message, if given."""
     condition, times, message = (_text_of(body, name) for name in ("condition", "hitCondition", "logMessage"))
     try:
         for named in IN_BRACES.findall(message):
             if named.strip() != HERE and cell_of(named.split()) is None:
                 raise BreakpointError(texts.NOT_IN_BRACES.format(name=named, here=HERE))
-        return Wish(
+        return BreakpointRequest(
             what, condition_of(condition) if condition else None, HitCount.of(times) if times else None, message
         )
     except BreakpointError as why:
@@ -108,7 +108,7 @@ def _text_of(body: Body, name: str) -> str:
     return value if isinstance(value, str) and value.strip() else ""
 
 
-def kind_wish(body: Body) -> "Wish | BreakpointError":
+def kind_wish(body: Body) -> "BreakpointRequest | BreakpointError":
     """The request for a breakpoint at each step of a kind."""
     name = body.get("name")
     if isinstance(name, str) and name in KINDS:
@@ -116,7 +116,7 @@ def kind_wish(body: Body) -> "Wish | BreakpointError":
     return BreakpointError(texts.NOT_A_KIND.format(name=name, kinds=" ".join(KINDS)))
 
 
-def cell_wish(body: Body) -> "Wish | BreakpointError":
+def cell_wish(body: Body) -> "BreakpointRequest | BreakpointError":
     """The request for a breakpoint at each change of a cell."""
     identity = body.get("dataId")
     cell = cell_of(str(identity).split())

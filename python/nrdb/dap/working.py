@@ -7,7 +7,7 @@ from threading import Event, Lock, Thread
 from netrev.messages import editors as texts
 
 from .hearing import MOVES, progress_of
-from .view.messages import Body, Request, Wire
+from .view.messages import Body, Request, EditorStreams
 
 LATE = 0.3  # the seconds after which a request counts as long
 AGAIN = 0.5  # seconds between two progress reports
@@ -18,7 +18,7 @@ class Work:
     """The work on one request. If the work takes a long time, a thread tells the editor, because the main thread
     writes nothing until the work is done."""
 
-    def __init__(self, wire: Wire, request: Request, shows_progress: bool):
+    def __init__(self, wire: EditorStreams, request: Request, shows_progress: bool):
         self._wire, self._request, self._shows_progress = wire, request, shows_progress
         self._lock, self._done = Lock(), Event()
         self._is_answered = self._is_shown = False

@@ -5,8 +5,8 @@ from typing import Optional
 from netrev.connection.output import Row, Table
 from netrev.messages import session as messages
 from netrev.recording.recording import Recording
-from netrev.recording.where import OF_THE_PROGRAM, Call, Stack
-from netrev.session.line_index import OF_A_LINE, Place, is_file, is_function, is_place, no_step_from, places_of
+from netrev.recording.where import OF_THE_PROGRAM, SourceCall, Stack
+from netrev.session.line_index import OF_A_LINE, ProgramPlace, is_file, is_function, is_place, no_step_from, places_of
 from netrev.session.session import Answering, UsageError, Session
 from netrev.session.source import source_of, text_round
 from netrev.views.goroutine_stacks import stack_of
@@ -16,7 +16,7 @@ from .answers_of_calls import arrive
 MOST = 40
 
 
-def place_of(session: Session, spelled: str) -> Place:
+def place_of(session: Session, spelled: str) -> ProgramPlace:
     """The place that a word names; raises UsageError if no step comes from that place."""
     recording = session.text()
     if not recording.lines:
@@ -116,7 +116,7 @@ def show_source(session: Session, file: str, line: int) -> None:
     session.printer.note("\n".join(lines) if lines else messages.NO_SOURCE.format(place=f"{known}:{line}"))
 
 
-def calls_of(recording: Recording) -> list[Call]:
+def calls_of(recording: Recording) -> list[SourceCall]:
     return [call for stack in recording.lines.stacks.values() for call in stack.calls]
 
 

@@ -22,7 +22,7 @@ from netrev.session.session import UsageError
 from netrev.system.interrupts import Interrupts
 from netrev.timeline.cell_runs import Window
 from netrev.timeline.page import plain_json
-from netrev.timeline.picture import Shown, collected, part_of
+from netrev.timeline.picture import PageSources, collected, part_of
 
 from .serving import UnavailableError
 
@@ -118,7 +118,7 @@ def paint(program: str, path: str) -> None:
         changes.prepare()
         recording = Recording.read(path)
         recording.changes, recording.suspects = changes, suspects
-        shown = Shown(recording, path, scout, changes, 0, [], lambda text: say(TELLS, text))
+        shown = PageSources(recording, path, scout, changes, 0, [], lambda text: say(TELLS, text))
         for line in sys.stdin:
             answer(shown, line)
     except (BrokenPipeError, KeyboardInterrupt):
@@ -131,7 +131,7 @@ def paint(program: str, path: str) -> None:
         suspects.drop()
 
 
-def answer(shown: Shown, line: str) -> None:
+def answer(shown: PageSources, line: str) -> None:
     """Makes the picture that a line requests, or reports why it can't."""
     wanted = json.loads(line)
     try:

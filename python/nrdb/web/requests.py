@@ -32,7 +32,7 @@ class RejectedRequestError(NetrevError):
 
 
 @dataclass(frozen=True)
-class Request:
+class BrowserRequest:
     """A request's method, its path and query, and its headers, keyed by their names in lower case."""
 
     method: str
@@ -41,7 +41,7 @@ class Request:
     headers: Mapping[str, str]
 
     @classmethod
-    def of(cls, head: bytes) -> "Request":
+    def of(cls, head: bytes) -> "BrowserRequest":
         """The request in the bytes up to the empty line; raises RejectedRequestError if the request is malformed. No header may
         occur twice, because two parsers could choose different values."""
         first, *lines = head.decode("latin-1").removesuffix("\r\n\r\n").split("\r\n")
@@ -72,7 +72,7 @@ class Gate:
         self._hosts = [f"{name}:{port}" for name in ("127.0.0.1", "localhost")]
         self._token = token.encode("ascii")
 
-    def check(self, request: Request) -> None:
+    def check(self, request: BrowserRequest) -> None:
         """Raises RejectedRequestError unless the request is admitted."""
         if request.headers.get("host") not in self._hosts:
             raise RejectedRequestError(HTTPStatus.FORBIDDEN, texts.OTHER_HOST)
@@ -86,7 +86,7 @@ class Gate:
         if not self._has_token(request):
             raise RejectedRequestError(HTTPStatus.FORBIDDEN, texts.NO_TOKEN)
 
-    def _has_token(self, request: Request) -> bool:
+    def _has_token(self, request: BrowserRequest) -> bool:
         """Whether the token is where this request must have it."""
         given = request.headers.get(TOKEN, "")
         if request.path in BY_ADDRESS:
@@ -109,7 +109,7 @@ def line_of(body: bytes) -> str:
     return line
 
 
-def positions_of(request: Request) -> tuple[int, int]:
+def positions_of(request: BrowserRequest) -> tuple[int, int]:
     """The first and the last position of the requested part; raises RejectedRequestError if either is missing."""
     named = FROM_TO.fullmatch(request.headers.get(POSITIONS, ""))
     if named is None:

@@ -22,12 +22,12 @@ from .requests import (
     PART,
     Gate,
     RejectedRequestError,
-    Request,
+    BrowserRequest,
     line_of,
     positions_of,
 )
-from .streams import Stream, Streams
-from .wire import EVENT_STREAM, JSON, LONGEST_HEAD, Wire
+from .streams import BrowserStream, Streams
+from .wire import EVENT_STREAM, JSON, LONGEST_HEAD, BrowserConnection
 
 LOOPBACK = "127.0.0.1"
 MOST_CONNECTIONS = 64
@@ -42,7 +42,7 @@ class UnavailableError(NetrevError):
     """Raised, with the reason, if the requested data aren't available now."""
 
 
-class Runner(Protocol):
+class SessionRunner(Protocol):
     """The part of a session's runner that the server calls. Each call returns at once."""
 
     def post(self, user: str, line: str) -> None:
@@ -78,7 +78,7 @@ def listening(port: int) -> socket.socket:
 class Server:
     """Serves the page on a socket, from `start` to `stop`."""
 
-    def __init__(self, at: socket.socket, gate: Gate, document: Document, streams: Streams, session: Runner):
+    def __init__(self, at: socket.socket, gate: Gate, document: Document, streams: Streams, session: SessionRunner):
         self._socket, self._gate, self._document = at, gate, document
         self._streams, self._session = streams, session
         self._open: dict[asyncio.Task[None], asyncio.StreamWriter] = {}
@@ -122,7 +122,9 @@ class Server:
             del spared[longest]
             longest.cancel()  # (if that connection has just ended, its place is free already)
             is_full = False
-        task = self._loop.create_task(self._connected(Wire(reader, writer, self._document.policy), is_full))
+        task = self._loop.create_task(
+            self._connected(BrowserConnection(reader, writer, self._document.policy), is_full)
+        )
         self._open[task] = writer
         self._asking[task] = None
         task.add_done_callback(self._leave)
@@ -133,7 +135,7 @@ class Server:
         self._closing.pop(task, None)
         self._open.pop(task).transport.abort()
 
-    async def _connected(self, wire: Wire, is_full: bool) -> None:
+    async def _connected(self, wire: BrowserConnection, is_full: bool) -> None:
         """Answers a connection's request, or rejects it with the reason."""
         task = asyncio.current_task()
         assert task
@@ -154,7 +156,7 @@ class Server:
         self._closing[task] = None
         await wire.close()
 
-    async def _answer(self, wire: Wire, request: Request, body: bytes) -> None:
+    async def _answer(self, wire: BrowserConnection, request: BrowserRequest, body: bytes) -> None:
         """Answers an admitted request."""
         if request.path == PAGE:
             await wire.answer(HTTPStatus.OK, self._document.data, "text/html; charset=utf-8")
@@ -171,7 +173,7 @@ class Server:
             future = self._session.part(*positions_of(request)) if request.path == PART else self._session.timeline()
             await wire.answer(HTTPStatus.OK, await asyncio.wrap_future(future), JSON)
 
-    async def _tell(self, wire: Wire, stream: Stream) -> None:
+    async def _tell(self, wire: BrowserConnection, stream: BrowserStream) -> None:
         """Sends events to a browser until it disconnects or falls too far behind."""
         await wire.begin(HTTPStatus.OK, EVENT_STREAM)
         await wire.send(BEGINNING)

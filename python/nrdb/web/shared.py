@@ -6,8 +6,8 @@ from typing import Any, Optional, Protocol, Sequence
 
 from netrev.connection.collected_output import Collecting
 from netrev.connection.netrev import Netrev, Reply
-from netrev.connection.output import Place, Table
-from netrev.connection.shapes import Listed, Position, LineRefusedError
+from netrev.connection.output import SessionPosition, Table
+from netrev.connection.shapes import ListedMark, Position, LineRefusedError
 from netrev.messages import browsers as texts
 from netrev.session.commands import whole_words
 from netrev.session.session import Answering, UsageError, Session
@@ -17,7 +17,7 @@ OTHERS = "another front"
 WITH_FILES = ("source", "save", "timeline", "trace", "reduce", "report", "explore", "frame", "up", "down")
 
 
-class Telling(Protocol):
+class EventListener(Protocol):
     """Receives events."""
 
     def tell(self, event: str, **values: Any) -> None:
@@ -42,10 +42,10 @@ OF_THE_PAGE = {
 }
 
 
-class Saying(Collecting):
+class OutputSender(Collecting):
     """Sends nrdb's output as text, in events."""
 
-    def __init__(self, streams: Telling):
+    def __init__(self, streams: EventListener):
         super().__init__()
         self._streams = streams
 
@@ -61,7 +61,7 @@ class Saying(Collecting):
         super().reply(line, reply, words)
         self._send("reply")
 
-    def place(self, place: Place) -> None:
+    def place(self, place: SessionPosition) -> None:
         super().place(place)
         self._send("place")
 
@@ -78,19 +78,19 @@ class Saying(Collecting):
 class Shared(Session):
     """A session that answers lines of several users."""
 
-    streams: Telling = field(kw_only=True)
+    streams: EventListener = field(kw_only=True)
     user: str = ""
     part: str = ""  # the command of the line that is being answered
     last_position: Optional[Position] = None
-    last_marks: Optional[list[Listed]] = None
+    last_marks: Optional[list[ListedMark]] = None
 
     @classmethod
-    def over(cls, session: Session, streams: Telling) -> "Shared":
+    def over(cls, session: Session, streams: EventListener) -> "Shared":
         """A session, in the form that the page uses."""
         shared = cls(
             **{attribute.name: getattr(session, attribute.name) for attribute in fields(session)}, streams=streams
         )
-        shared.printer, shared.answers = Saying(streams), OF_THE_PAGE
+        shared.printer, shared.answers = OutputSender(streams), OF_THE_PAGE
         return shared
 
     def run_for(self, user: str, line: str) -> None:
@@ -108,7 +108,7 @@ class Shared(Session):
             raise UsageError(texts.NO_QUIT)
         return super().answer(line)
 
-    def arrive(self, position: int, numbers: Sequence[str] = (), stood: Sequence[Listed] = ()) -> None:
+    def arrive(self, position: int, numbers: Sequence[str] = (), stood: Sequence[ListedMark] = ()) -> None:
         self._tell_move(self.user, self.part, position)
         super().arrive(position, numbers, stood)
 

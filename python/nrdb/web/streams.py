@@ -26,7 +26,7 @@ def message(event: Event) -> bytes:
     return f"data: {plain_json(event)}\n\n".encode("ascii")
 
 
-class Stream:
+class BrowserStream:
     """A browser that listens, with its number."""
 
     def __init__(self, number: int) -> None:
@@ -69,7 +69,7 @@ class Streams:
 
     def __init__(self, recording: str) -> None:
         self._recording = recording
-        self._streams: dict[int, Stream] = {}
+        self._streams: dict[int, BrowserStream] = {}
         self._numbers = count(1)
         self._kept: deque[bytes] = deque()
         self._bytes = 0
@@ -94,13 +94,13 @@ class Streams:
         return stream.name if stream else "somebody"
 
     @contextmanager
-    def joined(self) -> Iterator[Stream]:
+    def joined(self) -> Iterator[BrowserStream]:
         """A context with a browser's event stream; raises RejectedRequestError if too many browsers listen."""
         if len(self._streams) >= MOST_STREAMS:
             raise RejectedRequestError(
                 HTTPStatus.SERVICE_UNAVAILABLE, texts.TOO_MANY_BROWSERS.format(most=MOST_STREAMS)
             )
-        stream = Stream(next(self._numbers))
+        stream = BrowserStream(next(self._numbers))
         you = {"event": "you", "who": stream.name, "number": stream.number, "recording": self._recording or None}
         stream.put(b"".join([message(you), *self._kept, *self._states.values()]))
         self._streams[stream.number] = stream

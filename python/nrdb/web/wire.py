@@ -7,7 +7,7 @@ from http import HTTPStatus
 
 from netrev.messages import browsers as texts
 
-from .requests import RejectedRequestError, Request
+from .requests import RejectedRequestError, BrowserRequest
 
 LONGEST_HEAD = 8_192  # the maximum number of bytes before a body
 IN_TIME = 5.0  # how many seconds a request may take to arrive, and a part of the response to be accepted
@@ -25,14 +25,14 @@ ALWAYS = {
 }
 
 
-class Wire:
+class BrowserConnection:
     """A connection."""
 
     def __init__(self, reader: asyncio.StreamReader, writer: asyncio.StreamWriter, policy: str):
         self._reader, self._writer = reader, writer
         self._headers = ALWAYS | {"Content-Security-Policy": policy}
 
-    async def head(self) -> Request:
+    async def head(self) -> BrowserRequest:
         """The request without its body. Raises RejectedRequestError if the request doesn't arrive completely in time, and EOFError
         if no byte arrives."""
         try:
@@ -45,7 +45,7 @@ class Wire:
             if ended.partial:
                 raise RejectedRequestError(HTTPStatus.BAD_REQUEST, texts.NOT_A_REQUEST) from None
             raise
-        return Request.of(head)
+        return BrowserRequest.of(head)
 
     async def body(self, length: int) -> bytes:
         """The next `length` bytes of the body; raises RejectedRequestError if they don't arrive in time."""

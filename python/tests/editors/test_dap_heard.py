@@ -18,13 +18,13 @@ from nrdb.dap import hearing, moving, working
 from nrdb.dap.go_lines import GoLines
 from nrdb.dap.hearing import Hearing
 from nrdb.dap.logpoints import LogPoints
-from nrdb.dap.marks import Marks, Sort
+from nrdb.dap.marks import Marks, BreakpointKind
 from nrdb.dap.moving import Moves, Stop
 from nrdb.dap.view.debuggee import Debuggee
 from nrdb.dap.view.filters import Filters
-from nrdb.dap.view.messages import MalformedMessageError, Request, Wire
+from nrdb.dap.view.messages import MalformedMessageError, Request, EditorStreams
 from nrdb.dap.view.roots import Roots
-from nrdb.dap.wishes import HitCount, BreakpointError, Wish, wish_of
+from nrdb.dap.wishes import HitCount, BreakpointError, BreakpointRequest, wish_of
 from nrdb.dap.working import Work
 from tests.prompt.test_program_places import FILE, session_of
 
@@ -70,7 +70,7 @@ class Heard(unittest.TestCase):
         descriptor, self.says = os.pipe()
         reader = open(descriptor, "rb")
         self.addCleanup(reader.close)
-        self.hearing = Hearing(Wire(reader, io.BytesIO()))
+        self.hearing = Hearing(EditorStreams(reader, io.BytesIO()))
         self.addCleanup(self.go)
         self.interrupts = Interrupts()
 
@@ -227,7 +227,7 @@ def told_of_work(command: str, shows: bool, told: int, refuses: bool = False) ->
     editor shows progress."""
     written = io.BytesIO()
     with patch.object(working, "LATE", 0.05 if told else 60), patch.object(working, "AGAIN", 0.05):
-        work = Work(Wire(io.BytesIO(), written), Request(7, command), shows)
+        work = Work(EditorStreams(io.BytesIO(), written), Request(7, command), shows)
         work.tells(30, 90)
         limit = time.monotonic() + PATIENCE
         while written.getvalue().count(b"Content-Length: ") < told and time.monotonic() < limit:
@@ -282,7 +282,7 @@ class Pieces(unittest.TestCase):
         with patch.object(moving, "PIECE", piece):
             moves, marks, debuggee = self.moves()
             wishes = [wish_of("pollreset", {"condition": "gor 2 idle"}), wish_of("rwlock", {"hitCondition": "% 3"})]
-            marks.replace(Sort.FUNCTION, wishes)
+            marks.replace(BreakpointKind.FUNCTION, wishes)
             found = [(moves.run(forwards), debuggee.position) for forwards in (*[True] * 9, *[False] * 4, True, False)]
             for position in (0, debuggee.length, 5):
                 found.append((moves.goto(position), debuggee.position))
@@ -319,12 +319,14 @@ class Wishes(unittest.TestCase):
         self.session = session_of(io.StringIO())
 
     def test_times_are_counted_from_the_start(self) -> None:
-        every = Wish("rwlock").stops(self.session, range(10))
+        every = BreakpointRequest("rwlock").stops(self.session, range(10))
         self.assertEqual(every, list(range(10)))
         for text, wanted in (
             ("3", [2]), ("== 3", [2]), (">= 9", [8, 9]), ("> 9", [9]), ("< 3", [0, 1]), ("<=2", [0, 1]), ("% 4", [3, 7]),
         ):  # fmt: skip
-            self.assertEqual(Wish("", times=HitCount.of(text)).stops(self.session, range(10)), wanted, text)
+            self.assertEqual(
+                BreakpointRequest("", times=HitCount.of(text)).stops(self.session, range(10)), wanted, text
+            )
         for wrong in ("often", "% 0", "-1", "3 times", "1.5"):
             self.assertRaises(BreakpointError, HitCount.of, wrong)
 
@@ -335,7 +337,7 @@ class Wishes(unittest.TestCase):
     def test_messages_are_told_on_the_way_in_its_order(self) -> None:
         points = LogPoints(self.session)
         wish = wish_of("", {"logMessage": "{position} has {gor 0}, {{gor 0}}"})
-        assert isinstance(wish, Wish)
+        assert isinstance(wish, BreakpointRequest)
         self.assertTrue(points.set("main.go", [3, 5, 9], wish)["verified"])
         status = self.session.changes().value("gor 0", 5)
         self.assertEqual([one.split(":")[0] for one in points.messages(3, 9)], ["at 5", "at 9"])

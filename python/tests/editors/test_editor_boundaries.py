@@ -9,7 +9,7 @@ import pytest
 from netrev.connection.shapes import Move
 from netrev.recording.call import Outcome
 from nrdb.dap import breakpoints, looks, marks as dap_marks, moving
-from nrdb.dap.marks import Marks, Sort
+from nrdb.dap.marks import Marks, BreakpointKind
 from nrdb.dap.moving import AT_THE_END, Moves, Stop, text_of
 from nrdb.dap.view import filters, memory
 from nrdb.dap.view.filters import Failure, Filter, Filters
@@ -163,7 +163,8 @@ def test_a_breakpoint_stops_by_its_condition_and_hit_count(
     )  # fmt: skip
     marks = Marks(cast(Any, session))
     set_ones = marks.replace(
-        Sort.FUNCTION, [wish_of("rwlock", asked), wish_of("acquire", {}), wish_of("rwlock", {"condition": "x"})]
+        BreakpointKind.FUNCTION,
+        [wish_of("rwlock", asked), wish_of("acquire", {}), wish_of("rwlock", {"condition": "x"})],
     )
     assert [one.get("id") for one in set_ones] == [4, 7, None] and not set_ones[2]["verified"]
     assert marks.holding(["4", "7", "9"]) == [*(["4"] if stops else []), "7", "9"]  # (9 was set in the console)
@@ -187,16 +188,20 @@ def test_breakpoints_of_a_kind_are_replaced() -> None:
 
     standing = [Made(number=str(number)) for number in (1, 2, 4)]
     marks = Marks(cast(Any, Made(ask=ask, netrev=Made(marks=lambda: standing))))
-    marks.replace(Sort.FUNCTION, [wish_of("rwlock", {}), wish_of("acquire", {}), wish_of("spawn", {})])
-    assert [one["verified"] for one in marks.replace(Sort.DATA, [wish_of("lock 0", {}), wish_of("x", {})])] == [
+    marks.replace(BreakpointKind.FUNCTION, [wish_of("rwlock", {}), wish_of("acquire", {}), wish_of("spawn", {})])
+    assert [
+        one["verified"] for one in marks.replace(BreakpointKind.DATA, [wish_of("lock 0", {}), wish_of("x", {})])
+    ] == [
         True,
         False,
     ]
     lines.clear()
-    assert [one["id"] for one in marks.replace(Sort.FUNCTION, [wish_of("acquire", {}), wish_of("spawn", {})])] == [2, 5]
+    assert [
+        one["id"] for one in marks.replace(BreakpointKind.FUNCTION, [wish_of("acquire", {}), wish_of("spawn", {})])
+    ] == [2, 5]
     assert lines == ["delete 1", "break spawn"]  # (3 had been deleted)
     lines.clear()
-    marks.replace(Sort.FUNCTION, [])
+    marks.replace(BreakpointKind.FUNCTION, [])
     assert lines == ["delete 2"]  # (and 5, but for the list of marks above)
 
 

@@ -24,7 +24,7 @@ from nrdb.dap.target import AT_END, AT_START, Launch
 from nrdb.dap.view import debuggee
 from nrdb.dap.view.debuggee import Debuggee
 from nrdb.dap.view.looking import GOIDS, NETWORK, maker_of, thread_of
-from nrdb.dap.view.messages import Request, UnanswerableError, Wire
+from nrdb.dap.view.messages import Request, UnanswerableError, EditorStreams
 from tests.suspects.test_suspects import COMES, OPEN, READ, recording_of
 
 from .test_dap_heard import framed, messages_in
@@ -123,7 +123,7 @@ def test_an_editor_is_told_what_a_recording_lacks(fault: str, begins: str) -> No
         yield debugged
 
     written = io.BytesIO()
-    wire = Wire(io.BytesIO(), written)
+    wire = EditorStreams(io.BytesIO(), written)
     began = Adapter(wire, Reading(wire), "netrev")
     with mock.patch.object(adapter, "debuggee", opened), mock.patch.object(adapter, "Target", target):
         with mock.patch.object(adapter, "begin_words", lambda _: begins):
@@ -138,10 +138,10 @@ def test_an_editor_is_told_what_a_recording_lacks(fault: str, begins: str) -> No
     ("sent", "status", "says"), [(b"", 0, ""), (INITIALIZE, 0, ""), (framed(1, "disconnect"), 0, ""), (b"Hello\r\n\r\n", 3, "nrdb --dap: ")]
 )  # fmt: skip
 def test_the_exit_status(sent: bytes, status: int, says: str, capsys: pytest.CaptureFixture[str]) -> None:
-    assert serving.serve(Wire(io.BytesIO(sent), io.BytesIO()), "netrev") == status
+    assert serving.serve(EditorStreams(io.BytesIO(sent), io.BytesIO()), "netrev") == status
     assert capsys.readouterr().err.startswith(says)
     with mock.patch.object(Adapter, "serve", side_effect=BrokenPipeError):
-        assert serving.serve(Wire(io.BytesIO(), io.BytesIO()), "netrev") == 3
+        assert serving.serve(EditorStreams(io.BytesIO(), io.BytesIO()), "netrev") == 3
 
 
 def test_an_editor_is_served_over_the_standard_streams() -> None:

@@ -5,7 +5,7 @@ from typing import Any
 
 import pytest
 
-from netrev.explore.comparison import Numbered, are_alike
+from netrev.explore.comparison import NumberedState, are_alike
 from netrev.explore.scripts.board import Board
 from netrev.explore.scripts.control import Numbers
 from netrev.machine.machine import Timer
@@ -30,7 +30,7 @@ def at(which: int, steps: Steps) -> Steps:
     ]
 
 
-def state_of(steps: Steps, is_swapped: bool) -> Numbered:
+def state_of(steps: Steps, is_swapped: bool) -> NumberedState:
     """The state after steps of a recording with two goroutines and two open sockets. The numbers of sockets and descriptors are swapped
     in a schedule that opens the second socket first."""
     board, numbers = Board(Limits(4, 3, 3, 16), False), Numbers()
@@ -46,7 +46,7 @@ def state_of(steps: Steps, is_swapped: bool) -> Numbered:
         if is_swapped and step[0] != "fire":
             named |= {form: 1 - named[form] for form in "sd" if form in named}
         board.step((step[0], *named.values()))
-    return Numbered(board, numbers)
+    return NumberedState(board, numbers)
 
 
 @pytest.mark.parametrize("are_swapped", [(False, False), (False, True), (True, False), (True, True)])

@@ -11,19 +11,19 @@ from unittest.mock import Mock, patch
 from dev.fuzz.generators.injections import Traffic
 from netrev.explore import commands
 from netrev.explore.findings import HANG, Exploring
-from netrev.explore.player import Player
+from netrev.explore.player import SchedulePlayer
 from netrev.explore.schedules import Schedule, drawn, schedules, single_delays, touched
 from netrev.explore.scripts.arrivals import with_events
 from netrev.explore.scripts.making import script_of
 from netrev.explore.scripts.runs import Delay, ImpossibleScheduleError
 from netrev.explore.scripts.scripts import Script
-from netrev.explore.sentences import LEFT_UNKNOWN, UNKNOWN, UNLESS, Telling, summary
+from netrev.explore.sentences import LEFT_UNKNOWN, UNKNOWN, UNLESS, FindingSentences, summary
 from netrev.findings.suspects.ranking import suspects_of
 from netrev.machine.machine import World
 from netrev.machine.steps import apply
 from netrev.recording.recording import Recording
 from netrev.run.calls import book_of
-from netrev.run.flow import Sort
+from netrev.run.flow import OperationType
 from netrev.run.changes import PlayedSteps
 from netrev.session.session import UsageError
 from netrev.system.interrupts import SearchInterruptedError
@@ -87,7 +87,7 @@ class Again(unittest.TestCase):
         for path in examples():
             with self.subTest(path.stem):
                 recording = answered(path)
-                player = Player(script_of(recording))
+                player = SchedulePlayer(script_of(recording))
                 player.end(2 * recording.length + 100)
                 told = [json.loads(line_of(made.step, made.answer)) for made in player.steps]
                 self.assertEqual(told[: recording.length], list(recording.arrays()))
@@ -99,7 +99,7 @@ class Again(unittest.TestCase):
             with self.subTest(seed):
                 steps = Traffic(seed, None, LENGTH).run().text()
                 recording = with_answers(Recording(steps))
-                player = Player(script_of(recording))
+                player = SchedulePlayer(script_of(recording))
                 player.end(2 * recording.length)
                 told = [json.loads(line_of(made.step, made.answer)) for made in player.steps]
                 self.assertEqual(told[: recording.length], list(recording.arrays()))
@@ -114,15 +114,15 @@ class Scripts(unittest.TestCase):
     def test_a_call_is_a_row_of_operations(self) -> None:
         script = script_of(recording_of(GOOD))
         reader = [operation.sort for operation in script.goroutines[1]]
-        self.assertEqual(reader, [Sort.LOCK, Sort.RESET, Sort.READ, Sort.UNLOCK])
+        self.assertEqual(reader, [OperationType.LOCK, OperationType.RESET, OperationType.READ, OperationType.UNLOCK])
         self.assertEqual([operation.on_failure for operation in script.goroutines[1][1:3]], [3, 3])
-        self.assertEqual([one.sort for one in script.goroutines[0][:2]], [Sort.MAKE, Sort.OPEN])
+        self.assertEqual([one.sort for one in script.goroutines[0][:2]], [OperationType.MAKE, OperationType.OPEN])
 
     def test_a_call_that_found_its_deadline_passed_would_have_read(self) -> None:
         steps = OPEN + READ + ENDS + SETS + READ[:2] + ENDS
         self.assertEqual(
             [operation.sort for operation in script_of(recording_of(steps)).goroutines[1]][4:],
-            [Sort.LOCK, Sort.RESET, Sort.READ, Sort.UNLOCK],
+            [OperationType.LOCK, OperationType.RESET, OperationType.READ, OperationType.UNLOCK],
         )
 
     def test_bytes_that_a_recorder_has_put_before_the_read_come_with_their_event(self) -> None:
@@ -169,7 +169,7 @@ class Delays(unittest.TestCase):
             for number in [one.number for one in script.causes if not one.goroutine]
             if script.answers[number - 1] == ("put", 3)
         )
-        player = Player(script, (Delay(write, write + 12),))
+        player = SchedulePlayer(script, (Delay(write, write + 12),))
         player.end(1_000)
         order = [made.step[0] for made in player.steps if made.step[0] == "syswrite" or made.step[:2] == ("arrive", 3)]
         self.assertEqual(order[:2], ["syswrite", "syswrite"])
@@ -177,7 +177,7 @@ class Delays(unittest.TestCase):
     def test_each_makes_its_own_steps_in_their_order_and_behind_its_go_statement(self) -> None:
         script = script_at("real/hijacked")
         for delay in islice(single_delays(script), 0, None, 10):
-            player = Player(script, (delay,))
+            player = SchedulePlayer(script, (delay,))
             player.end(1_000)
             by_whom: dict[int, list[int]] = {}
             for made in player.steps:
@@ -194,7 +194,7 @@ class Delays(unittest.TestCase):
         for name in ("races/early-cancel", "races/http-watchdog"):
             exploring = Exploring(script_at(name), lambda number: "")
             for delay in exploring.delays[::3]:
-                player = Player(exploring.script, (delay,))
+                player = SchedulePlayer(exploring.script, (delay,))
                 player.end(1_000)
                 if played := exploring.ends_of((delay,)):
                     self.assertEqual([made.step for made in played.steps], [made.step for made in player.steps])
@@ -205,7 +205,7 @@ class Delays(unittest.TestCase):
         script = script_of(recording_of(GOOD))
         script.limits = script.limits._replace(sock=0)
         with self.assertRaises(ImpossibleScheduleError):
-            Player(script).end(100)
+            SchedulePlayer(script).end(100)
 
 
 class Races(unittest.TestCase):
@@ -258,7 +258,7 @@ class Words(unittest.TestCase):
     def setUp(self) -> None:
         self.recording = recording_of(GOOD)
         self.exploring = explored(script_of(self.recording), 40)
-        self.telling = Telling(self.recording, book_of(self.recording), self.exploring.script)
+        self.telling = FindingSentences(self.recording, book_of(self.recording), self.exploring.script)
 
     def test_a_finding_says_who_stands_still_until_when_and_that_it_is_possible(self) -> None:
         finding = self.exploring.found["deadline taken back too soon", 1, 0]

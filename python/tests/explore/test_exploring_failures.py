@@ -8,11 +8,11 @@ from unittest.mock import Mock, patch
 
 from netrev.explore import commands
 from netrev.explore.failures import FAILS, Why, watched
-from netrev.explore.findings import Exploring, Finding
+from netrev.explore.findings import Exploring, ScheduleFinding
 from netrev.explore.scripts.making import script_of
-from netrev.explore.sentences import Telling
+from netrev.explore.sentences import FindingSentences
 from netrev.recording.recording import Recording
-from netrev.recording.where import Lines
+from netrev.recording.where import SourceLines
 from netrev.run.calls import book_of
 from netrev.session.session import UsageError
 from tests.suspects.test_suspects import OPEN, Steps, recording_of
@@ -66,7 +66,7 @@ def caused(name: str) -> Recording:
     """The recording of a program's run without its bug."""
     path = CAUSED / f"{name}-good.jsonl"
     recording = Recording.read(str(path))
-    recording.lines = Lines.beside(str(path), recording.length)
+    recording.lines = SourceLines.beside(str(path), recording.length)
     return recording
 
 
@@ -110,7 +110,7 @@ class Failures(unittest.TestCase):
                 for finding in found.values():
                     self.ends_with_its_call(finding)
 
-    def ends_with_its_call(self, finding: Finding) -> None:
+    def ends_with_its_call(self, finding: ScheduleFinding) -> None:
         """After the failure, the goroutine releases the lock, and no step follows."""
         failed = finding.played.failed
         assert failed
@@ -124,7 +124,7 @@ class Words(unittest.TestCase):
     def said(self, steps: Steps, why: Why) -> str:
         recording = recording_of(steps)
         exploring = explored(recording)
-        telling = Telling(recording, book_of(recording), exploring.script)
+        telling = FindingSentences(recording, book_of(recording), exploring.script)
         return "\n".join(telling.finding(1, exploring.found[FAILS, (1, 0), why], 1, "x.jsonl"))
 
     def test_which_call_fails_and_by_what(self) -> None:

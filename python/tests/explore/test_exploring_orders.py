@@ -7,14 +7,14 @@ from typing import Optional
 
 from netrev.explore.findings import HANG
 from netrev.explore.hangs import ended_by, moved_by
-from netrev.explore.player import Player
+from netrev.explore.player import SchedulePlayer
 from netrev.explore.schedules import single_delays
 from netrev.explore.scripts.making import script_of
 from netrev.explore.scripts.runs import Delay
 from netrev.explore.scripts.scripts import Script
-from netrev.explore.sentences import IF_RAW, LEFT_UNKNOWN, UNLESS, Telling
+from netrev.explore.sentences import IF_RAW, LEFT_UNKNOWN, UNLESS, FindingSentences
 from netrev.findings.suspects.ranking import suspects_of
-from netrev.recording.where import Lines
+from netrev.recording.where import SourceLines
 from netrev.run.calls import book_of
 from tests.suspects.test_suspects import OPEN, recording_of
 
@@ -71,7 +71,7 @@ class Kept(unittest.TestCase):
     def test_what_the_network_does_comes_behind_what_it_may_come_of(self) -> None:
         script = script_of(answered(EXAMPLES / "races" / "http-idle.jsonl"))
         for delay in islice(single_delays(script), 0, None, 10):
-            player = Player(script, (delay,))
+            player = SchedulePlayer(script, (delay,))
             player.end(2_000)
             at = {made.number: at for at, made in enumerate(player.steps) if made.number}
             late = [cause.number for cause in script.causes if cause.number not in at]
@@ -96,7 +96,7 @@ class Planted(unittest.TestCase):
         for orders, is_held in known:
             recording = recording_of(steps)
             recording.lines.orders = orders
-            player = Player(script_of(recording), (Delay(3, 7),))
+            player = SchedulePlayer(script_of(recording), (Delay(3, 7),))
             player.end(100)
             made = [made.number for made in player.steps]
             self.assertEqual(made.index(3) < made.index(5), is_held)
@@ -105,7 +105,7 @@ class Planted(unittest.TestCase):
 
 def broken(script: Script, delay: Delay, orders: Pairs) -> Pairs:
     """The orders that a schedule violates, because their second step comes before their first step."""
-    player = Player(script, (delay,))
+    player = SchedulePlayer(script, (delay,))
     player.end(2_000)
     at = {made.number: at for at, made in enumerate(player.steps) if made.number}
     return [(one, other) for one, other in orders if one in at and other in at and at[other] < at[one]]
@@ -115,10 +115,11 @@ class Raw(unittest.TestCase):
     def test_what_a_function_of_the_programs_tries_is_left_open(self) -> None:
         recording = answered(EXAMPLES / "races/lost-wake-up.jsonl")
         for is_known in (True, False):
-            recording.lines = recording.lines if is_known else Lines()
+            recording.lines = recording.lines if is_known else SourceLines()
             exploring = explored(script_of(recording), 50)
             said = [
-                Telling(recording, book_of(recording), exploring.script).unless(f) for f in exploring.found.values()
+                FindingSentences(recording, book_of(recording), exploring.script).unless(f)
+                for f in exploring.found.values()
             ]
             self.assertEqual(said, [f"{UNLESS}{LEFT_UNKNOWN}; {IF_RAW}"] if is_known else [])
 

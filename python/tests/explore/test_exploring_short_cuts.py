@@ -9,10 +9,10 @@ from unittest.mock import patch
 import pytest
 from dev.fuzz.generators.injections import Traffic
 from netrev.explore.findings import Exploring, Played
-from netrev.explore.player import Player
+from netrev.explore.player import SchedulePlayer
 from netrev.explore.schedules import Schedule, schedules
 from netrev.explore.scripts.board import Board
-from netrev.explore.scripts.control import GOROUTINE, Place
+from netrev.explore.scripts.control import GOROUTINE, ScriptPlace
 from netrev.explore.scripts.making import script_of
 from netrev.explore.scripts.runs import AnsweredStep, Delay, ImpossibleScheduleError
 from netrev.machine.machine import Status
@@ -39,10 +39,10 @@ class PlainBoard(Board):
         return made
 
 
-class PlainPlayer(Player):
+class PlainPlayer(SchedulePlayer):
     """A player that doesn't reuse the recorded run, and in which every waiting goroutine checks again."""
 
-    def _note(self, g: int, place: Place, answer: Answer, status: Status) -> None:
+    def _note(self, g: int, place: ScriptPlace, answer: Answer, status: Status) -> None:
         pass
 
     def _passes(self, g: int) -> None:

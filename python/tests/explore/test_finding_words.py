@@ -11,11 +11,11 @@ from netrev.explore import commands
 from netrev.explore.commands import Keeping
 from netrev.explore.scripts.making import script_of
 from netrev.explore.scripts.runs import Delay
-from netrev.explore.sentences import Telling, summary
+from netrev.explore.sentences import FindingSentences, summary
 from netrev.findings.suspects.found import Suspect, Weight
 from netrev.reduce import report
 from netrev.reduce.reduced import Reduced, Wanted
-from netrev.reduce.units import Sort
+from netrev.reduce.units import UnitKind
 from netrev.run.calls import book_of
 from tests.suspects.test_suspects import COMES, OPEN, READ, Steps, recording_of
 
@@ -25,9 +25,9 @@ SETS: Steps = [["incref", 0, 0], ["setdeadline", 0, 0, "r", 5], ["decref", 0, 0]
 INSIDE: Steps = [*OPEN, ["incref", 1, 0], *READS, *SETS, ["decref", 1, 0], *COMES, *READ]
 
 
-def telling_of(steps: Steps) -> Telling:
+def telling_of(steps: Steps) -> FindingSentences:
     recording = recording_of(steps)
-    return Telling(recording, book_of(recording), script_of(recording))
+    return FindingSentences(recording, book_of(recording), script_of(recording))
 
 
 @pytest.mark.parametrize(
@@ -149,9 +149,9 @@ def test_a_report_begins_with_its_own_suspect(number: int, head: list[str]) -> N
     ("left_out", "is_done", "says"),
     [
         ({}, True, "x.jsonl: 3 of 9 steps, accepted by netrev; nothing could be left out"),
-        ({Sort.CALL: 1}, True, "x.jsonl: 3 of 9 steps, accepted by netrev; left out 1 call"),
-        ({Sort.TICK: 2, Sort.CALL: 0, Sort.SOCKET: 1}, False, "x.jsonl: 3 of 9 steps, accepted by netrev; left out 1 socket, 2 ticks; stopped early, so reduce what is left once more"),
+        ({UnitKind.CALL: 1}, True, "x.jsonl: 3 of 9 steps, accepted by netrev; left out 1 call"),
+        ({UnitKind.TICK: 2, UnitKind.CALL: 0, UnitKind.SOCKET: 1}, False, "x.jsonl: 3 of 9 steps, accepted by netrev; left out 1 socket, 2 ticks; stopped early, so reduce what is left once more"),
     ],
 )  # fmt: skip
-def test_what_a_reduction_removed(left_out: dict[Sort, int], is_done: bool, says: str) -> None:
+def test_what_a_reduction_removed(left_out: dict[UnitKind, int], is_done: bool, says: str) -> None:
     assert Reduced("x.jsonl", [1, 2, 5], Counter(left_out), is_done).words(9) == says

@@ -11,9 +11,9 @@ from unittest.mock import patch
 import pytest
 
 from netrev.recording.recording import Recording
-from netrev.recording.where import Lines
+from netrev.recording.where import SourceLines
 from netrev.reduce.events import Events
-from netrev.reduce.replay import Player
+from netrev.reduce.replay import ReplayPlayer
 from netrev.reduce.shrinking import Shrinking
 from netrev.reduce.targets import CellTarget, HangTarget, StepsTarget
 from netrev.reduce.units import Unit, units_of
@@ -41,15 +41,15 @@ EXAMPLES = Path(__file__).resolve().parents[3] / "examples"
 CALL: Steps = [["rwlock", 1, 0, "r"], ["pollreset", 1, 0, "r"], ["sysread", 1, 0, 16], ["rwunlock", 1, 0, "r"]]
 
 
-def player_of(recording: Recording) -> tuple[Player, list[Unit], Events]:
+def player_of(recording: Recording) -> tuple[ReplayPlayer, list[Unit], Events]:
     """A player of a recording with answers, with its units and events."""
     events = Events(recording)
     units = units_of(events)
     limits = Limits(*(recording.limits[key] for key in Limits._fields))
-    return Player(events, units, limits, lambda: None), units, events
+    return ReplayPlayer(events, units, limits, lambda: None), units, events
 
 
-def told(player: Player) -> list[str]:
+def told(player: ReplayPlayer) -> list[str]:
     """The replayed steps."""
     return [line_of(step, None) for step, _ in player.steps]
 
@@ -150,7 +150,7 @@ class Where(unittest.TestCase):
     def test_lines_are_those_of_the_steps_that_are_kept(self) -> None:
         recording = Recording.read(str(EXAMPLES / "real/past.jsonl"))
         numbers = [5, 9, 30, 31, recording.length]
-        lines = Lines(where_text(recording.lines, numbers), len(numbers))
+        lines = SourceLines(where_text(recording.lines, numbers), len(numbers))
         self.assertEqual([lines.of(at) for at in range(1, 6)], [recording.lines.of(number) for number in numbers])
         self.assertTrue(any(lines.words(at) for at in range(1, 6)))
 
@@ -159,11 +159,11 @@ class Where(unittest.TestCase):
         with tempfile.TemporaryDirectory() as folder:
             path, beside = f"{folder}/x.jsonl", Path(folder) / "x.where"
             write_recording(path, "", b"steps", lines, [5, 9])
-            self.assertEqual((Path(path).read_bytes(), Lines.beside(path, 2).of(2)), (b"steps", lines.of(9)))
-            write_recording(path, "", b"steps", Lines(), [1])
+            self.assertEqual((Path(path).read_bytes(), SourceLines.beside(path, 2).of(2)), (b"steps", lines.of(9)))
+            write_recording(path, "", b"steps", SourceLines(), [1])
             self.assertFalse(beside.exists())
             beside.write_text("mine")
-            write_recording(path, "", b"steps", Lines(), [1])
+            write_recording(path, "", b"steps", SourceLines(), [1])
             self.assertEqual(beside.read_text(), "mine")
 
 
@@ -214,13 +214,13 @@ def test_units_are_dropped_until_all_apply(name: str) -> None:
 def test_steps_keep_their_times(numbers: list[int], times: list[int]) -> None:
     lines = Recording.read(str(EXAMPLES / "real/past.jsonl")).lines
     with patch.object(lines, "times", [10, 12, 15, 20, 27, 38]):
-        assert list(Lines(where_text(lines, numbers), len(numbers)).times) == times
+        assert list(SourceLines(where_text(lines, numbers), len(numbers)).times) == times
 
 
 def test_ctrl_c_is_looked_for_while_steps_are_replayed() -> None:
     events = Events(recording_of(OPEN + [["tick", at] for at in range(1, 2_500)]))
     looks: list[int] = []
-    player = Player(events, units_of(events), Limits(4, 3, 3, 16), lambda: looks.append(player.played))
+    player = ReplayPlayer(events, units_of(events), Limits(4, 3, 3, 16), lambda: looks.append(player.played))
     player.settle(range(len(player.units)))
     assert looks == [1_000, 2_000]
     player.settle(range(3, len(player.units)))  # (steps that are replayed again count too)

@@ -10,18 +10,18 @@ import pytest
 from netrev.explore.failures import Failed, Reason, Why, ends_of, failing_delays, reason_of, stays_of, watched
 from netrev.explore.findings import Exploring
 from netrev.explore.hangs import ended_by
-from netrev.explore.player import Player
+from netrev.explore.player import SchedulePlayer
 from netrev.explore.schedules import Schedule
 from netrev.explore.scripts.actors import MOST_TRIES, Others
 from netrev.explore.scripts.board import Board
-from netrev.explore.scripts.control import CLOCK, GOROUTINE, NETWORK, NEVER, MissingObjectError, Numbers, Place
+from netrev.explore.scripts.control import CLOCK, GOROUTINE, NETWORK, NEVER, MissingObjectError, Numbers, ScriptPlace
 from netrev.explore.scripts.making import script_of
-from netrev.explore.scripts.orders import Passing, Waiting, causes_of, orders_of
+from netrev.explore.scripts.orders import OrderProgress, Waiters, causes_of, orders_of
 from netrev.explore.scripts.runs import AnsweredStep, Delay
-from netrev.explore.scripts.scripts import Cause, Item, Operation, Order, Script
+from netrev.explore.scripts.scripts import Trigger, Item, Operation, Order, Script
 from netrev.explore.workers import LENGTH, Best, Share, Report, tell_of
 from netrev.reduce.events import Event
-from netrev.run.flow import Sort
+from netrev.run.flow import OperationType
 from netrev.text.contents import Limits, Step
 from tests.suspects.test_suspects import COMES, OPEN, PARK, READ, Steps, recording_of
 
@@ -55,7 +55,7 @@ from .test_exploring_failures import CLOSES, READS, sets
 )
 def test_waiters_check_in_the_order_in_which_they_came(made: str, row: str) -> None:
     """`look`: all checked without success, and the network's next check is due at (7, 3); then checks before, at or after that time."""
-    waiting = Waiting()
+    waiting = Waiters()
     for word in made.split():
         if word == "look":
             waiting.look_again((7, 3))
@@ -69,7 +69,7 @@ def test_waiters_check_in_the_order_in_which_they_came(made: str, row: str) -> N
 
 
 def test_the_networks_later_checks_are_counted() -> None:
-    waiting = Waiting()
+    waiting = Waiters()
     assert waiting.is_empty() and not waiting.look_again((1, 1)) and waiting.again is None
     waiting.add(NETWORK, 5)
     waiting.add(NETWORK, 6)
@@ -79,8 +79,8 @@ def test_the_networks_later_checks_are_counted() -> None:
 
 def test_operations_are_ordered_as_the_program_ordered_their_steps() -> None:
     goroutines = [
-        [Operation(Sort.REFER, 0, steps=[1]), Operation(Sort.GIVE_UP, 0, steps=[5])],
-        [Operation(Sort.LOCK, 0, steps=[2]), Operation(Sort.READ, 0, steps=[3, 4]), Operation(Sort.UNLOCK, 0, steps=[9])],
+        [Operation(OperationType.REFER, 0, steps=[1]), Operation(OperationType.GIVE_UP, 0, steps=[5])],
+        [Operation(OperationType.LOCK, 0, steps=[2]), Operation(OperationType.READ, 0, steps=[3, 4]), Operation(OperationType.UNLOCK, 0, steps=[9])],
     ]  # fmt: skip
     pairs = [(1, 4), (1, 2), (4, 5), (2, 3), (1, 77), (77, 4)]
     assert orders_of(goroutines, pairs) == [[Order(1, 1, 1)], [Order(0, 0, 0), Order(1, 0, 0)]]
@@ -94,11 +94,11 @@ def test_a_goroutine_waits_for_the_operations_before_its_own(
     operations: tuple[int, int], waits_for: Optional[int]
 ) -> None:
     """Goroutine 1 begins operation 1 after operation 2 of goroutine 0, and operation 2 after operation 4."""
-    places = [Place(operations[1]), Place(operations[0])]
-    passing = Passing([[], [Order(1, 0, 2), Order(2, 0, 4)]], [], places)
+    places = [ScriptPlace(operations[1]), ScriptPlace(operations[0])]
+    passing = OrderProgress([[], [Order(1, 0, 2), Order(2, 0, 4)]], [], places)
     assert passing.has_still_to_go_on(1) == waits_for
     assert passing.has_still_to_go_on(0) is None
-    assert Passing(None, [], places).has_still_to_go_on(1) is None
+    assert OrderProgress(None, [], places).has_still_to_go_on(1) is None
     if waits_for == 0:
         passing.wait(0, GOROUTINE, 1, (0, 0))
         assert passing.waiting[0].until == (2 if operations[0] == 1 else 4)
@@ -108,21 +108,21 @@ def test_a_goroutine_waits_for_the_operations_before_its_own(
 @pytest.mark.parametrize(
     ("places", "number", "waits_for"),
     [
-        ([Place(0), Place(0)], 4, None),  # (an action before the cause)
-        ([Place(0), Place(0)], 5, 0),
-        ([Place(2, 0), Place(0)], 9, 0),
-        ([Place(2, 1), Place(0)], 9, 0),
-        ([Place(2, 2), Place(0)], 9, 1),
-        ([Place(3), Place(0)], 9, 1),
-        ([Place(3), Place(0)], 6, None),
-        ([Place(3), Place(1)], 9, None),
+        ([ScriptPlace(0), ScriptPlace(0)], 4, None),  # (an action before the cause)
+        ([ScriptPlace(0), ScriptPlace(0)], 5, 0),
+        ([ScriptPlace(2, 0), ScriptPlace(0)], 9, 0),
+        ([ScriptPlace(2, 1), ScriptPlace(0)], 9, 0),
+        ([ScriptPlace(2, 2), ScriptPlace(0)], 9, 1),
+        ([ScriptPlace(3), ScriptPlace(0)], 9, 1),
+        ([ScriptPlace(3), ScriptPlace(0)], 6, None),
+        ([ScriptPlace(3), ScriptPlace(1)], 9, None),
     ],
 )
 def test_the_network_waits_for_the_steps_to_which_it_may_react(
-    places: list[Place], number: int, waits_for: Optional[int]
+    places: list[ScriptPlace], number: int, waits_for: Optional[int]
 ) -> None:
     """Step 4 is the second of operation 2 of goroutine 0; step 6 is the first of operation 0 of goroutine 1."""
-    passing = Passing(None, [Cause(4, 0, 2, 1), Cause(6, 1, 0, 0)], places)
+    passing = OrderProgress(None, [Trigger(4, 0, 2, 1), Trigger(6, 1, 0, 0)], places)
     assert passing.has_still_to_cause(number) == waits_for
     if number == 9:
         assert [passing.holds_network_back(g) for g in (0, 1)] == [g == waits_for for g in (0, 1)]
@@ -137,7 +137,7 @@ def test_the_network_waits_for_the_steps_to_which_it_may_react(
 )  # fmt: skip
 def test_waiters_check_only_if_one_may_continue(operation: int, waiters: str, is_awaited: bool) -> None:
     """Goroutine 1 waits for operation 2 of goroutine 0, and the network for the first step of its operation 2."""
-    passing = Passing([[], [Order(0, 0, 2)]], [Cause(4, 0, 2, 0)], [Place(operation), Place()])
+    passing = OrderProgress([[], [Order(0, 0, 2)]], [Trigger(4, 0, 2, 0)], [ScriptPlace(operation), ScriptPlace()])
     for word in waiters.split():
         if word == "look":
             passing.waiting[0].look_again((7, 3))
@@ -147,7 +147,7 @@ def test_waiters_check_only_if_one_may_continue(operation: int, waiters: str, is
 
 
 def test_copies_wait_by_themselves() -> None:
-    one = Passing([[], [Order(0, 0, 2)]], [Cause(4, 0, 2, 0)], [Place(), Place()])
+    one = OrderProgress([[], [Order(0, 0, 2)]], [Trigger(4, 0, 2, 0)], [ScriptPlace(), ScriptPlace()])
     one.wait(0, GOROUTINE, 1, (0, 0))
     other = one.copy(list(one.places))
     assert one.is_as(other) and other.waiting[0].until == 2
@@ -156,17 +156,17 @@ def test_copies_wait_by_themselves() -> None:
 
 
 def test_the_networks_causes_are_in_their_order() -> None:
-    goroutines = [[Operation(Sort.WRITE, 0, steps=[7, 8, 9], kinds=["syswrite", "waitbegin", "syswrite"])], [Operation(Sort.SHUT, 0, steps=[3], kinds=["closewrite"])]]  # fmt: skip
+    goroutines = [[Operation(OperationType.WRITE, 0, steps=[7, 8, 9], kinds=["syswrite", "waitbegin", "syswrite"])], [Operation(OperationType.SHUT, 0, steps=[3], kinds=["closewrite"])]]  # fmt: skip
     assert causes_of(goroutines, ["syswrite", "closewrite"]) == [
-        Cause(3, 1, 0, 0),
-        Cause(7, 0, 0, 0),
-        Cause(9, 0, 0, 2),
+        Trigger(3, 1, 0, 0),
+        Trigger(7, 0, 0, 0),
+        Trigger(9, 0, 0, 2),
     ]
 
 
 def test_all_due_waiters_have_checked() -> None:
     """Socket 5 has checked. Therefore it now waits after socket 6, which came later."""
-    passing = Passing([[Order(9, 1, 9)], []], [], [Place(9), Place()])
+    passing = OrderProgress([[Order(9, 1, 9)], []], [], [ScriptPlace(9), ScriptPlace()])
     passing.wait(1, NETWORK, 5, (0, 0))
     passing.waiting[1].look_again((7, 3))
     passing.wait(1, NETWORK, 6, (7, 2))
@@ -431,9 +431,14 @@ def test_the_deadline_that_ended_a_call(operation: int, ended: Optional[int]) ->
         OPEN + other + sets(-1) + [["rwlock", 1, 0, "r"], ["pollreset", 1, 0, "r"], ["rwunlock", 1, 0, "r"]] + sets(-1)
     )
     script = script_of(recording_of(steps))
-    assert [one.sort for one in script.goroutines[1]] == [Sort.LOCK, Sort.RESET, Sort.WAIT, Sort.UNLOCK]
-    assert ended_by(script, 1, Place(operation)) == ended
-    assert ended_by(script, 0, Place(0)) is None
+    assert [one.sort for one in script.goroutines[1]] == [
+        OperationType.LOCK,
+        OperationType.RESET,
+        OperationType.WAIT,
+        OperationType.UNLOCK,
+    ]
+    assert ended_by(script, 1, ScriptPlace(operation)) == ended
+    assert ended_by(script, 0, ScriptPlace(0)) is None
 
 
 def test_a_process_reports_all_that_it_found() -> None:
@@ -459,10 +464,10 @@ def test_a_run_ends_before_a_time_or_after_so_many_steps() -> None:
         recording_of(OPEN + READ + PARK + COMES + [["blockswap", 1], ["sysread", 1, 0, 16], ["rwunlock", 1, 0, "r"]])
     )
     for until in range(1, script.length + 2):
-        player = Player(script)
+        player = SchedulePlayer(script)
         player.run(until, 1_000)
         assert [made.number for made in player.steps] == list(range(1, until))
-        few = Player(script)
+        few = SchedulePlayer(script)
         few.run(NEVER, until)
         assert [made.number for made in few.steps] == list(range(1, min(until, script.length) + 1))
         again = player.copy(())
@@ -489,8 +494,14 @@ def test_goroutines_that_are_not_known_make_sockets() -> None:
         recording_of(OPEN + opens + [["arrive", 1, "61"], ["pollevent", 1, 1, "r", 0], ["drain", 2, 0]][:2])
     )
     assert [(item.due, item.event.kind) for item in script.creations] == [(1, "spawn"), (4, "sockopen")]
-    assert [(one.sort, one.socket) for one in script.goroutines[0]] == [(Sort.MAKE, 0), (Sort.OPEN, 0)]
-    assert [(one.sort, one.socket) for one in script.goroutines[1][:2]] == [(Sort.MAKE, 2), (Sort.OPEN, 2)]
+    assert [(one.sort, one.socket) for one in script.goroutines[0]] == [
+        (OperationType.MAKE, 0),
+        (OperationType.OPEN, 0),
+    ]
+    assert [(one.sort, one.socket) for one in script.goroutines[1][:2]] == [
+        (OperationType.MAKE, 2),
+        (OperationType.OPEN, 2),
+    ]
     assert {s: [item.event.kind for item in row] for s, row in script.network.items()} == {
         1: ["arrive"],
         2: ["pollevent"],

@@ -7,8 +7,8 @@ from netrev.explore.scripts.control import (
     NEVER,
     MissingObjectError,
     Numbers,
-    Place,
-    Stream,
+    ScriptPlace,
+    WrittenStream,
     behind,
     is_about,
     next_number,
@@ -16,22 +16,29 @@ from netrev.explore.scripts.control import (
 )
 from netrev.explore.scripts.making import script_of
 from netrev.explore.scripts.scripts import Operation
-from netrev.run.flow import Sort
+from netrev.run.flow import OperationType
 from netrev.text.contents import Answer, Limits, Step
 from tests.suspects.test_suspects import COMES, OPEN, READ, Steps, recording_of
 
 FAILED = 7  # the operation with which a failed call continues
-LOCKS = Operation(Sort.LOCK, 0, side="r", on_failure=FAILED)
-READS = Operation(Sort.READ, 0, 0, "r", (2, 4), on_failure=FAILED)
-WRITES = Operation(Sort.WRITE, 0, 0, "w", (b"abcd",), moved=[4], on_failure=FAILED)
-WAITS = Operation(Sort.WAIT, 0, 0, "r", on_failure=FAILED)
+LOCKS = Operation(OperationType.LOCK, 0, side="r", on_failure=FAILED)
+READS = Operation(OperationType.READ, 0, 0, "r", (2, 4), on_failure=FAILED)
+WRITES = Operation(OperationType.WRITE, 0, 0, "w", (b"abcd",), moved=[4], on_failure=FAILED)
+WAITS = Operation(OperationType.WAIT, 0, 0, "r", on_failure=FAILED)
 # no try is recorded after the second wait
 UNREAD = Operation(
-    Sort.READ, 0, 0, "r", (2,), kinds=["waitbegin", "sysread", "waitbegin"], on_failure=FAILED, ends_unread=True
+    OperationType.READ,
+    0,
+    0,
+    "r",
+    (2,),
+    kinds=["waitbegin", "sysread", "waitbegin"],
+    on_failure=FAILED,
+    ends_unread=True,
 )
-GIVES_UP, DESTROYS = Operation(Sort.GIVE_UP, 0), Operation(Sort.DESTROY, 0, 0)
-AT = Place(3)
-NEXT = Place(4)
+GIVES_UP, DESTROYS = Operation(OperationType.GIVE_UP, 0), Operation(OperationType.DESTROY, 0, 0)
+AT = ScriptPlace(3)
+NEXT = ScriptPlace(4)
 
 
 @pytest.mark.parametrize(
@@ -39,25 +46,25 @@ NEXT = Place(4)
     [
         (LOCKS, AT, "rwlock", ("yes",), "idle", NEXT),
         (LOCKS, AT, "rwlock", ("wait",), "acquiring", AT),
-        (LOCKS, AT, "rwlock", ("no",), "idle", Place(FAILED)),
+        (LOCKS, AT, "rwlock", ("no",), "idle", ScriptPlace(FAILED)),
         (READS, AT, "sysread", ("got", 1), "idle", NEXT),  # fewer bytes than asked for
         (READS, AT, "sysread", ("got", 2), "idle", AT._replace(tries=1)),
         (READS, AT._replace(tries=1), "sysread", ("got", 4), "idle", NEXT),
         (READS, AT._replace(tries=1), "sysread", ("got", 2), "idle", NEXT),
-        (READS, AT, "sysread", ("eof",), "idle", Place(FAILED)),
+        (READS, AT, "sysread", ("eof",), "idle", ScriptPlace(FAILED)),
         (READS, AT._replace(tries=1), "sysread", ("again",), "idle", AT._replace(tries=1, is_waiting=True)),
         (WRITES, AT, "syswrite", ("put", 4), "idle", NEXT),
         (WRITES, AT, "syswrite", ("put", 3), "idle", AT._replace(tries=3)),
         (WRITES, AT._replace(tries=1, waits=2), "syswrite", ("put", 2), "idle", AT._replace(tries=3)),
         (WRITES, AT._replace(tries=3, waits=2), "syswrite", ("put", 1), "idle", NEXT),
-        (WRITES, AT._replace(tries=3), "syswrite", ("pipe",), "idle", Place(FAILED)),
+        (WRITES, AT._replace(tries=3), "syswrite", ("pipe",), "idle", ScriptPlace(FAILED)),
         (READS, AT._replace(is_waiting=True), "waitbegin", ("code", 0), "entering", AT._replace(is_waiting=True, waits=1)),
-        (READS, AT._replace(is_waiting=True, waits=1), "waitbegin", ("code", 2), "idle", Place(FAILED)),
+        (READS, AT._replace(is_waiting=True, waits=1), "waitbegin", ("code", 2), "idle", ScriptPlace(FAILED)),
         (READS, AT._replace(is_waiting=True, tries=1, waits=2), "waitcheck", ("code", 0), "entering", AT._replace(is_waiting=True, tries=1, waits=2)),
         (READS, AT._replace(is_waiting=True, tries=1, waits=2), "blockswap", ("yes",), "idle", AT._replace(tries=1, waits=2)),
         (UNREAD, AT._replace(is_waiting=True, waits=1), "blockswap", ("yes",), "idle", AT._replace(waits=1)),
-        (UNREAD, AT._replace(is_waiting=True, waits=2), "blockswap", ("yes",), "idle", Place(FAILED)),
-        (UNREAD, AT._replace(is_waiting=True, waits=3), "blockswap", ("yes",), "idle", Place(FAILED)),
+        (UNREAD, AT._replace(is_waiting=True, waits=2), "blockswap", ("yes",), "idle", ScriptPlace(FAILED)),
+        (UNREAD, AT._replace(is_waiting=True, waits=3), "blockswap", ("yes",), "idle", ScriptPlace(FAILED)),
         (WAITS, AT._replace(is_waiting=True, waits=1), "blockarm", ("code", 0), "idle", NEXT),
         (GIVES_UP, AT, "decref", ("done",), "idle", NEXT),
         (GIVES_UP, AT, "decref", ("done",), "owing", AT),
@@ -67,9 +74,9 @@ NEXT = Place(4)
     ],
 )  # fmt: skip
 def test_a_goroutine_continues_as_the_answer_says(
-    operation: Operation, before: Place, kind: str, answer: Answer, status: str, after: Place
+    operation: Operation, before: ScriptPlace, kind: str, answer: Answer, status: str, after: ScriptPlace
 ) -> None:
-    stream = Stream(operation) if operation.sort is Sort.WRITE else None
+    stream = WrittenStream(operation) if operation.sort is OperationType.WRITE else None
     assert behind(before, operation, kind, answer, status, stream) == after
 
 
@@ -88,14 +95,16 @@ def test_a_goroutine_continues_as_the_answer_says(
 )
 def test_a_write_goes_on_at_each_byte(place: int, turn: int, data: bytes) -> None:
     """The recorded tries moved 2 bytes, none, and 1 byte; after that, the rest was tried."""
-    writes = Operation(Sort.WRITE, 0, 0, "w", (b"abc", b"cdef", b"cd", b"def"), moved=[2, 0, 1, 3])
-    assert Stream(writes).at(place, turn) == data
+    writes = Operation(OperationType.WRITE, 0, 0, "w", (b"abc", b"cdef", b"cd", b"def"), moved=[2, 0, 1, 3])
+    assert WrittenStream(writes).at(place, turn) == data
 
 
 def test_a_write_that_moved_nothing_still_has_its_bytes() -> None:
-    assert Stream(Operation(Sort.WRITE, 0, 0, "w", (b"abc",), moved=[0])).bytes == b"abc"
-    assert Stream(Operation(Sort.WRITE, 0, 0, "w", (b"abc", b"c"), moved=[2, 0])).bytes == b"abc"
-    assert Stream(Operation(Sort.WRITE, 0, 0, "w", (b"\0\0",))).bytes == b"\0\0"  # (not in the recording)
+    assert WrittenStream(Operation(OperationType.WRITE, 0, 0, "w", (b"abc",), moved=[0])).bytes == b"abc"
+    assert WrittenStream(Operation(OperationType.WRITE, 0, 0, "w", (b"abc", b"c"), moved=[2, 0])).bytes == b"abc"
+    assert (
+        WrittenStream(Operation(OperationType.WRITE, 0, 0, "w", (b"\0\0",))).bytes == b"\0\0"
+    )  # (not in the recording)
 
 
 def board_of(*steps: Step) -> Board:
@@ -117,46 +126,60 @@ def numbers_of() -> Numbers:
 @pytest.mark.parametrize(
     ("operation", "place", "steps", "wanted"),
     [
-        (Operation(Sort.LOCK, 5, side="r"), Place(), [], ("rwlock", 1, 1, "r")),
-        (Operation(Sort.RESET, 5, 3, "r"), Place(), [], ("pollreset", 1, 0, "r")),
-        (Operation(Sort.READ, 5, 3, "r", (2, 4)), Place(), [], ("sysread", 1, 1, 2)),
-        (Operation(Sort.READ, 5, 3, "r", (2, 4)), Place(tries=1), [], ("sysread", 1, 1, 4)),
-        (Operation(Sort.READ, 5, 3, "r", (2, 4)), Place(is_waiting=True), [], ("waitbegin", 1, 0, "r")),
-        (Operation(Sort.WRITE, 5, 3, "w", (b"ab",), moved=[2]), Place(tries=1), [], ("syswrite", 1, 1, b"b")),
-        (Operation(Sort.WAIT, 5, 3, "w"), Place(), [], ("waitbegin", 1, 0, "w")),
-        (Operation(Sort.SET, 5, 3, "rw", (9,)), Place(), [], ("setdeadline", 1, 0, "rw", 9)),
-        (Operation(Sort.EXIT, -1), Place(), [], ("exit", 1)),
-        (Operation(Sort.MAKE, 8, values=(16, 4)), Place(), [], ("sockopen", 16, 4)),
-        (Operation(Sort.GIVE_UP, 5), Place(destroys=3), [], ("pollclose", 1, 0)),
-        (Operation(Sort.GIVE_UP, 5), Place(destroys=0), [], ("pollclose", 1, 2)),
-        (Operation(Sort.READ, 5, 3, "r", (2,)), Place(is_waiting=True), [("waitbegin", 1, 0, "r")], ("blockarm", 1)),
+        (Operation(OperationType.LOCK, 5, side="r"), ScriptPlace(), [], ("rwlock", 1, 1, "r")),
+        (Operation(OperationType.RESET, 5, 3, "r"), ScriptPlace(), [], ("pollreset", 1, 0, "r")),
+        (Operation(OperationType.READ, 5, 3, "r", (2, 4)), ScriptPlace(), [], ("sysread", 1, 1, 2)),
+        (Operation(OperationType.READ, 5, 3, "r", (2, 4)), ScriptPlace(tries=1), [], ("sysread", 1, 1, 4)),
+        (Operation(OperationType.READ, 5, 3, "r", (2, 4)), ScriptPlace(is_waiting=True), [], ("waitbegin", 1, 0, "r")),
+        (Operation(OperationType.WRITE, 5, 3, "w", (b"ab",), moved=[2]), ScriptPlace(tries=1), [], ("syswrite", 1, 1, b"b")),
+        (Operation(OperationType.WAIT, 5, 3, "w"), ScriptPlace(), [], ("waitbegin", 1, 0, "w")),
+        (Operation(OperationType.SET, 5, 3, "rw", (9,)), ScriptPlace(), [], ("setdeadline", 1, 0, "rw", 9)),
+        (Operation(OperationType.EXIT, -1), ScriptPlace(), [], ("exit", 1)),
+        (Operation(OperationType.MAKE, 8, values=(16, 4)), ScriptPlace(), [], ("sockopen", 16, 4)),
+        (Operation(OperationType.GIVE_UP, 5), ScriptPlace(destroys=3), [], ("pollclose", 1, 0)),
+        (Operation(OperationType.GIVE_UP, 5), ScriptPlace(destroys=0), [], ("pollclose", 1, 2)),
+        (Operation(OperationType.READ, 5, 3, "r", (2,)), ScriptPlace(is_waiting=True), [("waitbegin", 1, 0, "r")], ("blockarm", 1)),
     ],
 )  # fmt: skip
 def test_the_next_step_names_the_objects_of_the_schedule(
-    operation: Operation, place: Place, steps: list[Step], wanted: Step
+    operation: Operation, place: ScriptPlace, steps: list[Step], wanted: Step
 ) -> None:
     board, numbers = board_of(*steps), numbers_of()
-    stream = Stream(operation) if operation.sort is Sort.WRITE else None
+    stream = WrittenStream(operation) if operation.sort is OperationType.WRITE else None
     assert next_step(board, numbers, 1, place, operation, stream) == wanted
 
 
-@pytest.mark.parametrize("operation", [Operation(Sort.LOCK, 6, side="r"), Operation(Sort.RESET, 5, 4, "r")])
+@pytest.mark.parametrize(
+    "operation", [Operation(OperationType.LOCK, 6, side="r"), Operation(OperationType.RESET, 5, 4, "r")]
+)
 def test_a_step_waits_for_its_object(operation: Operation) -> None:
     with pytest.raises(MissingObjectError):
-        next_step(board_of(), numbers_of(), 1, Place(), operation, None)
+        next_step(board_of(), numbers_of(), 1, ScriptPlace(), operation, None)
 
 
 def test_what_a_step_is_about() -> None:
-    read = Operation(Sort.READ, 5, 3, "r", (2,))
-    assert is_about(("idle",), Place(), read) == (True, 5)
-    assert is_about(("idle",), Place(is_waiting=True), read) == (False, 3)
-    assert is_about(("armed", 0, "r"), Place(is_waiting=True), read) is None
-    assert is_about(("idle",), Place(), Operation(Sort.EXIT, -1)) is None
+    read = Operation(OperationType.READ, 5, 3, "r", (2,))
+    assert is_about(("idle",), ScriptPlace(), read) == (True, 5)
+    assert is_about(("idle",), ScriptPlace(is_waiting=True), read) == (False, 3)
+    assert is_about(("armed", 0, "r"), ScriptPlace(is_waiting=True), read) is None
+    assert is_about(("idle",), ScriptPlace(), Operation(OperationType.EXIT, -1)) is None
 
 
 def test_the_next_recorded_step() -> None:
-    operations = [Operation(Sort.LOCK, 0, steps=[3]), Operation(Sort.RESET, 0), Operation(Sort.READ, 0, steps=[8, 9])]
-    places = (Place(), Place(0, 1), Place(1), Place(2), Place(2, 1), Place(2, 2), Place(3))
+    operations = [
+        Operation(OperationType.LOCK, 0, steps=[3]),
+        Operation(OperationType.RESET, 0),
+        Operation(OperationType.READ, 0, steps=[8, 9]),
+    ]
+    places = (
+        ScriptPlace(),
+        ScriptPlace(0, 1),
+        ScriptPlace(1),
+        ScriptPlace(2),
+        ScriptPlace(2, 1),
+        ScriptPlace(2, 2),
+        ScriptPlace(3),
+    )
     assert [next_number(operations, place) for place in places] == [3, 8, 8, 8, 9, NEVER, NEVER]
 
 

@@ -4,7 +4,7 @@ reuses. Both runs must have the same steps."""
 import pytest
 
 from netrev.explore.findings import Exploring
-from netrev.explore.player import Player
+from netrev.explore.player import SchedulePlayer
 from netrev.explore.scripts.making import script_of
 from tests.suspects.test_suspects import COMES, OPEN, PARK, READ, USED_AGAIN, Steps, recording_of
 
@@ -39,7 +39,7 @@ def test_a_schedule_is_the_same_with_and_without_the_recorded_run(name: str) -> 
     for at, delay in enumerate(exploring.delays):
         others = exploring.delays[at + 1 : at + 4]
         for delays in ((delay,), *((delay, other) for other in others if other.before > delay.before)):
-            player = Player(exploring.script, delays)
+            player = SchedulePlayer(exploring.script, delays)
             player.end(1_000)
             played = exploring.ends_of(delays)
             if played is None:

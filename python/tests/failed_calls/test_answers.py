@@ -15,7 +15,7 @@ from netrev.findings.locks.new_readers import thrown_away
 from netrev.findings.streams.exchanges import perhaps_why
 from netrev.findings.streams.flushes import ways_round_a_flush, writes_through_a_buffer
 from netrev.recording.recording import Recording
-from netrev.recording.where import OF_GO, Call as LineCall, Stack
+from netrev.recording.where import OF_GO, SourceCall as LineCall, Stack
 from tests.hangs.test_needs import line, put, stored
 from tests.trials.go_caused import source_of
 

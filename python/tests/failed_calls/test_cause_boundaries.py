@@ -18,16 +18,16 @@ from netrev.findings.source import locks, package as package_source, functions a
 from netrev.findings.streams import unfinished_replies, unused_sockets  # fmt: skip
 from netrev.recording.call import OPEN
 from netrev.recording.goroutines import FOR_ROOM, FOR_VALUE
-from netrev.recording.where import OF_GO, OF_THE_PROGRAM, Call
+from netrev.recording.where import OF_GO, OF_THE_PROGRAM, SourceCall
 
 Patch = pytest.MonkeyPatch
 
 
-def line_of(number: int, function: str = "main.serve", file: str = "a.go", of: str = OF_THE_PROGRAM) -> Call:
-    return Call(function, file, number, of)
+def line_of(number: int, function: str = "main.serve", file: str = "a.go", of: str = OF_THE_PROGRAM) -> SourceCall:
+    return SourceCall(function, file, number, of)
 
 
-def stacks(*calls: Call) -> Any:
+def stacks(*calls: SourceCall) -> Any:
     """A recording in which each step has these calls of the program."""
     return Made(lines=Made(of=lambda step: Made(own=lambda: list(calls), calls=list(calls))))
 

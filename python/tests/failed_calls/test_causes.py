@@ -24,7 +24,7 @@ from netrev.findings.suspects.ranking import all_suspects_of
 from netrev.findings.suspects.rules_of_calls.left_open import SINCE
 from netrev.findings.suspects.rules_of_calls.timeout_again import MANY
 from netrev.recording.recording import Recording
-from netrev.recording.where import Lines
+from netrev.recording.where import SourceLines
 from tests.suspects.test_suspects import OPEN, Steps, recording_of
 from tests.trials.go_caused import NAMES, SOURCE, bug_line, source_of
 
@@ -129,7 +129,7 @@ def with_lines(steps: Steps, of: str = "program") -> Recording:
         {"step": 1, "stacks": [1] * len(steps)},
         {"peers": [[0, 1]]},
     ]
-    recording.lines = Lines("\n".join(map(json.dumps, told)), len(steps))
+    recording.lines = SourceLines("\n".join(map(json.dumps, told)), len(steps))
     assert recording.lines and not recording.lines.fault, recording.lines.fault
     return recording
 

@@ -18,8 +18,8 @@ from netrev.findings.source.copied_structs import copies_of
 from netrev.recording.call import Outcome
 from netrev.recording.goroutines import A_VALUE, FOR_VALUE, PUT, TOOK, At
 from netrev.recording.recording import Recording
-from netrev.recording.waits import Name, Waiting
-from netrev.recording.where import OF_THE_PROGRAM, Call, Stack
+from netrev.recording.waits import Name, ObjectWait
+from netrev.recording.where import OF_THE_PROGRAM, SourceCall, Stack
 from tests.hangs.test_needs import stored, use
 from tests.trials.go_caused import CHAINS, NAMES, bug_line
 
@@ -89,7 +89,7 @@ def test_the_limit_of_a_context_had_passed() -> None:
 def test_what_was_put_into_a_channel_later_counts_not_yet(what: str, position: int, is_so: bool) -> None:
     recording = with_lines(TWO_ENDS)
     recording.lines.uses[1] = [use(7, what, 0)]  # after step 1
-    wait = Waiting(Name(0), 0, None, A_VALUE, Stack((), None), None, (At(1, FOR_VALUE),))
+    wait = ObjectWait(Name(0), 0, None, A_VALUE, Stack((), None), None, (At(1, FOR_VALUE),))
     waiter = Waiter(wait.name, 0, wait.stack, None, wait)
     assert is_still_so(index_of(recording), waiter, position) is is_so
 
@@ -189,7 +189,7 @@ def test_channels_of_a_function_alone(tmp_path: Path, line: str, is_so: bool) ->
     file.write_text(f"func first() string {{\n\tanswers := make(chan string)\n\t{line}\n}}\n", encoding="utf-8")
     recording = stored("fanned-bad")
     recording.lines.written = float("inf")
-    made = Call("main.first", str(file), 2, OF_THE_PROGRAM)
+    made = SourceCall("main.first", str(file), 2, OF_THE_PROGRAM)
     assert is_local(index_of(recording), made) is is_so
 
 

@@ -16,7 +16,7 @@ from netrev.findings.hangs.joins import because_of
 from netrev.findings.hangs.wait_graph import Hang, WaitGraph, graph_at, order, waiters_of
 from netrev.recording.goroutines import CLOSED, PUT
 from netrev.recording.recording import Recording
-from netrev.recording.waits import Name, Waiting
+from netrev.recording.waits import Name, ObjectWait
 from netrev.recording.where import Stack
 from tests.hangs.test_needs import stored
 from tests.suspects.test_suspects import Steps
@@ -189,7 +189,7 @@ def test_calls_with_a_deadline_are_no_deadlock(sets: Steps, is_timed: bool) -> N
 
 def hang_of(waits: str, need: Need, waiting: int = 1, roots: int = 1, sure: Certainty = Certainty.KNOWN) -> Hang:
     stack = Stack((), None)
-    waiter = Waiter(Name(1), 1, stack, None, Waiting(Name(1), 1, None, waits, stack))
+    waiter = Waiter(Name(1), 1, stack, None, ObjectWait(Name(1), 1, None, waits, stack))
     return Hang([waiter] * roots, [need] * roots, [], waiting, 0, sure)
 
 

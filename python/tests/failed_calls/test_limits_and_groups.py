@@ -15,7 +15,7 @@ from netrev.findings.http.requests import CLIENT_TIMEOUT
 from netrev.findings.locks.groups import Groups
 from netrev.recording.goroutines import GoGoroutine
 from netrev.recording.waits import Name, waits_of
-from netrev.recording.where import Lines, Stack
+from netrev.recording.where import SourceLines, Stack
 from tests.hangs.test_needs import line
 from tests.suspects.test_suspects import OPEN
 
@@ -40,7 +40,7 @@ def timeout_says(functions: tuple[str, ...]) -> str:
         for number, function in enumerate(functions, 1)
     ]
     told += [{"stack": 1, "calls": list(range(1, len(functions) + 1))}, {"step": 1, "stacks": [1] * len(steps)}]
-    made.lines = Lines("\n".join(map(json.dumps, told)), len(steps))
+    made.lines = SourceLines("\n".join(map(json.dumps, told)), len(steps))
     assert not made.lines.fault, made.lines.fault
     return "\n".join(causes_of(made, made.length)[0].says)
 

@@ -9,8 +9,8 @@ import pytest
 from netrev.findings.causes import tables
 from netrev.findings.datagrams import cut_datagrams
 from netrev.findings.handovers import ended_hands
-from netrev.recording.goroutines import FOR_ROOM, FOR_VALUE, PUT, TOOK, At, Use
-from netrev.recording.waits import Name, Waiting
+from netrev.recording.goroutines import FOR_ROOM, FOR_VALUE, PUT, TOOK, At, ObjectUse
+from netrev.recording.waits import Name, ObjectWait
 from netrev.recording.where import OF_A_LIBRARY, OF_THE_PROGRAM, Stack
 
 from .test_cause_boundaries import line_of
@@ -71,9 +71,9 @@ def test_hands_that_have_ended(change: dict[str, Any], says: bool, monkeypatch: 
     monkeypatch.setattr(ended_hands, "hands_at", lambda index, line: [Made(name=Name(one)) for one in case.hands])
     monkeypatch.setattr(ended_hands, "has_ended", lambda recording, name: name.number in case.ended)
     monkeypatch.setattr(ended_hands, "says_of", lambda index, hands: ["They ended."])
-    uses = {case.object: [Use(case.object, 3, case.what, 1, 1, 1, case.last, 1, 1)]}
+    uses = {case.object: [ObjectUse(case.object, 3, case.what, 1, 1, 1, case.last, 1, 1)]}
     stack = Stack((line_of(3, of=case.of),) if case.own else (), None)
-    wait = Waiting(Name(case.name), 5, None, "a value", stack, None, (At(5, case.use),) * case.objects)
+    wait = ObjectWait(Name(case.name), 5, None, "a value", stack, None, (At(5, case.use),) * case.objects)
     need = ended_hands.ended_hand(cast(Any, Made(recording=Made(lines=Made(uses=uses)))), wait)
     names = tuple(Name(one) for one in case.hands)
     found = (need.says, need.ended, need.gone, need.is_odd) if need else None

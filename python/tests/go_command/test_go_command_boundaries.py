@@ -10,7 +10,7 @@ from typing import Any, cast
 
 import pytest
 
-from dev.recorder.readiness import Standing
+from dev.recorder.readiness import Readiness
 from netrev.messages import recorder as messages
 from netrev_go import cli, doctor, options, tested, testing
 from netrev_go.go_command import outputs, status
@@ -91,7 +91,7 @@ def test_doctor_fails_if_one_requirement_isn_t_met(unmet: str, monkeypatch: Patc
 
 
 def test_exit_statuses() -> None:
-    assert {one.name: one.value for one in status.Status} == {
+    assert {one.name: one.value for one in status.ExitStatus} == {
         "DONE": 0, "REFUSED": 1, "USAGE": 2, "SUSPECTED": 3, "TROUBLE": 4, "UNRECORDED": 5, "INTERRUPTED": 130,
     }  # fmt: skip
 
@@ -136,8 +136,8 @@ def test_files_of_go_that_the_overlay_replaces_have_their_names(file: str, name:
 
 @pytest.mark.parametrize("is_compiled, cell", [(True, "yes"), (False, "no")])
 def test_the_cells_of_a_release(is_compiled: bool, cell: str) -> None:
-    assert Standing("go1.27", 5, 4, is_compiled, "ok 12 steps, ok 3 steps", True).cells() == ["4 of 5", cell, "12, 3"]
-    assert Standing("go1.27", 5, 4, is_compiled, "ok 12 steps", False).cells() == ["4 of 5", cell, "no"]
+    assert Readiness("go1.27", 5, 4, is_compiled, "ok 12 steps, ok 3 steps", True).cells() == ["4 of 5", cell, "12, 3"]
+    assert Readiness("go1.27", 5, 4, is_compiled, "ok 12 steps", False).cells() == ["4 of 5", cell, "no"]
 
 
 @pytest.mark.parametrize(
@@ -188,7 +188,7 @@ class Runner:
         return self._status
 
 
-def run_of(folder: Path, runner: Runner, monkeypatch: Patch) -> testing.Run:
+def run_of(folder: Path, runner: Runner, monkeypatch: Patch) -> testing.GoRun:
     """A run that makes its recordings in `new`, a folder that doesn't exist yet."""
     fakes: dict[str, Callable[..., object]] = {
         "claim": lambda one: one, "logs_folder": lambda points: folder, "limits_of": lambda options: None, "replace": lambda limits, **more: limits,
@@ -198,7 +198,7 @@ def run_of(folder: Path, runner: Runner, monkeypatch: Patch) -> testing.Run:
     for name, fake in fakes.items():
         monkeypatch.setattr(testing, name, fake)
     recordings = Made(base=folder / "new", all_recorded=True, take=lambda one, failed: None)
-    return testing.Run(argparse.Namespace(points=1, keep=False), *cast(Any, (None, ["go", "test"], None, recordings)))
+    return testing.GoRun(argparse.Namespace(points=1, keep=False), *cast(Any, (None, ["go", "test"], None, recordings)))
 
 
 @pytest.mark.parametrize("is_cancelled", [True, False])

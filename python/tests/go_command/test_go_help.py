@@ -3,7 +3,7 @@
 import pytest
 from netrev.system.version import VERSION
 from netrev_go import cli
-from netrev_go.cli import Status
+from netrev_go.cli import ExitStatus
 from netrev_go.options import COMMANDS, parser
 
 GOS_OWN = {"run": "`go help run`", "test": "`go help test`", "build": "`go help build`"}
@@ -34,7 +34,7 @@ def test_a_commands_help_has_an_example_and_says_where_gos_own_is(
     capsys: pytest.CaptureFixture[str], command: str, word: str
 ) -> None:
     status, output, errors = printed(capsys, command, word)
-    assert (status, errors) == (Status.DONE, "")
+    assert (status, errors) == (ExitStatus.DONE, "")
     assert output.startswith("usage: netrev-go ")
     assert [line for line in output.splitlines() if line.startswith("  ") and "netrev-go" in line] != []
     assert "Go wasn't" not in output and "nothing was recorded" not in output

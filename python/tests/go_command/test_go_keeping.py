@@ -19,11 +19,11 @@ from unittest import mock
 from dev.fuzz.generators.logs import from_text
 from netrev.text.files import whole
 from netrev_go import cli, keeping
-from netrev_go.cli import Status
+from netrev_go.cli import ExitStatus
 from netrev_go.go_command.outputs import base_name, look
 from netrev_go.go_command.running import SIGNALS, logs_in
 from netrev_go.go_command.toolchain import Go, RecorderError
-from netrev_go.log.points import Kind, Log
+from netrev_go.log.points import PointKind, Log
 from netrev_go.steps import making, report
 from netrev_go.steps.making import make
 from netrev_go.steps.zeros import Zeros
@@ -115,14 +115,14 @@ class Lost(Run):
         ):
             with self.subTest(name):
                 returned, said = self.called("-o", name, "run", "main.go", does=f"touch {self.folder}/ran")
-                self.assertEqual(returned, Status.TROUBLE, said)
+                self.assertEqual(returned, ExitStatus.TROUBLE, said)
                 self.assertRegex(said, r"netrev-go: .*(Nothing was run|can't be the name of a recording)")
                 self.assertFalse((self.folder / "ran").exists())
 
     def test_a_folder_that_is_removed_meanwhile_loses_nothing(self) -> None:
         (self.folder / "out").mkdir()
         returned, said = self.called("--strict", "-o", "out/x", "run", "main.go", does=f"rmdir {self.folder}/out")
-        self.assertEqual(returned, Status.UNRECORDED, said)
+        self.assertEqual(returned, ExitStatus.UNRECORDED, said)
         self.assertIn("netrev-go: out/x.jsonl: No such file or directory", said)
         self.assertEqual(self.again(said), self.WHOLE)
 
@@ -171,7 +171,7 @@ class Lost(Run):
         netrev.write_text("#!/bin/sh\necho step 1: fault 107 reason 4\nexit 1\n")
         netrev.chmod(0o700)
         returned, said = self.called("--strict", "run", "main.go", netrev=str(netrev))
-        self.assertEqual(returned, Status.UNRECORDED, said)
+        self.assertEqual(returned, ExitStatus.UNRECORDED, said)
         self.assertIn("please keep the log and report it", said)
         self.assertEqual(self.again(said), self.WHOLE)
 
@@ -180,7 +180,7 @@ class Lost(Run):
         marks = mark.format("12.13") + mark.format("14.27") + mark.format("15.27") + mark.format("x.y")
         for command in ("run", "test"):
             returned, said = self.called("--strict", "-o", f"of-{command}", command, ".", does=marks)
-            self.assertEqual(returned, Status.UNRECORDED, said)
+            self.assertEqual(returned, ExitStatus.UNRECORDED, said)
             self.assertIn("netrev-go: process 12 couldn't write a log (Permission denied) and isn't recorded\n", said)
             self.assertIn(
                 "2 processes couldn't write a log (`ulimit -f` limits the size of its files) and aren't", said
@@ -191,7 +191,7 @@ class Lost(Run):
 
     def test_logs_that_are_gone_are_said_to_be(self) -> None:
         returned, said = self.called("--strict", "run", "main.go", does='rm -r "$(dirname $NETREV_LOG)"')
-        self.assertEqual(returned, Status.UNRECORDED, said)
+        self.assertEqual(returned, ExitStatus.UNRECORDED, said)
         self.assertRegex(said, r"nothing was recorded: the folder of the logs, \S+, no longer exists")
 
     def test_lines_of_an_earlier_recording_go(self) -> None:
@@ -203,7 +203,7 @@ class Lost(Run):
     def test_one_log_that_cannot_be_converted_takes_nothing_from_the_others(self) -> None:
         (self.folder / "x.jsonl").mkdir()
         returned, said = self.called("-o", "x", "convert", str(self.log), str(self.log), "/dev/zero", "")
-        self.assertEqual(returned, Status.TROUBLE, said)
+        self.assertEqual(returned, ExitStatus.TROUBLE, said)
         self.assertIn("netrev-go: x.jsonl: Is a directory", said)
         self.assertEqual((self.folder / "x-2.jsonl").read_text(), self.WHOLE)
         self.assertEqual(said.count(": not a regular file"), 2, said)
@@ -269,7 +269,7 @@ class Statuses(Run):
     def test_numbers_that_no_run_can_have_are_refused(self) -> None:
         for words in (["--sockets", "0"], ["--megabytes", "0"], ["-n", "nan"], ["-n", "-1"], ["--procs", "0"]):
             returned, said = self.called(*words, "run", "main.go", does=f"touch {self.folder}/ran")
-            self.assertEqual(returned, Status.TROUBLE, said)
+            self.assertEqual(returned, ExitStatus.TROUBLE, said)
             self.assertIn(f"{words[0]} must be from", said)
         self.assertFalse((self.folder / "ran").exists())
 
@@ -278,12 +278,12 @@ class Sizes(unittest.TestCase):
     """The sizes that a log of a few points may claim."""
 
     def test_bytes_are_written_out_last(self) -> None:
-        recording = make(Log(Points().opened().add(Kind.READ, 1, WORD, 65_536, 2**28).points))
+        recording = make(Log(Points().opened().add(PointKind.READ, 1, WORD, 65_536, 2**28).points))
         self.assertEqual(len(recording.lines), 2 + 2 * 2**12)
         self.assertTrue(isinstance(recording.lines[2], Zeros) and len(str(recording.lines[2])) > 2**17)
 
     def test_more_text_than_is_asked_for_is_left_out(self) -> None:
-        points = Points().opened().add(Kind.READ, 1, WORD, 65_536, 2**20).opened(701, 901).points
+        points = Points().opened().add(PointKind.READ, 1, WORD, 65_536, 2**20).opened(701, 901).points
         self.assertEqual(make(Log(points), megabytes=2).sockets, 2)
         self.assertEqual(make(Log(points), megabytes=1).sockets, 1)
         with self.assertRaisesRegex(Exception, "or 1 MB of text for its bytes"):
@@ -291,13 +291,18 @@ class Sizes(unittest.TestCase):
 
     def test_a_write_into_an_output_of_one_byte_has_a_step_for_each(self) -> None:
         for size in (2**19, 2**31 - 1):
-            points = Points().opened().add(Kind.WRITE, 1, WORD, 9, -1, 1).add(Kind.WRITE, 1, WORD, size, size)
+            points = Points().opened().add(PointKind.WRITE, 1, WORD, 9, -1, 1).add(PointKind.WRITE, 1, WORD, size, size)
             with self.assertRaisesRegex(Exception, "more than 1,000,000 steps"):
                 points.made()
 
     def test_reads_and_writes_count_few_bytes(self) -> None:
-        log = Points().opened().add(Kind.READ, 1, WORD, 2**20, 2**30).add(Kind.WRITE, 1, WORD, 2**30, 2**30)
-        log.add(Kind.WRITE, 1, WORD, 2**20, -1, 1).add(Kind.READ, 1, WORD, 9, 5)
+        log = (
+            Points()
+            .opened()
+            .add(PointKind.READ, 1, WORD, 2**20, 2**30)
+            .add(PointKind.WRITE, 1, WORD, 2**30, 2**30)
+        )
+        log.add(PointKind.WRITE, 1, WORD, 2**20, -1, 1).add(PointKind.READ, 1, WORD, 9, 5)
         recording = make(Log(log.points), all_bytes=False)
         self.assertEqual(recording.bytes, 64)
         self.assertIn("reads and writes count at most 64 bytes each: --all-bytes counts all", recording.notes)
@@ -306,7 +311,7 @@ class Sizes(unittest.TestCase):
             [step[-1] for step in steps[2:]], ["done", ["got", 64], ["put", 64], "again", "done", ["got", 5]]
         )
         self.assertLess(sum(len(str(line)) for line in recording.lines), 1_000)
-        small = make(Log(Points().opened().add(Kind.READ, 1, WORD, 2**20, 64).points), all_bytes=False)
+        small = make(Log(Points().opened().add(PointKind.READ, 1, WORD, 2**20, 64).points), all_bytes=False)
         self.assertEqual((small.bytes, small.notes), (None, []))
 
     def test_a_socket_is_left_out_only_where_there_is_no_room(self) -> None:
@@ -314,7 +319,7 @@ class Sizes(unittest.TestCase):
         for at in range(4):
             log.opened(700 + at, 900 + at)
             for _ in range(10):
-                log.add(Kind.INCREF, 1, 700 + at, 0, 8, 2)
+                log.add(PointKind.INCREF, 1, 700 + at, 0, 8, 2)
         for room, kept in ((48, 4), (47, 3), (12, 1)):
             with mock.patch.object(making, "MOST_STEPS", room):
                 recording = make(Log(log.points))
@@ -323,8 +328,8 @@ class Sizes(unittest.TestCase):
     def test_steps_that_cannot_be_reckoned_are_counted(self) -> None:
         log = Points().opened()
         for time in range(10):  # each also has a tick
-            log.add(Kind.SET_DEADLINE, 1, 900, ord("r"), 10**9, 0, 100 * (time + 1))
-        log.opened(701, 901).add(Kind.INCREF, 1, 701, 0, 8, 2)
+            log.add(PointKind.SET_DEADLINE, 1, 900, ord("r"), 10**9, 0, 100 * (time + 1))
+        log.opened(701, 901).add(PointKind.INCREF, 1, 701, 0, 8, 2)
         for room, sockets, steps in ((25, 2, 25), (24, 1, 3)):
             with mock.patch.object(making, "MOST_STEPS", room):
                 recording = make(Log(log.points))
@@ -333,10 +338,10 @@ class Sizes(unittest.TestCase):
     def test_what_is_converted_again_is_as_at_first(self) -> None:
         log, alone = Points().opened(), Points()
         for time in range(10):  # each also has a tick
-            log.add(Kind.SET_DEADLINE, 1, 900, ord("r"), 10**9, 0, 100 * (time + 1))
+            log.add(PointKind.SET_DEADLINE, 1, 900, ord("r"), 10**9, 0, 100 * (time + 1))
         for points in (log, alone):
-            points.opened(701, 901).add(Kind.WRITE, 1, 701, 9, 5).add(Kind.WRITE, 1, 701, 9, -1, 1)
-            points.add(Kind.SET_DEADLINE, 1, 901, ord("r"), 10**9, 0, 10_000).add(Kind.READ, 1, 701, 8, 0)
+            points.opened(701, 901).add(PointKind.WRITE, 1, 701, 9, 5).add(PointKind.WRITE, 1, 701, 9, -1, 1)
+            points.add(PointKind.SET_DEADLINE, 1, 901, ord("r"), 10**9, 0, 10_000).add(PointKind.READ, 1, 701, 8, 0)
         whole = make(Log(alone.points))
         with mock.patch.object(making, "MOST_STEPS", len(whole.lines) + 13):
             recording = make(Log(log.points))

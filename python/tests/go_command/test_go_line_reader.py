@@ -10,7 +10,7 @@ from dev.fuzz.generators.logs import from_text
 from netrev_go import doctor, trying
 from netrev_go.go_command.line_reader import build_line_reader, kept, line_reader, shipped
 from netrev_go.go_command.toolchain import Go, RecorderError
-from netrev_go.steps.converting import Wish, convert
+from netrev_go.steps.converting import RecordingOptions, convert
 from tests.logs.test_go_logs import REAL
 from tests.support.folders import folder_of
 
@@ -67,7 +67,7 @@ class LineReader(unittest.TestCase):
         log, name = self.folder / "log.1", self.folder / "made.jsonl"
         log.write_bytes(from_text((REAL / "past.log").read_text())[0])
         (self.folder / "log.program.0.0").write_bytes(elf())
-        convert(log, name, go, Wish())
+        convert(log, name, go, RecordingOptions())
         self.assertEqual(
             (self.written("read"), len(self.written("called"))), ([str(self.folder / "log.program.0.0")], 1)
         )

@@ -18,17 +18,17 @@ from xml.etree import ElementTree
 import pytest
 from dev.fuzz.generators.logs import binary
 from netrev.findings.finding import Finding, Kind as FindingKind
-from netrev.recording.where import Lines
+from netrev.recording.where import SourceLines
 from netrev_go import cli
-from netrev_go.cli import Status
-from netrev_go.go_command.running import FROM_THE_TERMINAL, SIGNALS, Limits, Runner
+from netrev_go.cli import ExitStatus
+from netrev_go.go_command.running import FROM_THE_TERMINAL, SIGNALS, RunLimits, GoRunner
 from netrev_go.go_command.toolchain import Go
 from netrev_go.log.goroutines import goroutines_of as everybody
-from netrev_go.log.points import Kind, Log
+from netrev_go.log.points import PointKind, Log
 from netrev_go.log.ran import Ran, Tests, Went, of_log
 from netrev_go.log.sockets import owned
 from netrev_go.steps import converting, forms, report
-from netrev_go.steps.converting import Wish
+from netrev_go.steps.converting import RecordingOptions
 from netrev_go.steps.cutting import goroutines_of, sockets_of
 from netrev_go.steps.forms import Cause, Told
 from netrev_go.steps.report import Outcome, Shown
@@ -45,15 +45,15 @@ PACKAGE = "example.org/toy/v2"
 POINTS = (
     Points()
     .opened(701, 901, g=MAIN)
-    .add(Kind.READY, MAIN, 0, RED, 1)
+    .add(PointKind.READY, MAIN, 0, RED, 1)
     .opened(702, 902, g=RED)
-    .add(Kind.READY, MAIN, 0, GREEN, 1)
+    .add(PointKind.READY, MAIN, 0, GREEN, 1)
     .opened(703, 903, g=GREEN)
-    .add(Kind.READY, RED, 0, PART, 1)
-    .add(Kind.READY, PART, 0, CHILD, 1)
+    .add(PointKind.READY, RED, 0, PART, 1)
+    .add(PointKind.READY, PART, 0, CHILD, 1)
     .opened(704, 904, g=CHILD)
-    .add(Kind.READ, CHILD, 701, 100, 100)
-    .add(Kind.READ, RED, 702, 8, 2)
+    .add(PointKind.READ, CHILD, 701, 100, 100)
+    .add(PointKind.READ, RED, 702, 8, 2)
 )
 LINES = f"""1 1 5 package {PACKAGE}
 3 {RED} 1000000000 runs TestRed
@@ -141,7 +141,7 @@ class Cutting(unittest.TestCase):
     def kept(self, name: str) -> list[int]:
         """The sockets of a test, numbered in the order in which the log opens them."""
         tests, log = tests_of(LINES), Log(POINTS.points)
-        found = owned([point for point in log.points if point.kind != Kind.READY])
+        found = owned([point for point in log.points if point.kind != PointKind.READY])
         return [socket.opening for socket in sockets_of(tests.by_name[name], log, found, tests.ran)]
 
     def test_a_test_has_its_own_and_its_parts_and_nobodys_that_was_used(self) -> None:
@@ -159,10 +159,10 @@ class Cutting(unittest.TestCase):
         points = Points()
         points.points += POINTS.points
         left, channel = 40, 5_000
-        points.add(Kind.READY, RED, 0, left, 1)
+        points.add(PointKind.READY, RED, 0, left, 1)
         for goroutine in (MAIN, RED, PART, GREEN, CHILD, left):
-            points.add(Kind.PARKS, goroutine, channel, 1).add(Kind.CHANNEL_CLOSED, goroutine, channel)
-            points.add(Kind.TIMER, goroutine, channel)
+            points.add(PointKind.PARKS, goroutine, channel, 1).add(PointKind.CHANNEL_CLOSED, goroutine, channel)
+            points.add(PointKind.TIMER, goroutine, channel)
         found = everybody([point._replace(time=1_600_000_000) for point in points.points], [], 0)
         tests = tests_of(LINES)
         rows: list[tuple[str, dict[int, int], set[int]]] = [
@@ -177,9 +177,9 @@ class Cutting(unittest.TestCase):
             self.assertEqual([parks, timers, {use.goroutine for use in kept.uses}], [expected] * 3, (name, numbers))
 
     def test_goroutines_that_made_each_other_are_nobodys(self) -> None:
-        points = Points().add(Kind.READY, 5, 0, 6, 1).add(Kind.READY, 6, 0, 5, 1).opened(701, 901, g=5)
+        points = Points().add(PointKind.READY, 5, 0, 6, 1).add(PointKind.READY, 6, 0, 5, 1).opened(701, 901, g=5)
         test = Ran("p", "T", 99, 0, 0)
-        found = owned([point for point in points.points if point.kind != Kind.READY])
+        found = owned([point for point in points.points if point.kind != PointKind.READY])
         self.assertEqual(len(sockets_of(test, Log(points.points), found, [test])), 1)
 
 
@@ -227,7 +227,7 @@ class Kept(Tested):
         self.assertIn("netrev-go: 4 tests, 1 run; 2 failed", error)
         self.assertNotIn("the logs are in", error)
         recording = self.folder / "recordings/toy.TestRed.a_part.jsonl"
-        lines = Lines.beside(str(recording), len(recording.read_text().splitlines()) - 1)
+        lines = SourceLines.beside(str(recording), len(recording.read_text().splitlines()) - 1)
         self.assertEqual((lines.fault, lines.bytes), ("", 64))
         self.assertIn(f"{PACKAGE} TestRed/a_part", [name for _, _, name in lines.tests])
 
@@ -266,11 +266,11 @@ class Kept(Tested):
     def test_suspects_fail_where_that_is_wanted(self) -> None:
         said = Outcome(True, ["x.jsonl: ok"], shown=[SUSPECTED])
         with mock.patch.object(converting, "report", lambda *_: said):
-            for what, wanted in (("suspects", Status.SUSPECTED), ("possible", 0)):
+            for what, wanted in (("suspects", ExitStatus.SUSPECTED), ("possible", 0)):
                 self.assertEqual(self.told("--fail-on", what, "test", ".", status=0)[0], wanted)
             self.assertEqual(self.told("test", ".", status=0)[0], 0)
             self.assertEqual(self.told("--fail-on", "suspects", "test", ".", status=1)[0], 1)
-            self.assertEqual(self.told("--fail-on", "suspects", "run", ".", status=0)[0], Status.SUSPECTED)
+            self.assertEqual(self.told("--fail-on", "suspects", "run", ".", status=0)[0], ExitStatus.SUSPECTED)
 
     def test_each_form_is_read_as_its_consumer_does(self) -> None:
         printed = ["x: ok 9 steps", "  a/b.go:7: net.Dial waits to read", "    1. lost wake-up: 100%: step 3, so"]
@@ -312,7 +312,7 @@ class Kept(Tested):
             ["-o", "stored", "test", "."],
         ):
             returned, _, error = self.told(*words, does=f"touch {self.folder}/ran")
-            self.assertEqual(returned, Status.TROUBLE, error)
+            self.assertEqual(returned, ExitStatus.TROUBLE, error)
         self.assertFalse((self.folder / "ran").exists())
 
     def test_a_file_that_cannot_be_written_is_said_and_changes_nothing(self) -> None:
@@ -380,7 +380,7 @@ class Forms(unittest.TestCase):
         self.assertLess(len(file_name("toy", "x" * 400)), 250)
 
     def test_each_recording_has_a_name_of_its_own(self) -> None:
-        recordings = Recordings(pathlib.Path("r"), Go("go", self.NOWHERE, "", "", ""), Wish(), False, False)
+        recordings = Recordings(pathlib.Path("r"), Go("go", self.NOWHERE, "", "", ""), RecordingOptions(), False, False)
         names = [recordings.name_of("p", test).name for test in ("T/a=b", "T/a_b", "T/a_b-2", "T/a b")]
         self.assertEqual(names, ["p.T.a_b.jsonl", "p.T.a_b-2.jsonl", "p.T.a_b-2-2.jsonl", "p.T.a_b-3.jsonl"])
 
@@ -416,7 +416,7 @@ class Signals(unittest.TestCase):
 
     def ended(self, script: str, called: Optional[list[bool]] = None) -> tuple[int, bool]:
         """The status of a command, and whether it was cancelled before its end."""
-        runner = Runner(["sh", "-c", script], self.folder, Limits())
+        runner = GoRunner(["sh", "-c", script], self.folder, RunLimits())
         status = runner.wait(lambda: (called if called is not None else []).append(True))
         return status, runner.cancelled
 
@@ -429,7 +429,7 @@ class Signals(unittest.TestCase):
         self.assertEqual(self.ended(f"kill -TERM $PPID; {loop}"), (-signal.SIGTERM, True))
 
     def test_what_the_terminal_sent_to_all_is_not_sent_twice(self) -> None:
-        runner = Runner(["true"], self.folder, Limits())
+        runner = GoRunner(["true"], self.folder, RunLimits())
         runner.wait(lambda: None)
         for code, times in ((FROM_THE_TERMINAL, 0), (0, 1)):
             with mock.patch.object(runner, "process") as process:

@@ -15,22 +15,22 @@ from unittest import mock
 from dev.fuzz.generators.logs import binary
 from netrev_go.go_command.running import log_of_process
 from netrev_go.go_command.toolchain import RecorderError
-from netrev_go.log.lines import OF_GO, OF_THE_PROGRAM, Call, Calls
+from netrev_go.log.lines import OF_GO, OF_THE_PROGRAM, LineCall, Calls
 from netrev_go.log.logfile import HEADER_BYTES, Header, copy_of, log_of, read_log
 from netrev_go.log.notes import ARMED, PARKED
-from netrev_go.log.points import Kind, Point
+from netrev_go.log.points import PointKind, Point
 from netrev_go.log.times import seconds
 from netrev_go.options import check, of_a_process, parser
 from netrev_go.steps.converting import program_of
-from netrev_go.watching import LOCKS, READS, WRITES, Waiting, Watch, waiting_in
+from netrev_go.watching import LOCKS, READS, WRITES, SocketWait, Watch, waiting_in
 
 ROWS, QUEUE = 4, 2
 COPIED = 17  # the word of the header that marks a copy
 WORD = 0xC000012340
 Side = tuple[int, int, int, int]  # place, goroutine, stack and begin
 NOBODY: Side = (0, 0, 0, 0)
-OWN = Call("main.ask", "main.go", 7, OF_THE_PROGRAM)
-READ_OF_GO = Call("internal/poll.(*FD).Read", "internal/poll/fd_unix.go", 170, OF_GO)
+OWN = LineCall("main.ask", "main.go", 7, OF_THE_PROGRAM)
+READ_OF_GO = LineCall("internal/poll.(*FD).Read", "internal/poll/fd_unix.go", 170, OF_GO)
 ACCEPT_OF_GO = READ_OF_GO._replace(function="internal/poll.(*FD).Accept")
 
 
@@ -48,7 +48,7 @@ def log_with(rows: list[bytes], queue: list[tuple[int, ...]] = [], points: list[
     return bytes(text[:begin]) + tables + bytes(text[begin:])
 
 
-def waits(text: bytes) -> list[Waiting]:
+def waits(text: bytes) -> list[SocketWait]:
     return list(waiting_in(io.BytesIO(text), Header(text)))
 
 
@@ -57,7 +57,7 @@ class Tables(unittest.TestCase):
         rows = [row(WORD, (PARKED, 41, 3, 900)), row(WORD + 64, NOBODY, (PARKED, 42, 0, 800))]
         found = waits(log_with(rows, [(WORD + 8, 1, 43, 4, 700), (WORD + 12, 2, 44, 5, 600)]))
         self.assertEqual(found, [
-            Waiting(41, READS, 3, 900, WORD), Waiting(42, WRITES, 0, 800, WORD + 64), Waiting(43, LOCKS, 4, 700, WORD), Waiting(44, LOCKS, 5, 600, WORD),
+            SocketWait(41, READS, 3, 900, WORD), SocketWait(42, WRITES, 0, 800, WORD + 64), SocketWait(43, LOCKS, 4, 700, WORD), SocketWait(44, LOCKS, 5, 600, WORD),
         ])  # fmt: skip
 
     def test_one_that_has_not_parked_or_whose_socket_is_gone_does_not(self) -> None:
@@ -67,7 +67,7 @@ class Tables(unittest.TestCase):
         self.assertEqual(waits(binary([], room=16)), [])
 
     def test_the_ring_comes_behind_them(self) -> None:
-        points = [Point(number, Kind.INIT, 1, WORD, 0, 0, 0, 5, 0) for number in range(3)]
+        points = [Point(number, PointKind.INIT, 1, WORD, 0, 0, 0, 5, 0) for number in range(3)]
         text = log_with([row(WORD, (PARKED, 41, 3, 900))], [], points)
         self.assertEqual(log_of(io.BytesIO(text)).points, points)
 
@@ -115,7 +115,7 @@ class Stuck(unittest.TestCase):
         watch = Watch(pathlib.Path("log.1"), io.BytesIO(text), Header(text), None)
         since = time.clock_gettime_ns(time.CLOCK_MONOTONIC) - 2 * 10**9
         with mock.patch.object(watch, "calls", lambda _: Calls((READ_OF_GO, OWN), None)):
-            said = watch.words(Waiting(41, READS, 1, since, WORD))
+            said = watch.words(SocketWait(41, READS, 1, since, WORD))
         self.assertRegex(said, r"^main\.go:7: internal/poll\.\(\*FD\)\.Read waits to read since 2\.\d s \(goid 41\)$")
 
 
@@ -183,7 +183,7 @@ class Processes(unittest.TestCase):
 
 class Copies(unittest.TestCase):
     def test_a_copy_has_all_that_the_log_has(self) -> None:
-        points = [Point(number, Kind.INIT, 1, WORD, 0, 0, 0, 5, 0) for number in range(40)]
+        points = [Point(number, PointKind.INIT, 1, WORD, 0, 0, 0, 5, 0) for number in range(40)]
         with tempfile.TemporaryDirectory() as folder:
             log = pathlib.Path(folder, "log.1")
             log.write_bytes(log_with([row(WORD)], [], points))
@@ -193,7 +193,7 @@ class Copies(unittest.TestCase):
                 self.assertEqual(copy_of(file).read(), log.read_bytes())
 
     def test_points_that_were_replaced_while_it_was_copied_are_no_damage(self) -> None:
-        points = [Point(number, Kind.INIT, 1, WORD, 0, 0, 0, 5, 0) for number in range(200)]
+        points = [Point(number, PointKind.INIT, 1, WORD, 0, 0, 0, 5, 0) for number in range(200)]
         text = bytearray(binary(points, room=100))
         struct.pack_into("<Q", text, 8, 195)  # the number of points when the copy began
         for is_written, is_copy, damaged in ((True, 0, False), (False, 0, True), (False, 1, False)):

@@ -24,12 +24,12 @@ from netrev.findings.locks.needs_of_mutexes import of_once
 from netrev.findings.pools.slots import slot_holders
 from netrev.findings.pools.stopped_timers import of_timers, silent_at, silent_says
 from netrev.findings.pools.uncancelled import uncancelled
-from netrev.recording.goroutines import ADDED, DONE, FOR_VALUE, PUT, TOOK, At, GoGoroutine, Timer, Use
+from netrev.recording.goroutines import ADDED, DONE, FOR_VALUE, PUT, TOOK, At, GoGoroutine, Timer, ObjectUse
 from netrev.recording.recording import Recording
-from netrev.recording.waits import Name, Waiting, waits_of
-from netrev.recording.where import Call, Lines, Stack
+from netrev.recording.waits import Name, ObjectWait, waits_of
+from netrev.recording.where import SourceCall, SourceLines, Stack
 from netrev_go.log.beside import GOES_TO, OF_DATAGRAMS, Beside, address_words
-from netrev_go.log.points import Kind, Point
+from netrev_go.log.points import PointKind, Point
 from tests.failed_calls.test_causes import TWO_ENDS, in_the_folder_of_the_source, with_lines
 from tests.trials.go_caused import GONE, NAMES, bug_line
 
@@ -85,7 +85,7 @@ def graph_of(name: str) -> WaitGraph:
     return graph_at(recording, recording.length)
 
 
-def main_wait(graph: WaitGraph) -> Waiting:
+def main_wait(graph: WaitGraph) -> ObjectWait:
     """What the main goroutine waits for."""
     wait = graph.waiters[Name(0)].wait
     assert wait is not None
@@ -94,7 +94,9 @@ def main_wait(graph: WaitGraph) -> Waiting:
 
 def test_an_answer_that_was_handed_on_isnt_dropped() -> None:
     recording, at = stored("unmatched-bad"), main_wait(graph_of("unmatched-bad")).objects[0].object
-    recording.lines.uses.setdefault(at, []).append(Use(at, 9, PUT, 0, 1, recording.length, recording.length, 1, 1))
+    recording.lines.uses.setdefault(at, []).append(
+        ObjectUse(at, 9, PUT, 0, 1, recording.length, recording.length, 1, 1)
+    )
     assert "dropped" not in first_cause(recording)
 
 
@@ -153,10 +155,10 @@ def test_the_lines_that_leave_a_loop(name: str, tmp_path: Path) -> None:
     file.write_text("\n".join(["func work() {", *lines, "}", ""]))
     recording = with_lines(TWO_ENDS)
     recording.lines.written = float("inf")
-    assert leaves_of(recording, Call("main.work", str(file), 2, "program")) == expected
+    assert leaves_of(recording, SourceCall("main.work", str(file), 2, "program")) == expected
 
 
-def of_group(*uses: Use, ended: tuple[int, ...] = (4, 5, 6)) -> Recording:
+def of_group(*uses: ObjectUse, ended: tuple[int, ...] = (4, 5, 6)) -> Recording:
     """A recording in which goroutine 1 started goroutines 4 to 6 in `all` at line 8, and some of them have ended. Stack
     1 calls Add, and stack 2 calls Done."""
     recording = with_lines(TWO_ENDS)
@@ -168,7 +170,7 @@ def of_group(*uses: Use, ended: tuple[int, ...] = (4, 5, 6)) -> Recording:
     return recording
 
 
-def added(often: int) -> Use:
+def added(often: int) -> ObjectUse:
     return use(1, ADDED, 1, often)
 
 
@@ -207,14 +209,14 @@ def test_calls_of_done_that_are_missing(name: str) -> None:
 
 
 @pytest.mark.parametrize("uses", [[], [added(2), use(4, DONE, 2, 2)], [use(4, DONE, 2)]], ids=["none", "all", "no Add"])
-def test_a_group_without_a_missing_call(uses: list[Use]) -> None:
+def test_a_group_without_a_missing_call(uses: list[ObjectUse]) -> None:
     assert count_of(of_group(*uses), 1) is None
 
 
 STOPPED = -1
 MADE, GOES_OFF = Timer(1, 4, 1, 1, 10, 50), Timer(1, 4, 3, 1, 10, 50)
 STOPS = Timer(1, 4, 2, 2, 20, STOPPED)
-TIMERS: dict[str, tuple[list[Timer], list[Use], Optional[str]]] = {
+TIMERS: dict[str, tuple[list[Timer], list[ObjectUse], Optional[str]]] = {
     "a ticker that was stopped": ([MADE, STOPS], [], "ticker"),
     "one that was set anew": ([MADE, STOPS, MADE], [], None),
     "a timer that was stopped": ([GOES_OFF, STOPS], [], "timer"),
@@ -229,7 +231,7 @@ TIMERS: dict[str, tuple[list[Timer], list[Use], Optional[str]]] = {
 
 
 def of_go(name: str) -> Stack:
-    return Stack((Call(name, "time/tick.go", 3, "go"), line(5, "tick")), None)
+    return Stack((SourceCall(name, "time/tick.go", 3, "go"), line(5, "tick")), None)
 
 
 @pytest.mark.parametrize("name", TIMERS)
@@ -242,7 +244,7 @@ def test_timers_from_which_nothing_comes(name: str) -> None:
     lines.timers[1], lines.uses[1] = timers, uses
     silent = silent_at(recording, 1)
     assert (silent.name if silent else None) == expected
-    wait = Waiting(Name(7, True), 1, None, "", Stack((line(9, "wait"),), None), None, (At(1, FOR_VALUE),))
+    wait = ObjectWait(Name(7, True), 1, None, "", Stack((line(9, "wait"),), None), None, (At(1, FOR_VALUE),))
     assert (of_timers(recording, wait) is not None) == (expected is not None)
     assert of_timers(recording, wait._replace(objects=(*wait.objects, At(2, FOR_VALUE)))) is None
 
@@ -311,8 +313,8 @@ def test_addresses_in_words(packed: int, words: str) -> None:
 
 def test_addresses_are_kept_by_socket_and_step() -> None:
     beside, own = Beside(), 1 << 56 | 0x7F000001 << 16 | 53
-    beside.named(4, Point(1, Kind.NAMED, 1, 0, own, 0, OF_DATAGRAMS, 0, 0))
-    beside.named(4, Point(2, Kind.NAMED, 1, 0, own, 0, GOES_TO, 0, 0), 17)
+    beside.named(4, Point(1, PointKind.NAMED, 1, 0, own, 0, OF_DATAGRAMS, 0, 0))
+    beside.named(4, Point(2, PointKind.NAMED, 1, 0, own, 0, GOES_TO, 0, 0), 17)
     assert (beside.addresses, beside.sent) == ([(4, "127.0.0.1:53", "")], [(17, "127.0.0.1:53")])
     assert (beside.ends, beside.peers) == ([], [])
 
@@ -325,7 +327,7 @@ def test_addresses_are_kept_by_socket_and_step() -> None:
     ],
 )  # fmt: skip
 def test_lines_of_addresses(text: str, is_good: bool) -> None:
-    assert (Lines(f'{{"where":2,"steps":3}}\n{text}', 3).fault == "") is is_good
+    assert (SourceLines(f'{{"where":2,"steps":3}}\n{text}', 3).fault == "") is is_good
 
 
 @pytest.mark.parametrize("has_written", [False, True])
@@ -376,8 +378,8 @@ def once(*numbers: int) -> Stack:
     calls = []
     for number in numbers:
         calls += [
-            Call("sync.(*Once).doSlow", "sync/once.go", 7, "go"),
-            Call("sync.(*Once).Do", "sync/once.go", 5, "go"),
+            SourceCall("sync.(*Once).doSlow", "sync/once.go", 7, "go"),
+            SourceCall("sync.(*Once).Do", "sync/once.go", 5, "go"),
         ]
         calls.append(line(number, "get"))
     return Stack(tuple(calls), None)
@@ -414,7 +416,7 @@ def test_a_context_that_is_cancelled_later(at: int, is_later: bool, tmp_path: Pa
     file.write_text(CONTEXTS)
     recording = with_lines(TWO_ENDS)
     recording.lines.written = float("inf")
-    wait = Waiting(
+    wait = ObjectWait(
         Name(7, True),
         1,
         None,
@@ -439,10 +441,10 @@ def test_a_request_that_another_goroutine_wrote() -> None:
         lines, step = recording.lines, wrote.first - 1
         lines.stacks[10_000] = wait.stack
         put, took = (
-            Use(99, goid, what, 10_000, 1, step, step, 0, wait.begin)
+            ObjectUse(99, goid, what, 10_000, 1, step, step, 0, wait.begin)
             for goid, what in ((5, PUT), (lines.goid_of(0), TOOK))
         )
-        for uses, is_found in (list[Use](), False), ([put, took], True), ([put], False):
+        for uses, is_found in (list[ObjectUse](), False), ([put, took], True), ([put], False):
             lines.uses[99] = uses
             puts_of.cache_clear()
             assert written_for(index, wait._replace(name=Name(5, True)), wrote.socket) == (wrote if is_found else None)
@@ -455,7 +457,7 @@ def test_a_wait_at_an_object_whose_use_is_not_known(is_used: bool) -> None:
     recording.lines.uses[1] = [use(4, PUT, 1)] if is_used else []
     waits = waits_of(recording)
     channels = NeedsOfChannels(recording, waits, Ledger(recording, waits), {}, {}, lambda *_: "")
-    wait = Waiting(
+    wait = ObjectWait(
         Name(7, True), 1, None, "a value from a channel", Stack((line(9, "drain"),), None), None, (At(1, ""),)
     )
     assert channels.of(wait).by is None

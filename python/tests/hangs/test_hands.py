@@ -10,7 +10,7 @@ from netrev.findings.causes.first import first_words
 from netrev.findings.evidence.loop_variables import shared_at, shared_variables
 from netrev.findings.streams.partial_reads import partial_lines
 from netrev.recording.recording import Recording
-from netrev.recording.where import OF_THE_PROGRAM, Call
+from netrev.recording.where import OF_THE_PROGRAM, SourceCall
 from tests.failed_calls.test_causes import in_the_folder_of_the_source
 from tests.trials.go_caused import HANDS, NAMES, bug_line
 
@@ -76,7 +76,7 @@ func watch(all []*backend) {
     "line, shared", [(5, [(4, "one")]), (11, []), (16, []), (21, [(20, "i")]), (23, [])]
 )  # fmt: skip
 def test_variables_of_loops_that_goroutines_share(line: int, shared: list[tuple[int, str]]) -> None:
-    made = Call("main.watch", "a.go", line, OF_THE_PROGRAM)
+    made = SourceCall("main.watch", "a.go", line, OF_THE_PROGRAM)
     assert list(shared_at(tuple(LOOPS.splitlines()), made)) == shared
 
 
@@ -88,7 +88,7 @@ def test_the_language_of_a_module(tmp_path: Path, module: str, is_shared: bool) 
     recording = stored("severed-bad")
     recording.lines.written = float("inf")
     goid, known = next(iter(recording.lines.goroutines.items()))
-    made = Call("main.watch", str(file), 5, OF_THE_PROGRAM)
+    made = SourceCall("main.watch", str(file), 5, OF_THE_PROGRAM)
     recording.lines.goroutines[goid] = known._replace(made=made)
     says = [f"Perhaps all goroutines started at {file}:5 use the last one of the loop at {file}:4: the module's language is Go 1.21, in which they share it."]  # fmt: skip
     assert shared_variables(recording, str(file)) == (says if is_shared else [])

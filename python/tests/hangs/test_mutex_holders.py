@@ -11,10 +11,10 @@ from netrev.findings.evidence.need import Certainty, Need
 from netrev.findings.evidence.waiters import Waiter, waiters_at
 from netrev.findings.hangs.needs import Needs
 from netrev.findings.locks.mutex_holders import A_MOMENT, MutexHolders
-from netrev.recording.goroutines import A_MUTEX, READ, At, Held
+from netrev.recording.goroutines import A_MUTEX, READ, At, HeldMutex
 from netrev.recording.recording import Recording
-from netrev.recording.waits import Name, Waiting
-from netrev.recording.where import OF_GO, Call, Stack
+from netrev.recording.waits import Name, ObjectWait
+from netrev.recording.where import OF_GO, SourceCall, Stack
 from tests.failed_calls.test_causes import TWO_ENDS, in_the_folder_of_the_source, with_lines
 from tests.trials.go_caused import CHAINS
 
@@ -44,10 +44,12 @@ func (b *book) acquire() {
 }
 """
 MUTEX, ANOTHER = 1, 2
-LOCK, INNER = Call("sync.(*Mutex).Lock", "sync/mutex.go", 9, OF_GO), Call(
+LOCK, INNER = SourceCall("sync.(*Mutex).Lock", "sync/mutex.go", 9, OF_GO), SourceCall(
     "internal/sync.(*Mutex).lockSlow", "a.go", 9, OF_GO
 )
-READ_LOCK, WRITE_LOCK = (Call(f"sync.(*RWMutex).{name}", "sync/rwmutex.go", 9, OF_GO) for name in ("RLock", "Lock"))
+READ_LOCK, WRITE_LOCK = (
+    SourceCall(f"sync.(*RWMutex).{name}", "sync/rwmutex.go", 9, OF_GO) for name in ("RLock", "Lock")
+)
 UPDATES, LOGS, READS, ACQUIRES, CALLS = 1, 2, 3, 4, 5  # stacks
 AT_LOCK = At(MUTEX, "")
 
@@ -59,7 +61,7 @@ def goid(number: int) -> Name:
 class Book:
     """A recording with the program's source. Some goroutines have locked its mutex, and others wait for it."""
 
-    def __init__(self, folder: Path, *held: Held) -> None:
+    def __init__(self, folder: Path, *held: HeldMutex) -> None:
         file = folder / "book.go"
         file.write_text(SOURCE, encoding="utf-8")
         self.file = str(file)
@@ -78,16 +80,16 @@ class Book:
         self.waiters: dict[Name, Waiter] = {}
         self.does: dict[Name, str] = {}
 
-    def call(self, number: int, function: str) -> Call:
+    def call(self, number: int, function: str) -> SourceCall:
         return line(number, function, self.file)
 
-    def stack(self, number: int, *inner: Call) -> Stack:
+    def stack(self, number: int, *inner: SourceCall) -> Stack:
         """A stack of the recording, with these calls added at its inner end."""
         return Stack((*inner, *self.recording.lines.stacks[number].calls), None)
 
-    def waits(self, number: int, stack: Stack, begin: int = 0, at: At = AT_LOCK) -> Waiting:
+    def waits(self, number: int, stack: Stack, begin: int = 0, at: At = AT_LOCK) -> ObjectWait:
         """Makes a goroutine wait for a mutex, with this stack."""
-        wait = Waiting(goid(number), 3, None, A_MUTEX, stack, None, (at,), begin)
+        wait = ObjectWait(goid(number), 3, None, A_MUTEX, stack, None, (at,), begin)
         self.waiters[wait.name] = Waiter(wait.name, 3, stack, None, wait)
         return wait
 
@@ -95,15 +97,15 @@ class Book:
         position = self.recording.length if position is None else position
         return MutexHolders(self.recording, self.waiters, position, lambda name: self.does.get(name, ""))
 
-    def need(self, wait: Waiting) -> Need:
+    def need(self, wait: ObjectWait) -> Need:
         """What a goroutine needs; the text has the file's name without its folder."""
         need = self.holders().need(wait)
         plain = [says.replace(self.file, "book.go") for says in need.says]
         return need._replace(says=plain, how=need.how.replace(self.file, "book.go"))
 
 
-def held(number: int, stack: int, how: str = "") -> Held:
-    return Held(MUTEX, number, how, stack, 2)
+def held(number: int, stack: int, how: str = "") -> HeldMutex:
+    return HeldMutex(MUTEX, number, how, stack, 2)
 
 
 LEFT = "Goid 7 locked it at book.go:4 in (*book).update (step 2), and returned from (*book).update with it locked."

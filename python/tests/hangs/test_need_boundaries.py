@@ -18,9 +18,9 @@ from netrev.findings.locks import skipped_done  # fmt: skip
 from netrev.findings.pools import kept_ways, unclosed  # fmt: skip
 from netrev.findings.streams import ends_of_reads, failed_dials, unpassed_ends, unread  # fmt: skip
 from netrev.recording.call import CLOSE, OPEN
-from netrev.recording.goroutines import ENDED, FOR_ROOM, FOR_VALUE, PUT, TOOK, At, Use
+from netrev.recording.goroutines import ENDED, FOR_ROOM, FOR_VALUE, PUT, TOOK, At, ObjectUse
 from netrev.recording.waits import Name
-from netrev.recording.where import OF_GO, OF_THE_PROGRAM, Call, Stack
+from netrev.recording.where import OF_GO, OF_THE_PROGRAM, SourceCall, Stack
 from tests.failed_calls.test_cause_boundaries import line_of
 from tests.failed_calls.test_causes import TWO_ENDS, with_lines
 
@@ -124,7 +124,7 @@ def test_variables_that_a_loop_shares(changed: dict[int, str], made: int, found:
 def test_channels_that_a_goroutine_found_closed(use: tuple[int, int], found: bool) -> None:
     recording = with_lines(TWO_ENDS)
     recording.lines.stacks[4] = Stack((line_of(3, "main.look"),), None)
-    recording.lines.uses[5] = [Use(5, 7, what, 4, 1, *use, 30, 40) for what in (ENDED, TOOK)]
+    recording.lines.uses[5] = [ObjectUse(5, 7, what, 4, 1, *use, 30, 40) for what in (ENDED, TOOK)]
     says = [(one.object, one.looker) for one in cancels.found_closed(recording, 7, 3, 6)]
     assert says == ([(5, "main.look")] if found else [])
     assert not list(cancels.found_closed(recording, 8, 3, 6))
@@ -138,7 +138,7 @@ def test_channels_that_a_goroutine_found_closed(use: tuple[int, int], found: boo
     ],
 )  # fmt: skip
 def test_a_limit_closes_a_channel_if_no_line_of_the_program_does(
-    calls: list[Call], expected: list[str], monkeypatch: Patch
+    calls: list[SourceCall], expected: list[str], monkeypatch: Patch
 ) -> None:
     monkeypatch.setattr(cancels, "limits_before", lambda recording, time, goid: ["timer"] if time == 8 else [])
     monkeypatch.setattr(cancels, "OF_A_LIMIT", ("context.WithTimeout",))
@@ -445,13 +445,14 @@ def test_the_last_request_before_a_connection_was_closed(
     steps: list[int], last: int | None, monkeypatch: Patch
 ) -> None:
     monkeypatch.setattr(unsent_requests, "contains", lambda stack, function: stack == function)
-    takes = Use(1, 7, TOOK, 1, 1, 1, 1, 1, 1)
-    puts = [Use(1, 8, PUT, 2, 1, step, step, step, step) for step in steps]
-    puts += [Use(1, 8, what, stack, 1, 8, 8, 8, 8) for what, stack in ((PUT, 3), (TOOK, 2))]
+    takes = ObjectUse(1, 7, TOOK, 1, 1, 1, 1, 1, 1)
+    puts = [ObjectUse(1, 8, PUT, 2, 1, step, step, step, step) for step in steps]
+    puts += [ObjectUse(1, 8, what, stack, 1, 8, 8, 8, 8) for what, stack in ((PUT, 3), (TOOK, 2))]
     others = [
-        Use(2, goid, what, stack, 1, 1, 1, 1, 1) for goid, what, stack in ((6, TOOK, 1), (7, PUT, 1), (7, TOOK, 3))
+        ObjectUse(2, goid, what, stack, 1, 1, 1, 1, 1)
+        for goid, what, stack in ((6, TOOK, 1), (7, PUT, 1), (7, TOOK, 3))
     ]
-    others += [Use(2, 8, PUT, 2, 1, 6, 6, 6, 6)]
+    others += [ObjectUse(2, 8, PUT, 2, 1, 6, 6, 6, 6)]
     stacks = {1: unsent_requests.WRITE_LOOP, 2: unsent_requests.ROUND_TRIP, 3: "other"}
     lines = Made(goid_of=lambda goroutine, step: 7, uses={1: [takes, *puts], 2: others}, stacks=stacks)
     found = unsent_requests.request_of(

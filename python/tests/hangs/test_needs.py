@@ -16,12 +16,12 @@ from netrev.findings.streams.failed_dials import failed_dials
 from netrev.findings.streams.unaccepted import unaccepted
 from netrev.findings.streams.unread import unread
 from netrev.recording.call import Call
-from netrev.recording.goroutines import FOR_VALUE, PUT, TOOK, At, GoGoroutine, Object, Park, Timer, Use
+from netrev.recording.goroutines import FOR_VALUE, PUT, TOOK, At, GoGoroutine, Object, Park, Timer, ObjectUse
 from netrev.recording.recording import Recording
 from netrev.recording.waits import Name
-from netrev.recording.where import OF_THE_PROGRAM, Call as LineCall, Lines, Stack
+from netrev.recording.where import OF_THE_PROGRAM, SourceCall as LineCall, SourceLines, Stack
 from netrev_go.log.beside import Beside
-from netrev_go.log.points import Kind, Point
+from netrev_go.log.points import PointKind, Point
 from tests.failed_calls.test_causes import CAUSED, GETS, TWO_ENDS, UNLOCKS, with_lines
 
 
@@ -29,8 +29,8 @@ def line(number: int, function: str, file: str = "bank.go") -> LineCall:
     return LineCall(f"main.{function}", file, number, OF_THE_PROGRAM)
 
 
-def use(goid: int, what: str, stack: int, often: int = 1, begin: int = 0, number: int = 1) -> Use:
-    return Use(number, goid, what, stack, often, 1, 1, begin, begin)
+def use(goid: int, what: str, stack: int, often: int = 1, begin: int = 0, number: int = 1) -> ObjectUse:
+    return ObjectUse(number, goid, what, stack, often, 1, 1, begin, begin)
 
 
 def stored(name: str) -> Recording:
@@ -38,7 +38,7 @@ def stored(name: str) -> Recording:
 
 
 class Balances(unittest.TestCase):
-    def recording(self, *uses: Use, room: int = 2) -> Recording:
+    def recording(self, *uses: ObjectUse, room: int = 2) -> Recording:
         """A recording in which stack 1 takes a value in `borrow`, stack 2 puts one back in `borrow`, and stack 3 fills
         the channel."""
         recording = with_lines(TWO_ENDS)
@@ -175,12 +175,12 @@ class Connections(unittest.TestCase):
     def test_names_of_ends_are_numbered(self) -> None:
         beside = Beside()
         for socket, own, other in ((1, 700, 800), (2, 900, 800), (3, 800, 700)):
-            beside.named(socket, Point(1, Kind.NAMED, 1, 0, own, other, 0, 0, 0))
+            beside.named(socket, Point(1, PointKind.NAMED, 1, 0, own, other, 0, 0, 0))
         self.assertEqual((beside.ends, beside.peers), ([(1, 1, 2), (2, 3, 2), (3, 2, 1)], [(1, 3)]))
         steps = len(TWO_ENDS)
-        lines = Lines(f'{{"where":2,"steps":{steps}}}\n{{"ends":[[1,1,2],[3,2,1]]}}', steps)
+        lines = SourceLines(f'{{"where":2,"steps":{steps}}}\n{{"ends":[[1,1,2],[3,2,1]]}}', steps)
         self.assertEqual((lines.fault, lines.ends), ("", {1: (1, 2), 3: (2, 1)}))
-        self.assertTrue(Lines(f'{{"where":2,"steps":{steps}}}\n{{"ends":[[1,"1",2]]}}', steps).fault)
+        self.assertTrue(SourceLines(f'{{"where":2,"steps":{steps}}}\n{{"ends":[[1,"1",2]]}}', steps).fault)
 
     def test_dials_that_fail(self) -> None:
         said = [cause.says for cause in failed_dials(index_of(stored("undone-bad")))]

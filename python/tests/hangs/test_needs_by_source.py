@@ -10,8 +10,8 @@ from netrev.findings.pools.unclosed import unclosed
 from netrev.findings.source.functions import is_same_variable, range_of
 from netrev.findings.source.locks import held_at
 from netrev.recording.goroutines import FOR_ROOM, FOR_VALUE, At
-from netrev.recording.waits import Name, Waiting
-from netrev.recording.where import Call as LineCall, Stack
+from netrev.recording.waits import Name, ObjectWait
+from netrev.recording.where import SourceCall as LineCall, Stack
 from tests.failed_calls.test_causes import TWO_ENDS, with_lines
 
 from .test_needs import line, use
@@ -92,9 +92,9 @@ class WithSource(unittest.TestCase):
     def at(self, number: int, function: str) -> LineCall:
         return line(number, function, self.file)
 
-    def waiting(self, number: int, function: str, use: str = FOR_VALUE) -> Waiting:
+    def waiting(self, number: int, function: str, use: str = FOR_VALUE) -> ObjectWait:
         stack = Stack((self.at(number, function),), None)
-        return Waiting(Name(7), 1, None, "a value from a channel", stack, objects=(At(1, use),))
+        return ObjectWait(Name(7), 1, None, "a value from a channel", stack, objects=(At(1, use),))
 
     def held(self, number: int, function: str) -> list[tuple[str, int]]:
         return [(held.name, held.line) for held in held_at(self.recording, self.at(number, function))]

@@ -10,7 +10,7 @@ from netrev.findings.evidence.responses import socket_of
 from netrev.findings.hangs.wait_graph import graph_at
 from netrev.recording.goroutines import FOR_VALUE, PUT, TOOK, At, GoGoroutine, Park
 from netrev.recording.recording import Recording
-from netrev.recording.waits import Name, Waiting
+from netrev.recording.waits import Name, ObjectWait
 from netrev.recording.where import Stack
 from tests.failed_calls.test_causes import GETS, TWO_ENDS, UNLOCKS, with_lines
 from tests.suspects.test_suspects import Steps
@@ -98,7 +98,7 @@ class EndedWithAFailure(unittest.TestCase):
 class Responses(unittest.TestCase):
     def test_a_connection_that_another_goroutine_used_since_is_not_that_of_the_request(self) -> None:
         recording = stored("requests")
-        wait = Waiting(Name(0), 420, None, "a select", Stack((), None))
+        wait = ObjectWait(Name(0), 420, None, "a select", Stack((), None))
         before = socket_of(index_of(recording), wait, recording.length)
         first = recording.lines.uses[7]
         put, took = first[0]._replace(goid=99, begin=10**9, end=10**9), first[1]._replace(

@@ -14,7 +14,7 @@ from netrev.findings.hangs.wait_graph import DEEP, MAIN, Hang, WaitGraph, graph_
 from netrev.findings.suspects.ranking import all_suspects_of
 from netrev.recording.goroutines import GoGoroutine
 from netrev.recording.recording import Recording
-from netrev.recording.where import Lines
+from netrev.recording.where import SourceLines
 from netrev.views.goroutine_stacks import stack_of
 from tests.failed_calls.test_causes import CAUSED, READS_ON, TWO_ENDS, in_the_folder_of_the_source, with_lines, writes
 from tests.suspects.test_suspects import WHILE, Steps
@@ -46,7 +46,9 @@ LOCKS = "sync.(*Mutex).lockSlow"
 WAITS_AT = "a value from a channel"
 
 
-def lines_with(steps: Steps, stacks: dict[int, list[int]], of_steps: int, waits: list[list[Any]], file: str) -> Lines:
+def lines_with(
+    steps: Steps, stacks: dict[int, list[int]], of_steps: int, waits: list[list[Any]], file: str
+) -> SourceLines:
     """Lines of NAME.where: stacks of source lines, the stack of all steps, and waits. Line 0 is the wait for a mutex."""
     told: list[Any] = [
         {"where": 1, "steps": len(steps)},
@@ -59,7 +61,7 @@ def lines_with(steps: Steps, stacks: dict[int, list[int]], of_steps: int, waits:
         told.append({"call": numbers[line], "function": function, "file": file, "line": line, "of": "program"})
     told += [{"stack": number, "calls": [numbers[line] for line in calls]} for number, calls in stacks.items()]
     told += [{"step": 1, "stacks": [of_steps] * len(steps)}, {"peers": [[0, 1]]}, {"waits": waits}]
-    lines = Lines("\n".join(map(json.dumps, told)), len(steps))
+    lines = SourceLines("\n".join(map(json.dumps, told)), len(steps))
     assert not lines.fault, lines.fault
     return lines
 

@@ -5,8 +5,8 @@ import unittest
 from typing import Optional
 
 from netrev_go.log.answering import UnconvertibleError, lock_answer
-from netrev_go.log.points import Kind, Log, Point
-from netrev_go.steps.making import NothingRecordedError, Recording, make
+from netrev_go.log.points import PointKind, Log, Point
+from netrev_go.steps.making import NothingRecordedError, NewRecording, make
 
 WORD, DESCRIPTOR = 700, 900
 
@@ -17,20 +17,20 @@ class Points:
     def __init__(self) -> None:
         self.points: list[Point] = []
 
-    def add(self, kind: Kind, g: int, at: int, a: int = 0, b: int = 0, c: int = 0, time: int = 0) -> "Points":
+    def add(self, kind: PointKind, g: int, at: int, a: int = 0, b: int = 0, c: int = 0, time: int = 0) -> "Points":
         self.points.append(Point(len(self.points), kind, g, at, a, b, c, time, 0))
         return self
 
     def opened(
         self, word: int = WORD, descriptor: int = DESCRIPTOR, reading: int = 1, writing: int = 1, g: int = 1
     ) -> "Points":
-        return self.add(Kind.INIT, g, word).add(Kind.OPEN, g, descriptor, 4, reading, writing)
+        return self.add(PointKind.INIT, g, word).add(PointKind.OPEN, g, descriptor, 4, reading, writing)
 
     def closed(self, word: int = WORD, descriptor: int = DESCRIPTOR) -> "Points":
-        self.add(Kind.INCREF_CLOSE, 1, word, 0, 9, 2).add(Kind.EVICT, 1, descriptor)
-        return self.add(Kind.DECREF, 1, word, 9, 1, 2).add(Kind.CLOSE, 1, descriptor)
+        self.add(PointKind.INCREF_CLOSE, 1, word, 0, 9, 2).add(PointKind.EVICT, 1, descriptor)
+        return self.add(PointKind.DECREF, 1, word, 9, 1, 2).add(PointKind.CLOSE, 1, descriptor)
 
-    def made(self, most: int = 256) -> Recording:
+    def made(self, most: int = 256) -> NewRecording:
         return make(Log(self.points), most)
 
     def steps(self) -> list[list[object]]:
@@ -38,49 +38,49 @@ class Points:
 
 
 # a point after the opening of a socket, and the steps for it
-LOGGED: tuple[tuple[Kind, tuple[int, ...], list[list[object]]], ...] = (
-    (Kind.READ, (8, 2, 0), [["arrive", 0, "0000", "done"], ["sysread", 0, 0, 8, ["got", 2]]]),
-    (Kind.READ, (8, 0, 1), [["sysread", 0, 0, 8, "again"]]),
-    (Kind.READ, (8, 0, 0), [["peerclose", 0, "done"], ["sysread", 0, 0, 8, "eof"]]),
-    (Kind.READ, (8, 0, 3), []),
-    (Kind.WRITE, (3, 2, 0), [["syswrite", 0, 0, "0000", ["put", 2]]]),
-    (Kind.WRITE, (3, -1, 2), []),
-    (Kind.WRITE, (3, -1, 3), []),
-    (Kind.CLOSE_WRITE, (), [["closewrite", 0, 0, "done"]]),
-    (Kind.ACQUIRE, (1, 1), [["acquire", 0, "yes"]]),
-    (Kind.ACQUIRE, (0, 1), [["acquire", 0, "wait"]]),
-    (Kind.RELEASE, (), [["release", 0, "done"]]),
-    (Kind.INCREF, (0, 8, 2), [["incref", 0, 0, "yes"]]),
-    (Kind.RW_LOCK, (0, 12, 2), [["rwlock", 0, 0, "w", "yes"]]),
-    (Kind.RW_LOCK, (10, 2**23 + 10, 1), [["rwlock", 0, 0, "r", "wait"]]),
+LOGGED: tuple[tuple[PointKind, tuple[int, ...], list[list[object]]], ...] = (
+    (PointKind.READ, (8, 2, 0), [["arrive", 0, "0000", "done"], ["sysread", 0, 0, 8, ["got", 2]]]),
+    (PointKind.READ, (8, 0, 1), [["sysread", 0, 0, 8, "again"]]),
+    (PointKind.READ, (8, 0, 0), [["peerclose", 0, "done"], ["sysread", 0, 0, 8, "eof"]]),
+    (PointKind.READ, (8, 0, 3), []),
+    (PointKind.WRITE, (3, 2, 0), [["syswrite", 0, 0, "0000", ["put", 2]]]),
+    (PointKind.WRITE, (3, -1, 2), []),
+    (PointKind.WRITE, (3, -1, 3), []),
+    (PointKind.CLOSE_WRITE, (), [["closewrite", 0, 0, "done"]]),
+    (PointKind.ACQUIRE, (1, 1), [["acquire", 0, "yes"]]),
+    (PointKind.ACQUIRE, (0, 1), [["acquire", 0, "wait"]]),
+    (PointKind.RELEASE, (), [["release", 0, "done"]]),
+    (PointKind.INCREF, (0, 8, 2), [["incref", 0, 0, "yes"]]),
+    (PointKind.RW_LOCK, (0, 12, 2), [["rwlock", 0, 0, "w", "yes"]]),
+    (PointKind.RW_LOCK, (10, 2**23 + 10, 1), [["rwlock", 0, 0, "r", "wait"]]),
 )
-AT_THE_DESCRIPTOR: tuple[tuple[Kind, tuple[int, ...], list[object]], ...] = (
-    (Kind.RESET, (114, 2), ["pollreset", 0, 0, "r", ["code", 2]]),
-    (Kind.WAIT_BEGIN, (119, 0), ["waitbegin", 0, 0, "w", ["code", 0]]),
-    (Kind.ARM, (114, 0), ["blockarm", 0, "wait"]),
-    (Kind.ARM, (114, 1), ["blockarm", 0, ["code", 0]]),
-    (Kind.CHECK, (114, 3), ["blockcheck", 0, ["code", 3]]),
-    (Kind.PARK, (114, 1), ["parkcommit", 0, "yes"]),
-    (Kind.PARK, (114, 0), ["parkcommit", 0, "no"]),
-    (Kind.SWAP, (114, 1), ["blockswap", 0, "yes"]),
-    (Kind.SWAP, (114, 0), ["blockswap", 0, "no"]),
-    (Kind.WAIT_CHECK, (114, 1), ["waitcheck", 0, ["code", 1]]),
-    (Kind.EVENT, (114 + 119, 1), ["pollevent", 0, 1, "rw", 1, "done"]),
+AT_THE_DESCRIPTOR: tuple[tuple[PointKind, tuple[int, ...], list[object]], ...] = (
+    (PointKind.RESET, (114, 2), ["pollreset", 0, 0, "r", ["code", 2]]),
+    (PointKind.WAIT_BEGIN, (119, 0), ["waitbegin", 0, 0, "w", ["code", 0]]),
+    (PointKind.ARM, (114, 0), ["blockarm", 0, "wait"]),
+    (PointKind.ARM, (114, 1), ["blockarm", 0, ["code", 0]]),
+    (PointKind.CHECK, (114, 3), ["blockcheck", 0, ["code", 3]]),
+    (PointKind.PARK, (114, 1), ["parkcommit", 0, "yes"]),
+    (PointKind.PARK, (114, 0), ["parkcommit", 0, "no"]),
+    (PointKind.SWAP, (114, 1), ["blockswap", 0, "yes"]),
+    (PointKind.SWAP, (114, 0), ["blockswap", 0, "no"]),
+    (PointKind.WAIT_CHECK, (114, 1), ["waitcheck", 0, ["code", 1]]),
+    (PointKind.EVENT, (114 + 119, 1), ["pollevent", 0, 1, "rw", 1, "done"]),
 )
 # the kind, the lock word before and after, two bits (1: for reading, 2: Go's function returned true), and the recorded
 # answer
 RETURNED = (
-    (Kind.INCREF, 0, 8, 2, "yes"),
-    (Kind.INCREF, 1, 1, 0, "no"),
-    (Kind.INCREF_CLOSE, 18, 27, 2, "yes"),
-    (Kind.INCREF_CLOSE, 9, 9, 0, "no"),
-    (Kind.DECREF, 9, 1, 2, "last"),
-    (Kind.DECREF, 17, 9, 0, "notlast"),
-    (Kind.RW_LOCK, 0, 10, 3, "yes"),
-    (Kind.RW_LOCK, 10, 10 + 2**23, 1, "wait"),
-    (Kind.RW_LOCK, 19, 19, 1, "no"),
-    (Kind.RW_UNLOCK, 11, 1, 3, "last"),
-    (Kind.RW_UNLOCK, 10, 0, 1, "notlast"),
+    (PointKind.INCREF, 0, 8, 2, "yes"),
+    (PointKind.INCREF, 1, 1, 0, "no"),
+    (PointKind.INCREF_CLOSE, 18, 27, 2, "yes"),
+    (PointKind.INCREF_CLOSE, 9, 9, 0, "no"),
+    (PointKind.DECREF, 9, 1, 2, "last"),
+    (PointKind.DECREF, 17, 9, 0, "notlast"),
+    (PointKind.RW_LOCK, 0, 10, 3, "yes"),
+    (PointKind.RW_LOCK, 10, 10 + 2**23, 1, "wait"),
+    (PointKind.RW_LOCK, 19, 19, 1, "no"),
+    (PointKind.RW_UNLOCK, 11, 1, 3, "last"),
+    (PointKind.RW_UNLOCK, 10, 0, 1, "notlast"),
 )
 
 
@@ -99,13 +99,15 @@ class Answering(unittest.TestCase):
                 self.assertEqual(lock_answer(kind, old == new, bits), answer)
 
     def test_a_write_after_a_closewrite_fails(self) -> None:
-        steps = Points().opened().add(Kind.CLOSE_WRITE, 1, WORD).add(Kind.WRITE, 1, WORD, 3, -1, 2).steps()
+        steps = Points().opened().add(PointKind.CLOSE_WRITE, 1, WORD).add(PointKind.WRITE, 1, WORD, 3, -1, 2).steps()
         self.assertEqual(steps[2:], [["closewrite", 0, 0, "done"], ["syswrite", 0, 0, "000000", "pipe"]])
 
     def test_a_write_that_a_closewrite_overtook_stands_before_it(self) -> None:
-        log = Points().opened().add(Kind.CLOSE_WRITE, 2, WORD)
+        log = Points().opened().add(PointKind.CLOSE_WRITE, 2, WORD)
         # (the goroutine that closed the side continues before the write's point is logged)
-        log.add(Kind.RW_LOCK, 2, WORD, 9, 17, 0).add(Kind.WRITE, 1, WORD, 3, 3, 0).add(Kind.WRITE, 1, WORD, 3, -1, 2)
+        log.add(PointKind.RW_LOCK, 2, WORD, 9, 17, 0).add(PointKind.WRITE, 1, WORD, 3, 3, 0).add(
+            PointKind.WRITE, 1, WORD, 3, -1, 2
+        )
         made = log.made()
         self.assertEqual(
             [json.loads(str(line))[0] for line in made.lines[2:]],
@@ -116,30 +118,30 @@ class Answering(unittest.TestCase):
         )
 
     def test_a_write_that_found_no_room_and_a_closewrite_overtook_stands_before_it(self) -> None:
-        log = Points().opened().add(Kind.WRITE, 1, WORD, 5, 5, 0).add(Kind.CLOSE_WRITE, 2, WORD)
-        steps = log.add(Kind.WRITE, 1, WORD, 3, 0, 1).add(Kind.CLOSE_WRITE, 2, WORD).steps()
+        log = Points().opened().add(PointKind.WRITE, 1, WORD, 5, 5, 0).add(PointKind.CLOSE_WRITE, 2, WORD)
+        steps = log.add(PointKind.WRITE, 1, WORD, 3, 0, 1).add(PointKind.CLOSE_WRITE, 2, WORD).steps()
         self.assertEqual(
             [step[-1] if step[0] == "syswrite" else step[0] for step in steps[2:]],
             [["put", 5], "spawn", "again", "closewrite", "closewrite"],
         )
 
     def test_the_size_of_a_write_that_a_closewrite_overtook_is_at_its_step(self) -> None:
-        log = Points().opened().add(Kind.CLOSE_WRITE, 2, WORD).add(Kind.DECREF, 2, WORD, 9, 1, 0)
-        log.add(Kind.WRITE, 1, WORD, 999, 999, 0)
+        log = Points().opened().add(PointKind.CLOSE_WRITE, 2, WORD).add(PointKind.DECREF, 2, WORD, 9, 1, 0)
+        log.add(PointKind.WRITE, 1, WORD, 999, 999, 0)
         made = make(Log(log.points), all_bytes=False)
         (place,) = (place for place, line in enumerate(made.lines, 1) if "syswrite" in str(line))
         self.assertEqual(made.beside.sizes, [(place, 999)])
 
     def test_an_output_is_full_where_go_found_it_so(self) -> None:
-        steps = Points().opened().add(Kind.WRITE, 1, WORD, 3, 2, 0).add(Kind.WRITE, 1, WORD, 1, 0, 1).steps()
+        steps = Points().opened().add(PointKind.WRITE, 1, WORD, 3, 2, 0).add(PointKind.WRITE, 1, WORD, 1, 0, 1).steps()
         self.assertEqual(steps[0][:3], ["sockopen", 65_536, 2])
         self.assertEqual(steps[2:], [["syswrite", 0, 0, "0000", ["put", 2]], ["syswrite", 0, 0, "00", "again"]])
 
     def test_an_output_that_sendfile_filled_has_no_step(self) -> None:
-        log = Points().opened().add(Kind.WRITE, 1, WORD, 9, 9, 0).add(Kind.WRITE, 1, WORD, 9, 0, 1)
-        log.add(Kind.WRITE, 1, WORD, 5, 5, 0).add(Kind.WRITE, 1, WORD, 5, 0, 1)
+        log = Points().opened().add(PointKind.WRITE, 1, WORD, 9, 9, 0).add(PointKind.WRITE, 1, WORD, 9, 0, 1)
+        log.add(PointKind.WRITE, 1, WORD, 5, 5, 0).add(PointKind.WRITE, 1, WORD, 5, 0, 1)
         self.assertEqual([step[-1] for step in log.steps()[2:] if step[0] == "syswrite"][:2], [["put", 9], "again"])
-        log = Points().opened().add(Kind.WRITE, 1, WORD, 9, 0, 1)
+        log = Points().opened().add(PointKind.WRITE, 1, WORD, 9, 0, 1)
         self.assertEqual(log.steps()[2:], [])
 
 
@@ -147,7 +149,12 @@ class Ordinary(unittest.TestCase):
     """The actions of ordinary programs."""
 
     def test_a_write_of_more_than_a_page_goes_through(self) -> None:
-        log = Points().opened().add(Kind.WRITE, 1, WORD, 5000, 5000, 0).add(Kind.WRITE, 1, WORD, 200_000, 200_000, 0)
+        log = (
+            Points()
+            .opened()
+            .add(PointKind.WRITE, 1, WORD, 5000, 5000, 0)
+            .add(PointKind.WRITE, 1, WORD, 200_000, 200_000, 0)
+        )
         puts = [step[-1] for step in log.steps() if step[0] == "syswrite"]
         self.assertEqual(puts[0], ["put", 5000])
         self.assertEqual(sum(put[1] for put in puts if isinstance(put, list)), 205_000)
@@ -162,47 +169,56 @@ class Ordinary(unittest.TestCase):
 
     def test_an_address_that_is_a_files_now_is_forgotten(self) -> None:
         log = Points().opened().closed()
-        late = log.add(Kind.INCREF, 2, WORD, 1, 1).steps()
+        late = log.add(PointKind.INCREF, 2, WORD, 1, 1).steps()
         self.assertEqual(late[-1], ["incref", 1, 0, "no"])
-        self.assertEqual(log.add(Kind.INCREF, 2, WORD, 0, 8, 2).add(Kind.READ, 2, WORD, 1, 1).steps(), late)
+        self.assertEqual(log.add(PointKind.INCREF, 2, WORD, 0, 8, 2).add(PointKind.READ, 2, WORD, 1, 1).steps(), late)
 
     def test_a_socket_that_was_open_before_is_left_out(self) -> None:
-        log = Points().add(Kind.INCREF, 2, 70, 0, 8, 2).add(Kind.WAIT_BEGIN, 2, 90, 114).add(Kind.PARK, 2, 90, 114, 1)
-        log.add(Kind.EVENT, 0, 90, 114).add(Kind.FIRE, 0, 90, 3, 1, time=5)
+        log = (
+            Points()
+            .add(PointKind.INCREF, 2, 70, 0, 8, 2)
+            .add(PointKind.WAIT_BEGIN, 2, 90, 114)
+            .add(PointKind.PARK, 2, 90, 114, 1)
+        )
+        log.add(PointKind.EVENT, 0, 90, 114).add(PointKind.FIRE, 0, 90, 3, 1, time=5)
         self.assertEqual(log.opened().steps(), Points().opened().steps())
 
     def test_opened_files_are_left_out(self) -> None:
         log = Points()
         for i in range(1000):
-            log.opened(1000 + i % 7, 90).add(Kind.OPEN_FAILED, 1, 90, 1)
-            log.add(Kind.INCREF_CLOSE, 1, 1000 + i % 7, 0, 9, 2).add(Kind.DECREF, 1, 1000 + i % 7, 9, 1, 2)
+            log.opened(1000 + i % 7, 90).add(PointKind.OPEN_FAILED, 1, 90, 1)
+            log.add(PointKind.INCREF_CLOSE, 1, 1000 + i % 7, 0, 9, 2).add(PointKind.DECREF, 1, 1000 + i % 7, 9, 1, 2)
         self.assertEqual(log.opened().steps(), Points().opened().steps())
         with self.assertRaisesRegex(NothingRecordedError, "no socket was opened"):
-            Points().opened().add(Kind.OPEN_FAILED, 1, DESCRIPTOR, 1).made()
+            Points().opened().add(PointKind.OPEN_FAILED, 1, DESCRIPTOR, 1).made()
 
     def test_a_socket_that_is_opened_again_and_is_not_goes_on(self) -> None:
-        log = Points().opened().add(Kind.INCREF, 2, WORD, 0, 8, 2)
-        log.opened(WORD, DESCRIPTOR + 1).add(Kind.OPEN_FAILED, 1, DESCRIPTOR + 1, 1).add(Kind.DECREF, 2, WORD, 8, 0, 0)
+        log = Points().opened().add(PointKind.INCREF, 2, WORD, 0, 8, 2)
+        log.opened(WORD, DESCRIPTOR + 1).add(PointKind.OPEN_FAILED, 1, DESCRIPTOR + 1, 1).add(
+            PointKind.DECREF, 2, WORD, 8, 0, 0
+        )
         self.assertEqual(log.steps()[-1], ["decref", 1, 0, "notlast"])
         self.assertEqual(len(log.steps()), len(Points().opened().steps()) + 3)
 
     def test_whether_events_have_gos_tags(self) -> None:
         for tag in (0, 3):
-            log = Points().add(Kind.INIT, 1, WORD).add(Kind.OPEN, 1, DESCRIPTOR, 4 | tag << 32, 1, 1)
-            made = log.add(Kind.EVENT, 0, DESCRIPTOR, 114, 0, tag).made()
+            log = Points().add(PointKind.INIT, 1, WORD).add(PointKind.OPEN, 1, DESCRIPTOR, 4 | tag << 32, 1, 1)
+            made = log.add(PointKind.EVENT, 0, DESCRIPTOR, 114, 0, tag).made()
             self.assertEqual(made.has_tags, bool(tag))
 
     def test_an_event_behind_the_close_is_stale(self) -> None:
-        log = Points().opened().closed().add(Kind.EVENT, 0, DESCRIPTOR, 114)
+        log = Points().opened().closed().add(PointKind.EVENT, 0, DESCRIPTOR, 114)
         self.assertEqual(log.steps()[-1], ["pollevent", 0, 1, "r", 0, "stale"])
-        log.opened(WORD + 1).add(Kind.EVENT, 0, DESCRIPTOR, 114)
+        log.opened(WORD + 1).add(PointKind.EVENT, 0, DESCRIPTOR, 114)
         self.assertEqual(log.steps()[-1], ["pollevent", 0, 2, "r", 0, "done"])
 
 
 class Deadlines(unittest.TestCase):
     def test_a_call_that_sets_a_deadline_is_three_steps(self) -> None:
-        log = Points().opened().add(Kind.RW_LOCK, 1, WORD, 0, 10, 3)
-        log.add(Kind.DEADLINE_CALL, 2, DESCRIPTOR, 114, 5, 10, time=100).add(Kind.RW_UNLOCK, 1, WORD, 10, 0, 1)
+        log = Points().opened().add(PointKind.RW_LOCK, 1, WORD, 0, 10, 3)
+        log.add(PointKind.DEADLINE_CALL, 2, DESCRIPTOR, 114, 5, 10, time=100).add(
+            PointKind.RW_UNLOCK, 1, WORD, 10, 0, 1
+        )
         steps = [
             ["incref", 1, 0, "yes"],
             ["tick", 100, "done"],
@@ -214,12 +230,12 @@ class Deadlines(unittest.TestCase):
         self.assertEqual(log.made().notes, [])
 
     def test_a_call_that_sets_a_deadline_of_an_unknown_socket_is_none(self) -> None:
-        log = Points().opened().add(Kind.DEADLINE_CALL, 2, DESCRIPTOR + 300, 114, 5, 10, time=100)
+        log = Points().opened().add(PointKind.DEADLINE_CALL, 2, DESCRIPTOR + 300, 114, 5, 10, time=100)
         self.assertEqual(len(log.steps()), 2)
 
     def fired(self, bits: int, time: int = 105) -> Points:
-        log = Points().opened(reading=7, writing=7).add(Kind.SET_DEADLINE, 1, DESCRIPTOR, 114, 5, time=100)
-        return log.add(Kind.FIRE, 0, DESCRIPTOR, 7, bits, time=time)
+        log = Points().opened(reading=7, writing=7).add(PointKind.SET_DEADLINE, 1, DESCRIPTOR, 114, 5, time=100)
+        return log.add(PointKind.FIRE, 0, DESCRIPTOR, 7, bits, time=time)
 
     def test_a_firing_says_whether_it_was_current(self) -> None:
         for bits, answer in ((1, "done"), (5, "stale")):
@@ -230,22 +246,24 @@ class Deadlines(unittest.TestCase):
             self.fired(1, 104).made()
 
     def test_a_timer_that_fires_later_goes_off_before_it_is_moved(self) -> None:
-        log = Points().opened().add(Kind.SET_DEADLINE, 1, DESCRIPTOR, 114, 5, time=100)
-        log.add(Kind.SET_DEADLINE, 1, DESCRIPTOR, 114, 50, time=106).add(Kind.FIRE, 0, DESCRIPTOR, 1, 5, time=107)
+        log = Points().opened().add(PointKind.SET_DEADLINE, 1, DESCRIPTOR, 114, 5, time=100)
+        log.add(PointKind.SET_DEADLINE, 1, DESCRIPTOR, 114, 50, time=106).add(
+            PointKind.FIRE, 0, DESCRIPTOR, 1, 5, time=107
+        )
         names = [step[0] for step in log.steps()[2:]]
         self.assertEqual(names, ["tick", "setdeadline", "tick", "pop", "setdeadline", "tick", "fire"])
         self.assertEqual(log.steps()[-1][-1], "stale")
 
     def test_a_deadline_is_gos_where_another_processor_read_a_later_time(self) -> None:
         log = Points().opened().opened(WORD + 20, DESCRIPTOR + 300)
-        log.add(Kind.SET_DEADLINE, 1, DESCRIPTOR, 114, 50, time=110)
-        log.add(Kind.SET_DEADLINE, 1, DESCRIPTOR + 300, 114, 50, time=104)
+        log.add(PointKind.SET_DEADLINE, 1, DESCRIPTOR, 114, 50, time=110)
+        log.add(PointKind.SET_DEADLINE, 1, DESCRIPTOR + 300, 114, 50, time=104)
         times = [step[-2] for step in log.steps() if step[0] == "setdeadline"]
         self.assertEqual(times, [50, 44])
 
     def test_a_firing_of_an_earlier_use_is_of_that_use(self) -> None:
-        log = Points().opened().add(Kind.SET_DEADLINE, 1, DESCRIPTOR, 114, 5, time=100)
-        log.closed().opened(WORD + 20, reading=9, writing=9).add(Kind.FIRE, 0, DESCRIPTOR, 1, 5, time=107)
+        log = Points().opened().add(PointKind.SET_DEADLINE, 1, DESCRIPTOR, 114, 5, time=100)
+        log.closed().opened(WORD + 20, reading=9, writing=9).add(PointKind.FIRE, 0, DESCRIPTOR, 1, 5, time=107)
         self.assertEqual([s[0] for s in log.steps()][-2:], ["tick", "fire"])
         self.assertEqual(log.steps()[-1], ["fire", 0, "stale"])
 
@@ -274,16 +292,16 @@ class Choosing(unittest.TestCase):
     def test_a_recording_has_4096_goroutines_at_most(self) -> None:
         log = self.sockets(2)
         for g in range(4_090):
-            log.add(Kind.INCREF, 10 + g, 10_000, 0, 8, 2)
+            log.add(PointKind.INCREF, 10 + g, 10_000, 0, 8, 2)
         self.assertEqual(log.made().goroutines, 4_092)
         for g in range(10):
-            log.add(Kind.INCREF, 10_000 + g, 10_016, 0, 8, 2)
+            log.add(PointKind.INCREF, 10_000 + g, 10_016, 0, 8, 2)
         made = log.made()
         self.assertEqual((made.sockets, made.goroutines), (1, 11))
 
     def test_a_recording_has_1000000_steps_at_most(self) -> None:
         log = self.sockets(3)
-        log.add(Kind.WRITE, 1, 10_000, 2**32, 2**32, 0)
+        log.add(PointKind.WRITE, 1, 10_000, 2**32, 2**32, 0)
         self.assertEqual(log.made().sockets, 2)
         with self.assertRaisesRegex(NothingRecordedError, "one socket alone"):
-            Points().opened().add(Kind.WRITE, 1, WORD, 2**32, 2**32, 0).made()
+            Points().opened().add(PointKind.WRITE, 1, WORD, 2**32, 2**32, 0).made()

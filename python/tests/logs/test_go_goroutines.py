@@ -11,15 +11,15 @@ from unittest import mock
 from dev.fuzz.generators.logs import binary
 from netrev.recording import goroutines as where
 from netrev.recording.goroutines import GoGoroutine, LeftOut, Object
-from netrev.recording.where import Call as LineCall, Lines
+from netrev.recording.where import SourceCall, SourceLines
 from netrev_go.go_command.toolchain import Go
 from netrev_go.log import lines
 
-from netrev_go.log.goroutines import BY_GO, GIVES, MUTEX, NEVER, OF_A_WAIT_GROUP, OTHER, READ_LOCK, ROOM, SELECT, SEMAPHORE, SLEEP, TAKES, UNENDED, VALUE, WAIT_GROUP, WRITE_LOCK, At, Born, Goroutines, Park, Span, Timer, Used, goroutines_of  # fmt: skip
-from netrev_go.log.lines import Call, Calls
-from netrev_go.log.points import Kind, Point, Stack
+from netrev_go.log.goroutines import BY_GO, GIVES, MUTEX, NEVER, OF_A_WAIT_GROUP, OTHER, READ_LOCK, ROOM, SELECT, SEMAPHORE, SLEEP, TAKES, UNENDED, VALUE, WAIT_GROUP, WRITE_LOCK, At, Born, Goroutines, LoggedPark, UseSpan, LoggedTimer, Used, goroutines_of  # fmt: skip
+from netrev_go.log.lines import Calls, LineCall
+from netrev_go.log.points import Point, PointKind, PointStack
 from netrev_go.steps import converting
-from netrev_go.steps.converting import Wish, convert
+from netrev_go.steps.converting import RecordingOptions, convert
 from netrev_go.steps.goroutine_lines import MOST, Everybody, kept, newest
 from netrev_go.steps.where import write_where
 
@@ -35,7 +35,7 @@ class Points:
     def __init__(self) -> None:
         self.points: list[Point] = []
 
-    def add(self, kind: Kind, g: int, at: int = 0, a: int = 0, b: int = 0, c: int = 0, stack: int = 0) -> "Points":
+    def add(self, kind: PointKind, g: int, at: int = 0, a: int = 0, b: int = 0, c: int = 0, stack: int = 0) -> "Points":
         number = len(self.points)
         self.points.append(Point(number, kind, g, at, a, b, c, 1_000 * number, stack))
         return self
@@ -43,7 +43,7 @@ class Points:
     def at(self, number: int) -> "Points":
         """Sets the number of the next point."""
         while len(self.points) < number:
-            self.add(Kind.READY, 0, 0, 99)
+            self.add(PointKind.READY, 0, 0, 99)
         return self
 
     def found(self) -> Goroutines:
@@ -57,39 +57,39 @@ def cases(*uses: int) -> int:
 
 class Found(unittest.TestCase):
     def test_a_goroutine_without_steps_waits_too(self) -> None:
-        points = Points().at(3).add(Kind.PARKS, 7, 0, SLEEP, stack=4).at(15).add(Kind.GOES_ON, 7)
-        self.assertEqual(points.found().parks, [Park(7, 1, 2, 3_000, 15_000, SLEEP, 4, 0, ())])
+        points = Points().at(3).add(PointKind.PARKS, 7, 0, SLEEP, stack=4).at(15).add(PointKind.GOES_ON, 7)
+        self.assertEqual(points.found().parks, [LoggedPark(7, 1, 2, 3_000, 15_000, SLEEP, 4, 0, ())])
 
     def test_until_when_it_sleeps(self) -> None:
         for due, known in ((90_000, 90_000), (2_000, 0)):  # (a synctest bubble has another clock)
-            points = Points().at(3).add(Kind.PARKS, 7, 0, SLEEP, due)
+            points = Points().at(3).add(PointKind.PARKS, 7, 0, SLEEP, due)
             self.assertEqual(points.found().parks[0].due, known)
 
     def test_timers(self) -> None:
-        points = Points().at(3).add(Kind.TIMER, 7, CHANNEL, 90_000, stack=4).at(15).add(Kind.TIMER, 8, 0, 80_000)
+        points = Points().at(3).add(PointKind.TIMER, 7, CHANNEL, 90_000, stack=4).at(15).add(PointKind.TIMER, 8, 0, 80_000)
         self.assertEqual(
-            points.found().timers, [Timer(CHANNEL, 7, 4, 1, 3_000, 90_000), Timer(0, 8, 0, 2, 15_000, 80_000)]
+            points.found().timers, [LoggedTimer(CHANNEL, 7, 4, 1, 3_000, 90_000), LoggedTimer(0, 8, 0, 2, 15_000, 80_000)]
         )
 
     def test_one_that_waits_to_the_end_has_no_end(self) -> None:
-        points = Points().at(3).add(Kind.PARKS, 7, 400, MUTEX, stack=4)
-        self.assertEqual(points.found().parks, [Park(7, 1, UNENDED, 3_000, UNENDED, MUTEX, 4, 0, (At(400, 0),))])
+        points = Points().at(3).add(PointKind.PARKS, 7, 400, MUTEX, stack=4)
+        self.assertEqual(points.found().parks, [LoggedPark(7, 1, UNENDED, 3_000, UNENDED, MUTEX, 4, 0, (At(400, 0),))])
 
     def test_who_made_it_ready_is_known_in_this_wait_alone(self) -> None:
         points = (
-            Points().at(3).add(Kind.READY, 8, 0, 7).add(Kind.PARKS, 7).add(Kind.READY, 9, 0, 7).add(Kind.GOES_ON, 7)
+            Points().at(3).add(PointKind.READY, 8, 0, 7).add(PointKind.PARKS, 7).add(PointKind.READY, 9, 0, 7).add(PointKind.GOES_ON, 7)
         )
-        points.add(Kind.PARKS, 7).add(Kind.GOES_ON, 7)
+        points.add(PointKind.PARKS, 7).add(PointKind.GOES_ON, 7)
         self.assertEqual([park.by for park in points.found().parks], [9, 0])
 
     def test_a_select_has_each_of_its_channels(self) -> None:
-        points = Points().at(3).add(Kind.CASES, 7, 1, cases(VALUE, VALUE, ROOM), 2, 3)
-        points.add(Kind.PARKS, 7, 4, cases(ROOM, 0), 5).add(Kind.GOES_ON, 7).add(Kind.PARKS, 7, 6, cases(VALUE))
+        points = Points().at(3).add(PointKind.CASES, 7, 1, cases(VALUE, VALUE, ROOM), 2, 3)
+        points.add(PointKind.PARKS, 7, 4, cases(ROOM, 0), 5).add(PointKind.GOES_ON, 7).add(PointKind.PARKS, 7, 6, cases(VALUE))
         expected = [(At(1, VALUE), At(2, VALUE), At(3, ROOM), At(4, ROOM), At(5, 0)), (At(6, VALUE),)]
         self.assertEqual([park.objects for park in points.found().parks], expected)
 
     def test_who_made_it_and_its_end(self) -> None:
-        points = Points().at(3).add(Kind.READY, 1, 0, 7, BY_GO).at(15).add(Kind.ENDS, 7)
+        points = Points().at(3).add(PointKind.READY, 1, 0, 7, BY_GO).at(15).add(PointKind.ENDS, 7)
         found = points.found()
         self.assertEqual((found.born, found.ended), ({7: Born(1, 1, 3_000)}, {7: (2, 15_000)}))
 
@@ -100,53 +100,53 @@ class Found(unittest.TestCase):
         return {(use.goroutine, use.what, use.stack): span.often for use, span in found.items()}
 
     def test_what_goes_through_a_buffer(self) -> None:
-        points = Points().at(3).add(Kind.SENT, 7, CHANNEL, 0, 2, stack=4).add(Kind.SENT, 7, CHANNEL, 1, 2, stack=4)
-        points.at(15).add(Kind.RECEIVED, 8, CHANNEL, 2, 2, stack=5).add(Kind.SENT, 7, CHANNEL, 1, 2, stack=4)
+        points = Points().at(3).add(PointKind.SENT, 7, CHANNEL, 0, 2, stack=4).add(PointKind.SENT, 7, CHANNEL, 1, 2, stack=4)
+        points.at(15).add(PointKind.RECEIVED, 8, CHANNEL, 2, 2, stack=5).add(PointKind.SENT, 7, CHANNEL, 1, 2, stack=4)
         self.assertEqual(self.uses(points), {(7, "put", 4): 3, (8, "took", 5): 1})
         found = points.found()
-        self.assertEqual(found.uses[Used(CHANNEL, 7, "put", 4)], Span(3, 1, 2, 3_000, 16_000))
+        self.assertEqual(found.uses[Used(CHANNEL, 7, "put", 4)], UseSpan(3, 1, 2, 3_000, 16_000))
         self.assertEqual(found.rooms, {CHANNEL: 2})
 
     def test_what_goes_from_one_to_the_other(self) -> None:
         for way, mine, other in ((GIVES, "put", "took"), (TAKES, "took", "put")):
-            points = Points().add(Kind.PARKS, 8, CHANNEL, SELECT, stack=5)
+            points = Points().add(PointKind.PARKS, 8, CHANNEL, SELECT, stack=5)
             self.assertEqual(
-                self.uses(points.add(Kind.MET, 7, CHANNEL, 8, way, stack=4)), {(7, mine, 4): 1, (8, other, 5): 1}
+                self.uses(points.add(PointKind.MET, 7, CHANNEL, 8, way, stack=4)), {(7, mine, 4): 1, (8, other, 5): 1}
             )
 
     def test_a_log_of_before_says_it_by_the_wait(self) -> None:
         for what, expected in ((VALUE, {(7, "put", 0): 1, (8, "took", 5): 1}), (SELECT, {})):
-            points = Points().add(Kind.PARKS, 8, 0, what, stack=5).add(Kind.MET, 7, CHANNEL, 8)
+            points = Points().add(PointKind.PARKS, 8, 0, what, stack=5).add(PointKind.MET, 7, CHANNEL, 8)
             self.assertEqual(self.uses(points), expected)
 
     def test_who_waits_at_a_buffer_is_handed_the_value(self) -> None:
-        points = Points().add(Kind.PARKS, 8, CHANNEL, VALUE, 3, stack=5).add(Kind.HANDED, 7, CHANNEL, 8, 3, stack=4)
+        points = Points().add(PointKind.PARKS, 8, CHANNEL, VALUE, 3, stack=5).add(PointKind.HANDED, 7, CHANNEL, 8, 3, stack=4)
         self.assertEqual(self.uses(points), {(7, "put", 4): 1, (8, "took", 5): 1})
 
     def test_who_gives_a_value_ends_the_wait(self) -> None:
-        for kind in (Kind.HANDED, Kind.MET):
-            points = Points().add(Kind.PARKS, 8, CHANNEL, VALUE, 3, stack=5).add(kind, 7, CHANNEL, 8, GIVES)
-            self.assertEqual([park.by for park in points.add(Kind.GOES_ON, 8).found().parks], [7])
+        for kind in (PointKind.HANDED, PointKind.MET):
+            points = Points().add(PointKind.PARKS, 8, CHANNEL, VALUE, 3, stack=5).add(kind, 7, CHANNEL, 8, GIVES)
+            self.assertEqual([park.by for park in points.add(PointKind.GOES_ON, 8).found().parks], [7])
 
     def test_closes(self) -> None:
-        points = Points().add(Kind.CHANNEL_CLOSED, 7, CHANNEL, 0, 3, stack=4).add(Kind.FOUND_CLOSED, 8, CHANNEL)
+        points = Points().add(PointKind.CHANNEL_CLOSED, 7, CHANNEL, 0, 3, stack=4).add(PointKind.FOUND_CLOSED, 8, CHANNEL)
         self.assertEqual(self.uses(points), {(7, "closed", 4): 1, (8, "ended", 0): 1})
 
     def test_a_wait_group_has_what_is_added_and_taken_off(self) -> None:
-        points = Points().add(Kind.GROUP, 7, CHANNEL, 3, 3, stack=4).add(Kind.GROUP, 7, CHANNEL, 2, 5, stack=4)
-        points.add(Kind.GROUP, 8, CHANNEL, -1, 4, stack=5)
+        points = Points().add(PointKind.GROUP, 7, CHANNEL, 3, 3, stack=4).add(PointKind.GROUP, 7, CHANNEL, 2, 5, stack=4)
+        points.add(PointKind.GROUP, 8, CHANNEL, -1, 4, stack=5)
         self.assertEqual(self.uses(points, CHANNEL + OF_A_WAIT_GROUP), {(7, "added", 4): 5, (8, "done", 5): 1})
 
     def test_a_timer_that_is_stopped_never_goes_off(self) -> None:
-        points = Points().add(Kind.TIMER, 7, CHANNEL, 90_000, stack=4).add(Kind.STOPPED, 8, CHANNEL, stack=5)
-        points.add(Kind.TIMER, 8, CHANNEL, 95_000, stack=6)
+        points = Points().add(PointKind.TIMER, 7, CHANNEL, 90_000, stack=4).add(PointKind.STOPPED, 8, CHANNEL, stack=5)
+        points.add(PointKind.TIMER, 8, CHANNEL, 95_000, stack=6)
         found = points.found().timers
         self.assertEqual(
             [(one.goroutine, one.stack, one.due) for one in found], [(7, 4, 90_000), (8, 5, NEVER), (8, 6, 95_000)]
         )
 
     def test_those_of_a_time(self) -> None:
-        points = Points().at(3).add(Kind.PARKS, 7).at(5).add(Kind.GOES_ON, 7).at(8).add(Kind.PARKS, 8)
+        points = Points().at(3).add(PointKind.PARKS, 7).at(5).add(PointKind.GOES_ON, 7).at(8).add(PointKind.PARKS, 8)
         for begin, end, expected in (
             (0, None, [7, 8]), (6_000, None, [8]), (4_000, 7_000, [7]), (6_000, 7_000, []), (9_000, 9_500, [8]),
         ):  # fmt: skip
@@ -154,26 +154,26 @@ class Found(unittest.TestCase):
             self.assertEqual([park.goroutine for park in found.parks], expected)
 
 
-PROGRAM = Call("main.work", "main.go", 7, "program")
-GO_STATEMENT = Call("main.main", "main.go", 30, "program")
-OF_GO = Call("net/http.(*persistConn).readLoop", "net/http/transport.go", 9, "go")
+PROGRAM = LineCall("main.work", "main.go", 7, "program")
+GO_STATEMENT = LineCall("main.main", "main.go", 30, "program")
+OF_GO = LineCall("net/http.(*persistConn).readLoop", "net/http/transport.go", 9, "go")
 
 
 def of_sync(*names: str) -> Calls:
     """A stack in which the program calls these functions of package sync, the innermost first."""
-    return Calls((*(Call(name, "sync/x.go", 3, "go") for name in names), PROGRAM), None)
+    return Calls((*(LineCall(name, "sync/x.go", 3, "go") for name in names), PROGRAM), None)
 
 
 def written(
     found: Goroutines, calls: dict[int, Calls], numbers: Optional[dict[int, int]] = None, most: int = MOST
-) -> Lines:
+) -> SourceLines:
     """The file for a recording of three steps, as nrdb reads it."""
     with tempfile.TemporaryDirectory() as folder:
         path = pathlib.Path(folder, "x.where")
         numbers = numbers or {}
         everybody = Everybody(found, kept(found, numbers, calls, most), numbers, {})
         write_where(path, [0] * 3, calls, everybody=everybody)
-        read = Lines.beside(str(path), 3)
+        read = SourceLines.beside(str(path), 3)
         assert not read.fault, read.fault
         return read
 
@@ -181,10 +181,10 @@ def written(
 class Written(unittest.TestCase):
     def test_nrdb_reads_what_is_written(self) -> None:
         calls = {4: Calls((PROGRAM,), GO_STATEMENT), 5: Calls((PROGRAM,), None)}
-        points = Points().at(3).add(Kind.READY, 5, 0, 7, BY_GO).add(Kind.PARKS, 7, CHANNEL, VALUE, 3, stack=4)
-        points.at(15).add(Kind.SENT, 5, CHANNEL, 0, 3, stack=5).add(Kind.READY, 5, 0, 7).add(Kind.GOES_ON, 7)
-        points.add(Kind.ENDS, 7).add(Kind.PARKS, 5, OTHER_CHANNEL, cases(ROOM), stack=5)
-        points.add(Kind.TIMER, 7, CHANNEL, 90_000, stack=4).add(Kind.PARKS, 9, 0, SLEEP, 70_000, stack=4)
+        points = Points().at(3).add(PointKind.READY, 5, 0, 7, BY_GO).add(PointKind.PARKS, 7, CHANNEL, VALUE, 3, stack=4)
+        points.at(15).add(PointKind.SENT, 5, CHANNEL, 0, 3, stack=5).add(PointKind.READY, 5, 0, 7).add(PointKind.GOES_ON, 7)
+        points.add(PointKind.ENDS, 7).add(PointKind.PARKS, 5, OTHER_CHANNEL, cases(ROOM), stack=5)
+        points.add(PointKind.TIMER, 7, CHANNEL, 90_000, stack=4).add(PointKind.PARKS, 9, 0, SLEEP, 70_000, stack=4)
         read = written(points.found(), calls, {5: 0})
         park = where.Park(7, 1, 2, 4_000, 17_000, where.A_VALUE, 1, 5, (where.At(1, where.FOR_VALUE),))
         still = where.Park(5, 2, -1, 19_000, -1, where.A_SELECT, 2, 0, (where.At(2, where.FOR_ROOM),))
@@ -193,19 +193,19 @@ class Written(unittest.TestCase):
         self.assertEqual(read.timers, {1: [where.Timer(1, 7, 1, 2, 20_000, 90_000)]})
         self.assertFalse(read.timers[1][0].is_stopped)
         self.assertEqual(read.stacks[1].words(), "main.go:7 main.work")
-        made = LineCall(*GO_STATEMENT)
+        made = SourceCall(*GO_STATEMENT)
         self.assertEqual(read.goroutines[7], GoGoroutine(7, -1, made, 5, 1, 2, 3_000, 18_000))
         self.assertEqual(read.goroutines[5], GoGoroutine(5, 0, None, 0, -1, -1, -1, -1))
         self.assertEqual(read.objects, {1: Object(1, "channel", 3), 2: Object(2, "channel", -1)})
-        self.assertEqual(read.uses, {1: [where.Use(1, 5, where.PUT, 2, 1, 2, 2, 15_000, 15_000)]})
+        self.assertEqual(read.uses, {1: [where.ObjectUse(1, 5, where.PUT, 2, 1, 2, 2, 15_000, 15_000)]})
         self.assertEqual((read.goid_of(0), read.goid_of(1), read.left_out), (5, 0, []))
         at = [read.park_of(7, position) for position in (0, 1, 2)]
         self.assertEqual(at, [None, park, None])
         self.assertEqual([read.park_of(5, position) for position in (1, 2, 3)], [None, still, still])
 
     def test_a_wait_group_is_one_object_by_its_waits_and_by_what_is_added(self) -> None:
-        points = Points().add(Kind.GROUP, 7, 900, 1, 1, stack=4).add(Kind.PARKS, 8, 908, WAIT_GROUP, stack=4)
-        points.add(Kind.STOPPED, 7, CHANNEL, stack=4)
+        points = Points().add(PointKind.GROUP, 7, 900, 1, 1, stack=4).add(PointKind.PARKS, 8, 908, WAIT_GROUP, stack=4)
+        points.add(PointKind.STOPPED, 7, CHANNEL, stack=4)
         read = written(points.found(), {4: Calls((PROGRAM,), None)})
         (at,) = read.parks[8][0].objects
         self.assertEqual(
@@ -218,14 +218,14 @@ class Written(unittest.TestCase):
             path = pathlib.Path(folder, "x.where")
             write_where(path, [0] * 3, {})
             self.assertEqual(json.loads(path.read_text().splitlines()[0]), {"where": 1, "steps": 3})
-            read = Lines.beside(str(path), 3)
+            read = SourceLines.beside(str(path), 3)
             self.assertEqual((read.fault, read.parks, read.goroutines, read.objects), ("", {}, {}, {}))
 
     def test_what_is_of_gos_own_code_alone_is_left_out(self) -> None:
         calls = {4: Calls((PROGRAM,), None), 5: Calls((OF_GO,), None), 6: Calls((OF_GO,), GO_STATEMENT)}
         points = Points()
         for goid, stack in ((11, 4), (12, 5), (13, 6), (14, 5), (15, 0)):
-            points.add(Kind.PARKS, goid, 0, OTHER, stack=stack)
+            points.add(PointKind.PARKS, goid, 0, OTHER, stack=stack)
         self.assertEqual(list(written(points.found(), calls, {14: 0}).parks), [11, 13, 14])
         self.assertEqual(list(written(points.found(), {}).parks), [11, 12, 13, 14, 15])
 
@@ -244,14 +244,14 @@ class Written(unittest.TestCase):
         for is_known in (True, False):  # found by the reason, as since Go 1.20, or only by the stack
             points = Points()
             for stack, (what, address, _) in wanted.items():
-                points.add(Kind.PARKS, 10 + stack, address, what if is_known else SEMAPHORE, stack=stack)
+                points.add(PointKind.PARKS, 10 + stack, address, what if is_known else SEMAPHORE, stack=stack)
             read = written(points.found(), stacks)
             parks = [read.parks[10 + stack][0] for stack in stacks]
             self.assertEqual([park.reason for park in parks], [reason for _, _, reason in wanted.values()])
             objects = [read.objects[park.objects[0].object] for park in parks]
             self.assertEqual(len(set(objects[:4])), 1)
             self.assertEqual([one.sort for one in objects[3:]], ["RWMutex", "WaitGroup", "semaphore"])
-        points = Points().add(Kind.PARKS, 11, 0, OTHER, stack=1)  # as in an older log
+        points = Points().add(PointKind.PARKS, 11, 0, OTHER, stack=1)  # as in an older log
         self.assertEqual(written(points.found(), stacks).parks[11][0].reason, where.A_MUTEX)
 
     def test_lines_of_no_such_form_are_a_fault(self) -> None:
@@ -266,11 +266,11 @@ class Written(unittest.TestCase):
             for wrong in ([value], value, 7, [value[:-1]], [[*value, 1]], *untyped):
                 lines_of_file = "\n".join(map(json.dumps, [*first, {name: wrong}]))
                 fault = "" if wrong == [value] or wrong == [[*good["parks"], 1]] else "line 4 is malformed"
-                self.assertEqual(Lines(lines_of_file, 3).fault, fault, (name, wrong))
+                self.assertEqual(SourceLines(lines_of_file, 3).fault, fault, (name, wrong))
         unknown = {"goroutines": [[7, -1, 9, 5, 1, 2, 3, 4]]}
-        self.assertIn("line 4", Lines("\n".join(map(json.dumps, [*first, unknown])), 3).fault)
+        self.assertIn("line 4", SourceLines("\n".join(map(json.dumps, [*first, unknown])), 3).fault)
         parks = {"parks": [[7, 1, 2, 3, 4, "a select", 9, 5, []]]}
-        self.assertEqual(Lines("\n".join(map(json.dumps, [*first, parks])), 3).parks[7][0].stack, 0)
+        self.assertEqual(SourceLines("\n".join(map(json.dumps, [*first, parks])), 3).parks[7][0].stack, 0)
 
 
 class Limits(unittest.TestCase):
@@ -283,8 +283,8 @@ class Limits(unittest.TestCase):
         calls = {4: Calls((PROGRAM,), GO_STATEMENT)}
         points = Points()
         for goid in range(11, 16):
-            points.add(Kind.PARKS, goid, CHANNEL, VALUE, stack=4)
-        points.add(Kind.GOES_ON, 11).add(Kind.GOES_ON, 12)
+            points.add(PointKind.PARKS, goid, CHANNEL, VALUE, stack=4)
+        points.add(PointKind.GOES_ON, 11).add(PointKind.GOES_ON, 12)
         read = written(points.found(), calls, most=2)
         self.assertEqual((list(read.parks), list(read.goroutines)), ([14, 15], [14, 15]))
         self.assertEqual(read.left_out, [LeftOut(where.A_VALUE, 1, 1, 2)])
@@ -292,8 +292,8 @@ class Limits(unittest.TestCase):
     def test_of_those_that_are_over_a_quarter_as_many_are_kept(self) -> None:
         points = Points()
         for _ in range(64):
-            points.add(Kind.PARKS, 11, CHANNEL, VALUE).add(Kind.GOES_ON, 11)
-        points.add(Kind.PARKS, 11, CHANNEL, VALUE)
+            points.add(PointKind.PARKS, 11, CHANNEL, VALUE).add(PointKind.GOES_ON, 11)
+        points.add(PointKind.PARKS, 11, CHANNEL, VALUE)
         read = written(points.found(), {}, most=64)
         self.assertEqual((len(read.parks[11]), read.parks[11][-1].last), (17, UNENDED))
         self.assertEqual(read.left_out, [LeftOut(where.A_VALUE, 0, 0, 48)])
@@ -304,21 +304,21 @@ class Limits(unittest.TestCase):
         count, sleepers = 100_000, 1_000
         points = list(opened(1))
         for goid in range(10, count + 10):
-            slept = ((Kind.PARKS, SLEEP), (Kind.GOES_ON, 0)) if goid < sleepers + 10 else ()
-            for kind, a in (*slept, (Kind.PARKS, VALUE)):
+            slept = ((PointKind.PARKS, SLEEP), (PointKind.GOES_ON, 0)) if goid < sleepers + 10 else ()
+            for kind, a in (*slept, (PointKind.PARKS, VALUE)):
                 number = len(points)
                 points.append(Point(number, kind, goid, goid * 96 if a == VALUE else 0, a, 0, 0, 1_000 * number, 3))
         with tempfile.TemporaryDirectory() as folder:
             log, name = pathlib.Path(folder, "log.1"), pathlib.Path(folder, "x.jsonl")
-            log.write_bytes(binary(points, {3: Stack(500, 600, (700,))}))
+            log.write_bytes(binary(points, {3: PointStack(500, 600, (700,))}))
             symbols = {699: ("main.work", "/x/main.go", 7), 499: ("main.main", "/x/main.go", 30)}
             go = Go("go", pathlib.Path("/nowhere"), "go1", "linux/amd64", "")
             with mock.patch.object(lines, "shift", return_value=0), mock.patch.object(
                 lines, "looked_up", return_value=symbols
             ), mock.patch.object(converting, "report", return_value=(True, [])):
-                convert(log, name, go, Wish())
+                convert(log, name, go, RecordingOptions())
             size = name.with_suffix(".where").stat().st_size
-            read = Lines.beside(str(name), 2)
+            read = SourceLines.beside(str(name), 2)
         self.assertEqual(read.fault, "")
         self.assertLess(size, 8 * 2**20)
         self.assertEqual(sum(map(len, read.parks.values())), MOST)

@@ -8,11 +8,11 @@ from typing import Any, Optional, Sequence
 
 from dev.fuzz.generators.logs import STACKS, HolderRow, binary
 from netrev.recording import goroutines as where
-from netrev.recording.where import Lines
-from netrev_go.log.goroutines import MUTEX, READ_LOCK, Goroutines, Held, goroutines_of
+from netrev.recording.where import SourceLines
+from netrev_go.log.goroutines import MUTEX, READ_LOCK, Goroutines, LoggedMutex, goroutines_of
 from netrev_go.log.lines import Calls
 from netrev_go.log.logfile import HEADER_BYTES, HOLDER_BEGUN, HOLDER_BYTES, MOST_HOLDERS, MOST_STACKS, NotALogError
-from netrev_go.log.points import Holder, Kind, Log, Stack
+from netrev_go.log.points import LoggedHolder, PointKind, Log, PointStack
 from netrev_go.steps.goroutine_lines import HELD
 from netrev_go.steps.making import make
 
@@ -25,17 +25,17 @@ PLACE_OF_ROWS, PLACE_OF_KNOWN = 12 * 8, 14 * 8  # in a log's header
 
 def log_of(rows: Optional[Sequence[HolderRow]], lost: int = 0) -> Log:
     """A log of a socket, with this table of locked mutexes."""
-    return read(binary(opened(1), {3: Stack(0, 0, (700,))}, holders=rows, holders_lost=lost))
+    return read(binary(opened(1), {3: PointStack(0, 0, (700,))}, holders=rows, holders_lost=lost))
 
 
 class Table(unittest.TestCase):
     def test_who_holds_a_mutex_and_from_which_calls(self) -> None:
         log = log_of([HolderRow(0), HolderRow(LOCK, 7, False, 5, (11, 12, 13))])
-        self.assertEqual(log.holders, [Holder(LOCK, 7, False, 5, MOST_STACKS + 2)])
-        self.assertEqual(log.stacks, {3: Stack(0, 0, (700,)), MOST_STACKS + 2: Stack(0, 0, (11, 12, 13))})
+        self.assertEqual(log.holders, [LoggedHolder(LOCK, 7, False, 5, MOST_STACKS + 2)])
+        self.assertEqual(log.stacks, {3: PointStack(0, 0, (700,)), MOST_STACKS + 2: PointStack(0, 0, (11, 12, 13))})
 
     def test_one_without_calls_has_no_stack(self) -> None:
-        self.assertEqual(log_of([HolderRow(LOCK, 7, False, 5)]).holders, [Holder(LOCK, 7, False, 5, 0)])
+        self.assertEqual(log_of([HolderRow(LOCK, 7, False, 5)]).holders, [LoggedHolder(LOCK, 7, False, 5, 0)])
 
     def test_as_many_calls_as_a_row_has_room_for(self) -> None:
         calls = tuple(range(1, 13))
@@ -83,7 +83,7 @@ class Table(unittest.TestCase):
 
     def test_the_points_come_after_the_table(self) -> None:
         log = log_of([HolderRow(LOCK, 7, False, 5)] * 3)
-        self.assertEqual([point.kind for point in log.points], [Kind.INIT, Kind.OPEN])
+        self.assertEqual([point.kind for point in log.points], [PointKind.INIT, PointKind.OPEN])
 
     def test_a_log_that_ends_in_the_table_has_what_is_whole(self) -> None:
         rows = [HolderRow(LOCK, 7, False, 5, (11,)), HolderRow(OTHER_LOCK, 8, False, 6, (12,))]
@@ -98,7 +98,7 @@ class Table(unittest.TestCase):
             read(bytes(data))
 
 
-def held_of(holders: Optional[list[Holder]]) -> Optional[list[Held]]:
+def held_of(holders: Optional[list[LoggedHolder]]) -> Optional[list[LoggedMutex]]:
     """The held mutexes of a log without points, for a recording with the steps of `STEPS`."""
     return goroutines_of([], STEPS, 0, holders).held
 
@@ -107,42 +107,42 @@ class Steps(unittest.TestCase):
     def test_a_mutex_was_locked_after_the_steps_of_the_points_before(self) -> None:
         for passed, step in ((0, 0), (1, 1), (10, 1), (11, 2), (20, 2), (21, 3), (500, 3)):
             with self.subTest(passed):
-                held = held_of([Holder(LOCK, 7, True, passed, 4)])
-                self.assertEqual(held, [Held(LOCK, 7, True, 4, step)])
+                held = held_of([LoggedHolder(LOCK, 7, True, passed, 4)])
+                self.assertEqual(held, [LoggedMutex(LOCK, 7, True, 4, step)])
 
     def test_a_log_that_doesnt_know_holders_has_none(self) -> None:
         self.assertIsNone(held_of(None))
         self.assertEqual(held_of([]), [])
 
     def test_their_stacks_are_looked_up(self) -> None:
-        found = Goroutines(held=[Held(LOCK, 7, False, 4, 1)])
+        found = Goroutines(held=[LoggedMutex(LOCK, 7, False, 4, 1)])
         self.assertEqual(found.stacks(), {4})
 
     def test_a_recording_has_those_of_its_log(self) -> None:
         found = make(log_of([HolderRow(LOCK, 7, False, 2, (11,))])).everybody.held
-        self.assertEqual(found, [Held(LOCK, 7, False, MOST_STACKS + 1, 2)])
+        self.assertEqual(found, [LoggedMutex(LOCK, 7, False, MOST_STACKS + 1, 2)])
 
 
 class Written(unittest.TestCase):
     def waits(self, what: int, address: int, stack: int = 4) -> Goroutines:
         """A goroutine that waits for a mutex, given the address of the mutex's semaphore."""
-        return Points().at(3).add(Kind.PARKS, 9, address, what, stack=stack).found()
+        return Points().at(3).add(PointKind.PARKS, 9, address, what, stack=stack).found()
 
     def test_nrdb_reads_which_mutexes_are_held(self) -> None:
         found = self.waits(MUTEX, LOCK + 4)
-        found.held = [Held(LOCK, 7, False, 5, 2), Held(OTHER_LOCK, 8, True, 5, 3)]
+        found.held = [LoggedMutex(LOCK, 7, False, 5, 2), LoggedMutex(OTHER_LOCK, 8, True, 5, 3)]
         lines = written(found, {4: Calls((PROGRAM,), None), 5: Calls((PROGRAM,), None)})
         (at,) = lines.parks[9][0].objects
         other = at.object % 2 + 1
         expected = {
-            at.object: [where.Held(at.object, 7, "", 2, 2)], other: [where.Held(other, 8, where.READ, 2, 3)],
+            at.object: [where.HeldMutex(at.object, 7, "", 2, 2)], other: [where.HeldMutex(other, 8, where.READ, 2, 3)],
         }  # fmt: skip
         self.assertEqual(lines.held, expected)
         self.assertEqual((lines.stacks[2].words(), set(lines.goroutines)), ("main.go:7 main.work", {7, 8, 9}))
 
     def test_all_readers_of_a_mutex_are_kept(self) -> None:
         found = self.waits(READ_LOCK, LOCK + 12)
-        found.held = [Held(LOCK, goid, True, 4, 1) for goid in (7, 8, 7)]
+        found.held = [LoggedMutex(LOCK, goid, True, 4, 1) for goid in (7, 8, 7)]
         lines = written(found, {4: Calls((PROGRAM,), None)})
         (at,) = lines.parks[9][0].objects
         self.assertEqual([one.goid for one in (lines.held or {})[at.object]], [7, 8, 7])
@@ -158,20 +158,20 @@ class Written(unittest.TestCase):
     def test_of_gos_own_mutexes_those_are_kept_at_which_a_goroutine_waits(self) -> None:
         calls = {4: Calls((PROGRAM,), None), 6: Calls((OF_GO,), None)}
         found = self.waits(MUTEX, LOCK + 4)
-        found.held = [Held(LOCK, 7, False, 6, 1), Held(OTHER_LOCK, 8, False, 6, 1)]
+        found.held = [LoggedMutex(LOCK, 7, False, 6, 1), LoggedMutex(OTHER_LOCK, 8, False, 6, 1)]
         lines = written(found, calls)
         self.assertEqual([one.goid for some in (lines.held or {}).values() for one in some], [7])
         self.assertEqual(set(lines.goroutines), {7, 9})
 
     def test_those_of_a_goroutine_of_the_recording_are_kept(self) -> None:
         found = Points().found()
-        found.held = [Held(OTHER_LOCK, 8, False, 6, 1)]
+        found.held = [LoggedMutex(OTHER_LOCK, 8, False, 6, 1)]
         lines = written(found, {4: Calls((PROGRAM,), None), 6: Calls((OF_GO,), None)}, {8: 0})
         self.assertEqual([one.goid for some in (lines.held or {}).values() for one in some], [8])
 
     def test_the_newest_are_kept_where_there_isnt_room_for_all(self) -> None:
         found = Points().found()
-        found.held = [Held(LOCK + 16 * at, 7 + at, False, 4, 1) for at in range(5)]
+        found.held = [LoggedMutex(LOCK + 16 * at, 7 + at, False, 4, 1) for at in range(5)]
         lines = written(found, {4: Calls((PROGRAM,), None)}, most=2)
         self.assertEqual([one.goid for some in (lines.held or {}).values() for one in some], [10, 11])
 
@@ -181,10 +181,10 @@ class Written(unittest.TestCase):
         untyped = [[[*good[:at], None, *good[at + 1 :]]] for at in range(len(good))]
         for rows in ([good], [], good, 7, [good[:-1]], [[*good, 1]], *untyped):
             fault = "" if rows in ([good], []) else "line 4 is malformed"
-            read_back = Lines("\n".join(map(json.dumps, [*first, {HELD: rows}])), 3)
+            read_back = SourceLines("\n".join(map(json.dumps, [*first, {HELD: rows}])), 3)
             self.assertEqual(read_back.fault, fault, rows)
             self.assertTrue(not fault or read_back.held is None)
-        two = Lines("\n".join(map(json.dumps, [*first, {HELD: [good]}, {HELD: [[2, 8, "", 1, 3]]}])), 3)
+        two = SourceLines("\n".join(map(json.dumps, [*first, {HELD: [good]}, {HELD: [[2, 8, "", 1, 3]]}])), 3)
         self.assertEqual([one.goid for some in (two.held or {}).values() for one in some], [7, 8])
-        unknown_stack = Lines("\n".join(map(json.dumps, [*first, {HELD: [[1, 7, "", 9, 2]]}])), 3)
+        unknown_stack = SourceLines("\n".join(map(json.dumps, [*first, {HELD: [[1, 7, "", 9, 2]]}])), 3)
         self.assertEqual((unknown_stack.held or {})[1][0].stack, 0)

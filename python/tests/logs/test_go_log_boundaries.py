@@ -21,17 +21,17 @@ from netrev.recording.recording import NotARecordingError
 from netrev.system.time_limits import LateError
 from netrev_go import cli, doctor, keeping, recovery, tested, trying
 from netrev_go.go_command import calls_of_go, run_folders, running, toolchain
-from netrev_go.go_command.status import Status
+from netrev_go.go_command.status import ExitStatus
 from netrev_go.go_command.toolchain import RecorderError
 from netrev_go.log import goroutines, lines, logfile, sockets
 from netrev_go.log.answering import can_answer
 from netrev_go.log.beside import OF_UNIX, Beside
-from netrev_go.log.goroutines import NEVER, Goroutines, Making, Park, Passing, Span, Used
-from netrev_go.log.lines import Call, Calls
+from netrev_go.log.goroutines import NEVER, Goroutines, LoggedChannel, LoggedPark, Passing, UseSpan, Used
+from netrev_go.log.lines import LineCall, Calls
 from netrev_go.log.logfile import HEADER_WORDS, MOST_HOLDERS, MOST_POINTS, MOST_STACKS, UNDER_WAY, Header, NotALogError
 from netrev_go.log.notes import REFERENCES, WAITING, Note
-from netrev_go.log.points import Kind, Log, Point
-from netrev_go.log.sockets import BUFFER, FEW_BYTES, OUTPUT, Socket
+from netrev_go.log.points import PointKind, Log, Point
+from netrev_go.log.sockets import BUFFER, FEW_BYTES, OUTPUT, LoggedSocket
 from netrev_go.steps import analysis, compare, converting, forms, making, report
 
 from .test_go_logs import opened
@@ -139,7 +139,7 @@ def test_a_process_that_is_too_old_gets_one_quit_and_is_killed_later(
     monkeypatch.setattr(running, "GRACE", 10)
     own = cast(Any, Made(folder=Path(), began={}, told=set()))
     for age in ages:
-        running.Runner.end_the_old(own, age, 5)
+        running.GoRunner.end_the_old(own, age, 5)
     assert "".join(signals) == sent
 
 
@@ -153,10 +153,10 @@ def test_a_test_program_has_the_package_s_last_name(package: str, name: str) -> 
 @pytest.mark.parametrize(
     "status, suspected, possible, fail_on, is_strict, all_recorded, ends",
     [
-        (0, True, True, None, False, False, Status.DONE), (0, True, False, ["suspects"], False, True, Status.SUSPECTED),
-        (0, False, True, ["suspects"], False, True, Status.DONE), (0, False, True, ["possible"], False, True, Status.SUSPECTED),
-        (0, True, False, ["possible"], False, True, Status.DONE), (0, False, False, ["suspects", "possible"], True, True, Status.DONE),
-        (0, False, False, None, True, False, Status.UNRECORDED), (0, True, True, ["possible"], True, False, Status.SUSPECTED), (3, True, True, ["suspects"], True, False, 3),
+        (0, True, True, None, False, False, ExitStatus.DONE), (0, True, False, ["suspects"], False, True, ExitStatus.SUSPECTED),
+        (0, False, True, ["suspects"], False, True, ExitStatus.DONE), (0, False, True, ["possible"], False, True, ExitStatus.SUSPECTED),
+        (0, True, False, ["possible"], False, True, ExitStatus.DONE), (0, False, False, ["suspects", "possible"], True, True, ExitStatus.DONE),
+        (0, False, False, None, True, False, ExitStatus.UNRECORDED), (0, True, True, ["possible"], True, False, ExitStatus.SUSPECTED), (3, True, True, ["suspects"], True, False, 3),
     ],
 )  # fmt: skip
 def test_the_status_of_recorded_tests(
@@ -192,7 +192,7 @@ def test_what_a_conversion_didn_t_print_yet_comes_at_its_end(monkeypatch: Patch,
     for name, fake in {"go_if_any": lambda: None, "wish_of": lambda options: None}.items():
         monkeypatch.setattr(cli, name, fake)
     monkeypatch.setattr(cli, "convert", convert)
-    assert cli.convert_one(argparse.Namespace(words_of_go=["a", "b"], pid=None, o=None)) == Status.REFUSED
+    assert cli.convert_one(argparse.Namespace(words_of_go=["a", "b"], pid=None, o=None)) == ExitStatus.REFUSED
     assert capsys.readouterr().out == 2 * "first\nsecond\n"
 
 
@@ -217,33 +217,33 @@ def test_only_values_are_netrev_s_answers(monkeypatch: Patch) -> None:
     ],
 )  # fmt: skip
 def test_the_recorder_s_own_calls(function: str, of: str, is_ours: bool) -> None:
-    assert lines.is_ours(Call(function, "x.go", 1, of)) is is_ours
+    assert lines.is_ours(LineCall(function, "x.go", 1, of)) is is_ours
 
 
 @pytest.mark.parametrize(
     "kind, asked, got, failed, text, steps, written, largest, full_at",
     [
-        (Kind.READ, 9, 5, 0, 10, 1, 0, OUTPUT, 0), (Kind.READ, 9, 0, 0, 0, -1, 0, OUTPUT, 0), (Kind.READ, 9, -1, 1, 0, -1, 0, OUTPUT, 0),
-        (Kind.READ, 2 * BUFFER, BUFFER, 0, 2 * BUFFER, 1, 0, OUTPUT, 0), (Kind.READ, 2 * BUFFER, BUFFER + 1, 0, 2 * BUFFER + 2, 3, 0, OUTPUT, 0),
-        (Kind.WRITE, 9, 5, 0, 10, 0, 5, OUTPUT, 0), (Kind.WRITE, 9, 0, 2, 18, 0, 0, OUTPUT, 0), (Kind.WRITE, 0, -1, 2, 2, 0, 0, OUTPUT, 0),
-        (Kind.WRITE, BUFFER + 1, 0, 2, 2 * BUFFER, 0, 0, OUTPUT, 0), (Kind.WRITE, 9, 0, 1, 18, 0, 0, OUTPUT, 1), (Kind.WRITE, 9, 5, 1, 10, 0, 5, OUTPUT, 5),
-        (Kind.WRITE, 9, OUTPUT + 1, 0, 2 * OUTPUT + 2, 0, OUTPUT + 1, OUTPUT + 1, 0), (Kind.WRITE, 9, BUFFER + 1, 1, 2 * BUFFER + 2, 0, BUFFER + 1, BUFFER, BUFFER),
+        (PointKind.READ, 9, 5, 0, 10, 1, 0, OUTPUT, 0), (PointKind.READ, 9, 0, 0, 0, -1, 0, OUTPUT, 0), (PointKind.READ, 9, -1, 1, 0, -1, 0, OUTPUT, 0),
+        (PointKind.READ, 2 * BUFFER, BUFFER, 0, 2 * BUFFER, 1, 0, OUTPUT, 0), (PointKind.READ, 2 * BUFFER, BUFFER + 1, 0, 2 * BUFFER + 2, 3, 0, OUTPUT, 0),
+        (PointKind.WRITE, 9, 5, 0, 10, 0, 5, OUTPUT, 0), (PointKind.WRITE, 9, 0, 2, 18, 0, 0, OUTPUT, 0), (PointKind.WRITE, 0, -1, 2, 2, 0, 0, OUTPUT, 0),
+        (PointKind.WRITE, BUFFER + 1, 0, 2, 2 * BUFFER, 0, 0, OUTPUT, 0), (PointKind.WRITE, 9, 0, 1, 18, 0, 0, OUTPUT, 1), (PointKind.WRITE, 9, 5, 1, 10, 0, 5, OUTPUT, 5),
+        (PointKind.WRITE, 9, OUTPUT + 1, 0, 2 * OUTPUT + 2, 0, OUTPUT + 1, OUTPUT + 1, 0), (PointKind.WRITE, 9, BUFFER + 1, 1, 2 * BUFFER + 2, 0, BUFFER + 1, BUFFER, BUFFER),
     ],
 )  # fmt: skip
 def test_the_bytes_of_a_read_or_a_write(
     kind: int, asked: int, got: int, failed: int, text: int, steps: int, written: int, largest: int, full_at: int
 ) -> None:
-    socket = Socket(0)
+    socket = LoggedSocket(0)
     sockets.count_bytes(socket, Point(1, kind, 1, 0, asked, got, failed, 0, 0))
     assert (socket.text, socket.steps, socket.written) == (text, steps, written)
     assert (socket.largest, socket.full_at, socket.capacity()) == (largest, full_at, full_at or largest)
-    assert (socket.last_write is not None) is (kind == Kind.WRITE and (got > 0 or failed == 1))
+    assert (socket.last_write is not None) is (kind == PointKind.WRITE and (got > 0 or failed == 1))
 
 
 @pytest.mark.parametrize(
     "kind, asked, got, few",
     [
-        (Kind.WRITE, 64, 64, (64, 64)), (Kind.WRITE, 65, 3, (64, 3)), (Kind.WRITE, 3, 3, (3, 3)), (Kind.READ, 65, 65, (65, 64)), (Kind.READ, 9, -1, (9, -1)),
+        (PointKind.WRITE, 64, 64, (64, 64)), (PointKind.WRITE, 65, 3, (64, 3)), (PointKind.WRITE, 3, 3, (3, 3)), (PointKind.READ, 65, 65, (65, 64)), (PointKind.READ, 9, -1, (9, -1)),
     ],
 )  # fmt: skip
 def test_few_of_the_bytes_of_a_call(kind: int, asked: int, got: int, few: tuple[int, int]) -> None:
@@ -254,15 +254,15 @@ def test_few_of_the_bytes_of_a_call(kind: int, asked: int, got: int, few: tuple[
 @pytest.mark.parametrize(
     "kind, got, error, held, is_shut, answers",
     [
-        (Kind.READ, 1, 7, 0, False, True), (Kind.READ, 0, 1, 0, False, True), (Kind.READ, 0, 0, 0, False, True), (Kind.READ, 0, 7, 0, False, False), (Kind.READ, 0, 2, 0, True, False),
-        (Kind.WRITE, 0, 1, OUTPUT, False, True), (Kind.WRITE, 0, 1, OUTPUT - 1, False, False), (Kind.WRITE, 0, 2, 0, True, True), (Kind.WRITE, 0, 2, 0, False, False),
-        (Kind.WRITE, 0, 0, 0, True, False),
+        (PointKind.READ, 1, 7, 0, False, True), (PointKind.READ, 0, 1, 0, False, True), (PointKind.READ, 0, 0, 0, False, True), (PointKind.READ, 0, 7, 0, False, False), (PointKind.READ, 0, 2, 0, True, False),
+        (PointKind.WRITE, 0, 1, OUTPUT, False, True), (PointKind.WRITE, 0, 1, OUTPUT - 1, False, False), (PointKind.WRITE, 0, 2, 0, True, True), (PointKind.WRITE, 0, 2, 0, False, False),
+        (PointKind.WRITE, 0, 0, 0, True, False),
     ],
 )  # fmt: skip
 def test_the_results_for_which_the_machine_has_an_answer(
     kind: int, got: int, error: int, held: int, is_shut: bool, answers: bool
 ) -> None:
-    socket = Socket(0, held=held, shut=is_shut)
+    socket = LoggedSocket(0, held=held, shut=is_shut)
     assert can_answer(socket, Point(1, kind, 1, 0, 9, got, error, 0, 0)) is answers
 
 
@@ -283,7 +283,7 @@ def test_the_status_of_recovered_runs(statuses: str, ends: int, monkeypatch: Pat
         )
 
     fakes: dict[str, Callable[..., object]] = {
-        "look": looked.append, "left_runs": lambda: runs, "take_over": lambda run: True, "Making": made,
+        "look": looked.append, "left_runs": lambda: runs, "take_over": lambda run: True, "LoggedChannel": made,
     }  # fmt: skip
     for name, fake in fakes.items():
         monkeypatch.setattr(recovery, name, fake)
@@ -314,7 +314,7 @@ def test_the_recordings_of_a_run_s_processes(
     monkeypatch.setattr(keeping, "convert", convert)
     monkeypatch.setattr(messages, "NOTHING_TO_RECORD", "nothing")
     monkeypatch.setattr(messages, "OPENED_NONE", "{processes}")
-    made = keeping.Making(Path("logs"), Path("x"), None, cast(Any, None), 2)
+    made = keeping.RecordingMaker(Path("logs"), Path("x"), None, cast(Any, None), 2)
     assert made._make(Path("x"), cast(Any, None), 2) == (is_ok, count)
     assert made.suspected is suspected and made.trouble is ("w" in outcomes)
     assert says in capsys.readouterr().err
@@ -345,10 +345,10 @@ def test_the_status_if_no_go_is_installed(monkeypatch: Patch, capsys: Output) ->
 
 @pytest.mark.parametrize(
     "made, says",
-    [(None, ""), (Call("main.f", "main.go", 3, "program"), "; started at main.go:3")],
+    [(None, ""), (LineCall("main.f", "main.go", 3, "program"), "; started at main.go:3")],
 )
-def test_a_goroutine_is_told_with_the_line_that_started_it(made: Call | None, says: str) -> None:
-    calls = Calls((Call("main.f", "main.go", 14, "program"),), made)
+def test_a_goroutine_is_told_with_the_line_that_started_it(made: LineCall | None, says: str) -> None:
+    calls = Calls((LineCall("main.f", "main.go", 14, "program"),), made)
     wait = report.wait_of(2, "running w", 7, "step 7", calls)
     (sentence,) = wait.sentences
     assert sentence.endswith(f"(goroutine 2, since step 7{says})") and "main.go:14" in sentence
@@ -366,39 +366,41 @@ def passed(*points: tuple[int, ...], begin: int = 0) -> Goroutines:
 @pytest.mark.parametrize("due, ends", [(120, 20), (101, 1), (100, 0), (40, 0)])
 def test_a_timer_is_due_when_it_is_set_to_or_at_once(due: int, ends: int) -> None:
     found = passed(
-        (Kind.TIMER, 3, 0x50, due, 0, 0, 110, 9), (Kind.STOPPED, 4, 0x50, 0, 0, 0, 90, 8), begin=100
+        (PointKind.TIMER, 3, 0x50, due, 0, 0, 110, 9), (PointKind.STOPPED, 4, 0x50, 0, 0, 0, 90, 8), begin=100
     )  # fmt: skip
     assert found.timers == [
-        goroutines.Timer(0x50, 3, 9, 1, 10, ends), goroutines.Timer(0x50, 4, 8, 2, 0, NEVER)
+        goroutines.LoggedTimer(0x50, 3, 9, 1, 10, ends), goroutines.LoggedTimer(0x50, 4, 8, 2, 0, NEVER)
     ]  # fmt: skip
 
 
 def test_a_dial_that_fails() -> None:
-    found = passed((Kind.DIAL_FAILED, 3, 0x50, 111, 12, 0, 110, 9), begin=100)
-    assert found.dials == [goroutines.FailedDial(3, 9, 1, 10, 111, 12, 0x50)]
+    found = passed((PointKind.DIAL_FAILED, 3, 0x50, 111, 12, 0, 110, 9), begin=100)
+    assert found.dials == [goroutines.LoggedDial(3, 9, 1, 10, 111, 12, 0x50)]
     assert found.stacks() == {9} and found.goroutines() == {3}
 
 
 def test_each_channel_at_an_address_has_its_own_key() -> None:
-    make = [(Kind.MAKES, 3, 0x50, 0, room, 0, 10 * room, room) for room in (1, 2, 3)]
-    found = passed(*make, (Kind.SENT, 4, 0x50, 1, 3, 0, 40, 9))
+    make = [(PointKind.MAKES, 3, 0x50, 0, room, 0, 10 * room, room) for room in (1, 2, 3)]
+    found = passed(*make, (PointKind.SENT, 4, 0x50, 1, 3, 0, 40, 9))
     keys = [0x50, 0x50 + 2**48, 0x50 + 2**49]
-    assert found.made == {key: Making(3, room, room, 10 * room) for key, room in zip(keys, (1, 2, 3))}
+    assert found.made == {key: LoggedChannel(3, room, room, 10 * room) for key, room in zip(keys, (1, 2, 3))}
     assert found.rooms == dict(zip(keys, (1, 2, 3))) and [use.address for use in found.uses] == keys[2:]
 
 
 def test_a_use_lasts_from_its_first_time_to_its_last() -> None:
-    sent = [(Kind.SENT, 4, 0x50, 1, 3, 0, time, 9) for time in (20, 30, 45)]
-    assert passed(*sent).uses == {Used(0x50, 4, "put", 9): Span(3, 1, 3, 20, 45)}
+    sent = [(PointKind.SENT, 4, 0x50, 1, 3, 0, time, 9) for time in (20, 30, 45)]
+    assert passed(*sent).uses == {Used(0x50, 4, "put", 9): UseSpan(3, 1, 3, 20, 45)}
 
 
 def test_the_stacks_of_all_facts() -> None:
-    found = Goroutines([Park(1, 0, 2, 0, 9, 5, 11, 0, ())], uses={Used(0x50, 4, "put", 12): Span(1, 1, 1, 2, 2)})
-    found.timers.append(goroutines.Timer(0, 1, 13, 1, 1, 1))
-    found.made[0x50] = Making(1, 14, 1, 1)
-    found.dials.append(goroutines.FailedDial(1, 15, 1, 1, 1, 1, 0))
+    found = Goroutines(
+        [LoggedPark(1, 0, 2, 0, 9, 5, 11, 0, ())], uses={Used(0x50, 4, "put", 12): UseSpan(1, 1, 1, 2, 2)}
+    )
+    found.timers.append(goroutines.LoggedTimer(0, 1, 13, 1, 1, 1))
+    found.made[0x50] = LoggedChannel(1, 14, 1, 1)
+    found.dials.append(goroutines.LoggedDial(1, 15, 1, 1, 1, 1, 0))
     assert found.stacks() == {11, 12, 13, 14, 15}
-    found.held = [goroutines.Held(0x60, 1, False, 16, 1)]
+    found.held = [goroutines.LoggedMutex(0x60, 1, False, 16, 1)]
     assert found.stacks() == {11, 12, 13, 14, 15, 16}
 
 
@@ -407,8 +409,11 @@ def test_the_stacks_of_all_facts() -> None:
     [(0, None, True), (30, None, True), (31, None, False), (0, 20, True), (0, 19, False), (30, 40, True), (31, 40, False)],
 )  # fmt: skip
 def test_the_facts_of_a_period(begin: int, end: int | None, is_kept: bool) -> None:
-    waits = [Park(1, 0, 2, 20, 30, 5, 11, 0, ()), Park(2, 0, goroutines.UNENDED, 20, goroutines.UNENDED, 5, 11, 0, ())]
-    found = Goroutines(waits, uses={Used(0x50, 4, "put", 12): Span(1, 1, 1, 20, 30)})
+    waits = [
+        LoggedPark(1, 0, 2, 20, 30, 5, 11, 0, ()),
+        LoggedPark(2, 0, goroutines.UNENDED, 20, goroutines.UNENDED, 5, 11, 0, ()),
+    ]
+    found = Goroutines(waits, uses={Used(0x50, 4, "put", 12): UseSpan(1, 1, 1, 20, 30)})
     kept = found.during(begin, end)
     assert (waits[0] in kept.parks) is is_kept and bool(kept.uses) is is_kept
     assert (waits[1] in kept.parks) is (end is None or end >= 20)
@@ -474,7 +479,9 @@ WRITES = [
 def test_a_write_has_as_many_steps_as_fit_into_the_output(
     writes: list[tuple[int, int, int]], capacity: int, counts: list[int]
 ) -> None:
-    points = opened(1) + [Point(2 + place, Kind.WRITE, 1, 1000, *write, 0, 0) for place, write in enumerate(writes)]
+    points = opened(1) + [
+        Point(2 + place, PointKind.WRITE, 1, 1000, *write, 0, 0) for place, write in enumerate(writes)
+    ]
     steps = [json.loads(str(line)) for line in making.make(Log(points)).lines]
     assert next(step[2] for step in steps if step[0] == "sockopen") == capacity
     assert [step[4][1] for step in steps if step[0] == "syswrite" and step[4] != "again"] == counts
@@ -604,7 +611,7 @@ def test_the_ends_of_unix_connections_are_paired_if_their_order_is_known(
 ) -> None:
     beside = Beside()
     for socket, path, goroutine in ends:
-        beside.named(socket, Point(1, Kind.NAMED, goroutine, 0, *path, OF_UNIX, 0, 0))
+        beside.named(socket, Point(1, PointKind.NAMED, goroutine, 0, *path, OF_UNIX, 0, 0))
     beside.pair_unix()
     assert beside.peers == peers
 
@@ -618,7 +625,7 @@ def test_recordings_of_a_running_program_are_numbered(monkeypatch: Patch) -> Non
 
     monkeypatch.setattr(keeping, "logs_in", lambda folder: [Path("log.1"), Path("log.2")])
     monkeypatch.setattr(keeping, "convert", convert)
-    made = keeping.Making(Path("logs"), Path("x"), None, cast(Any, None))
+    made = keeping.RecordingMaker(Path("logs"), Path("x"), None, cast(Any, None))
     made.so_far()
     made.so_far()
     assert names == ["x-so-far-1.jsonl", "x-so-far-1-2.jsonl", "x-so-far-2.jsonl", "x-so-far-2-2.jsonl"]
@@ -655,6 +662,6 @@ def test_a_recording_that_is_too_long_after_its_steps_were_counted_gets_less_roo
     ],
 )  # fmt: skip
 def test_the_points_after_the_last_gap_that_is_too_large(numbers: list[int], first: int | None) -> None:
-    points = [Point(number, Kind.INIT, 1, 0, 0, 0, 0, 0, 0) for number in numbers]
+    points = [Point(number, PointKind.INIT, 1, 0, 0, 0, 0, 0, 0) for number in numbers]
     kept = logfile.behind_the_last_gap(points)
     assert kept == [point for point in points if first is not None and point.number >= first]

@@ -9,13 +9,13 @@ import unittest
 from unittest import mock
 
 from dev.fuzz.generators.logs import STACKS, binary, from_text, packed
-from netrev.recording.where import Lines
+from netrev.recording.where import SourceLines
 from netrev_go.log import lines
-from netrev_go.log.lines import Call, Calls, Roots, lines_of, looked_up
+from netrev_go.log.lines import LineCall, Calls, SourceRoots, lines_of, looked_up
 from netrev_go.log.logfile import HEADER_BYTES, NotALogError, read_log
-from netrev_go.log.points import Kind, Log, Point
+from netrev_go.log.points import PointKind, Log, Point
 from netrev_go.steps import converting
-from netrev_go.steps.converting import Wish, convert
+from netrev_go.steps.converting import RecordingOptions, convert
 from netrev_go.steps.making import NothingRecordedError, UnconvertibleError, make, write
 from netrev_go.steps.report import Outcome, next_line, wait_of
 from netrev_go.steps.where import own_line, write_where
@@ -39,8 +39,8 @@ def opened(count: int) -> list[Point]:
     """Points of sockets that are opened one after another."""
     points = []
     for i in range(count):
-        points.append(Point(2 * i, Kind.INIT, 1, 1000 + 16 * i, 4, 0, 0, 0, 0))
-        points.append(Point(2 * i + 1, Kind.OPEN, 1, 9000 + 300 * i, 4, 1, 1, 0, 0))
+        points.append(Point(2 * i, PointKind.INIT, 1, 1000 + 16 * i, 4, 0, 0, 0, 0))
+        points.append(Point(2 * i + 1, PointKind.OPEN, 1, 9000 + 300 * i, 4, 1, 1, 0, 0))
     return points
 
 
@@ -67,7 +67,9 @@ class Stored(unittest.TestCase):
                 with mock.patch.object(lines, "shift", return_value=0), mock.patch.object(
                     lines, "looked_up", return_value=symbols
                 ):
-                    calls = lines_of(log, set(recording.stacks), pathlib.Path("none"), ["go"], Roots(sources, here))
+                    calls = lines_of(
+                        log, set(recording.stacks), pathlib.Path("none"), ["go"], SourceRoots(sources, here)
+                    )
                 made = pathlib.Path(folder, "made.where")
                 write_where(made, recording.stacks, calls)
                 self.assertEqual(made.read_text(), (REAL / f"{name}.where").read_text())
@@ -119,7 +121,7 @@ class Times(unittest.TestCase):
 
     def test_steps_that_a_point_brings_besides_have_its_time(self) -> None:
         points = [*self.timed([1_010, 1_020]).points]
-        points.append(Point(2, Kind.SET_DEADLINE, 1, points[1].at, ord("r") + ord("w"), 500, 0, 1_700, 0))
+        points.append(Point(2, PointKind.SET_DEADLINE, 1, points[1].at, ord("r") + ord("w"), 500, 0, 1_700, 0))
         log = self.timed([1_010, 1_020])
         log.points = points
         recording = make(log)
@@ -132,40 +134,41 @@ class Times(unittest.TestCase):
         with tempfile.TemporaryDirectory() as folder:
             name = pathlib.Path(folder, "x.where")
             write_where(name, [0] * len(times), {}, times=times)
-            lines = Lines.beside(str(name.with_suffix(".jsonl")), len(times))
+            lines = SourceLines.beside(str(name.with_suffix(".jsonl")), len(times))
             self.assertEqual((lines.fault, list(lines.times)), ("", times))
             write_where(name, [0] * len(times), {}, times=times[:-1])
-            self.assertEqual(list(Lines.beside(str(name.with_suffix(".jsonl")), len(times)).times), [])
+            self.assertEqual(list(SourceLines.beside(str(name.with_suffix(".jsonl")), len(times)).times), [])
 
 
 class StacksOfCalls(unittest.TestCase):
     """A point within a call needs no stack: its step has the stack with which the call began to use the socket."""
 
-    def stacks(self, *points: tuple[Kind, int, int, int]) -> list[int]:
+    def stacks(self, *points: tuple[PointKind, int, int, int]) -> list[int]:
         """The stacks of the steps for these points, which follow the opening of two sockets. A point is a kind, a goroutine, a socket and a stack."""
         made = opened(2)
         for kind, g, socket, stack in points:
-            at = made[2 * socket].at if kind != Kind.RESET else made[2 * socket + 1].at
-            made.append(Point(len(made), kind, g, at, ord("r") if kind == Kind.RESET else 0, 8, 2, 0, stack))
+            at = made[2 * socket].at if kind != PointKind.RESET else made[2 * socket + 1].at
+            made.append(Point(len(made), kind, g, at, ord("r") if kind == PointKind.RESET else 0, 8, 2, 0, stack))
         recording = make(Log(made))
         steps = [stack for line, stack in zip(recording.lines, recording.stacks) if "spawn" not in str(line)]
         return steps[-len(points) :]
 
     def test_a_later_step_of_the_call_has_it(self) -> None:
-        lock, reset, unlock = (Kind.RW_LOCK, 1, 0, 5), (Kind.RESET, 1, 0, 0), (Kind.RW_UNLOCK, 1, 0, 0)
+        lock, reset, unlock = (PointKind.RW_LOCK, 1, 0, 5), (PointKind.RESET, 1, 0, 0), (PointKind.RW_UNLOCK, 1, 0, 0)
         self.assertEqual(self.stacks(lock, reset, unlock), [5, 5, 5])
 
     def test_a_call_at_another_socket_meanwhile_keeps_its_own(self) -> None:
-        lock, unlock = (Kind.RW_LOCK, 1, 0, 5), (Kind.RW_UNLOCK, 1, 0, 0)
-        inner = (Kind.INCREF, 1, 1, 6), (Kind.DECREF, 1, 1, 0)
+        lock, unlock = (PointKind.RW_LOCK, 1, 0, 5), (PointKind.RW_UNLOCK, 1, 0, 0)
+        inner = (PointKind.INCREF, 1, 1, 6), (PointKind.DECREF, 1, 1, 0)
         self.assertEqual(self.stacks(lock, *inner, unlock), [5, 6, 6, 5])
 
     def test_a_call_of_another_goroutine_too(self) -> None:
         self.assertEqual(
-            self.stacks((Kind.RW_LOCK, 1, 0, 5), (Kind.INCREF, 1, 0, 0), (Kind.DECREF, 1, 0, 0)), [5, 5, 5]
+            self.stacks((PointKind.RW_LOCK, 1, 0, 5), (PointKind.INCREF, 1, 0, 0), (PointKind.DECREF, 1, 0, 0)),
+            [5, 5, 5],
         )
-        first, second = (Kind.INCREF, 2, 0, 6), (Kind.INCREF, 3, 0, 7)
-        self.assertEqual(self.stacks(first, second, (Kind.DECREF, 2, 0, 0)), [6, 7, 6])
+        first, second = (PointKind.INCREF, 2, 0, 6), (PointKind.INCREF, 3, 0, 7)
+        self.assertEqual(self.stacks(first, second, (PointKind.DECREF, 2, 0, 0)), [6, 7, 6])
 
 
 class Reading(unittest.TestCase):
@@ -222,7 +225,7 @@ class Reading(unittest.TestCase):
         self.assertEqual([point.number for point in log.points], list(range(135, 200)))
         self.assertIn("the log keeps the newest 65 points of 200", log.notes)
         self.assertEqual(make(log).sockets, 32)
-        later = [point._replace(number=point.number + 100, kind=Kind.INCREF) for point in opened(3)]
+        later = [point._replace(number=point.number + 100, kind=PointKind.INCREF) for point in opened(3)]
         with self.assertRaisesRegex(NothingRecordedError, "before the oldest point in the log"):
             make(read(binary(later, room=3)))
 
@@ -268,16 +271,16 @@ def changed(data: bytearray, at: int, chance: random.Random, is_kind: bool) -> N
     word, goroutine, place, a, b, c, time, last = struct.unpack_from("<Q6qQ", data, at)
     point = Point((word >> 8) - 1, word & 255, goroutine, place, a, b, c, time, last & 2**32 - 1)
     name = "kind" if is_kind else chance.choice(["goroutine", "at", "a", "b", "c", "time"])
-    values = list(map(int, Kind)) if is_kind else [0, -1, 1, 5, 2**62, -(2**63), getattr(point, name) + 8]
+    values = list(map(int, PointKind)) if is_kind else [0, -1, 1, 5, 2**62, -(2**63), getattr(point, name) + 8]
     data[at : at + 64] = packed(point._replace(**{name: chance.choice(values)}))
 
 
 class Told(unittest.TestCase):
     CALLS = (
-        Call("io.ReadAll", "io/io.go", 661, "go"),
-        Call("ext.Read", "/m/pkg/mod/ext@v1/e.go", 5, "library"),
-        Call("main.f", "main.go", 14, "program"),
-        Call("main.main", "main.go", 20, "program"),
+        LineCall("io.ReadAll", "io/io.go", 661, "go"),
+        LineCall("ext.Read", "/m/pkg/mod/ext@v1/e.go", 5, "library"),
+        LineCall("main.f", "main.go", 14, "program"),
+        LineCall("main.main", "main.go", 20, "program"),
     )
 
     def test_what_is_below_the_commands_folder_is_the_programs(self) -> None:
@@ -291,7 +294,7 @@ class Told(unittest.TestCase):
             ("/home/p", "example.org/q@v1.2.0/a.go", "library"),  # of a program that was built with -trimpath
         ):
             with self.subTest(file):
-                call = Roots(pathlib.Path("/go/src"), pathlib.Path(here)).call("p.f", file, 7)
+                call = SourceRoots(pathlib.Path("/go/src"), pathlib.Path(here)).call("p.f", file, 7)
                 self.assertEqual((call.of, call.file), (of, file.removeprefix(f"{here}/")))
 
     def test_the_programs_line_comes_before_a_librarys(self) -> None:
@@ -300,12 +303,12 @@ class Told(unittest.TestCase):
         self.assertIsNone(own_line(Calls(self.CALLS[:1], None)))
 
     def test_nrdb_reads_the_lines_that_were_written(self) -> None:
-        made = Call("main.main", "main.go", 18, "program")
+        made = LineCall("main.main", "main.go", 18, "program")
         with tempfile.TemporaryDirectory() as folder:
             name = pathlib.Path(folder, "a.where")
             write_where(name, [7, 0, 9, 7] * 600, {7: Calls(self.CALLS, made), 9: Calls((), None)})
-            told = Lines.beside(str(name.with_suffix(".jsonl")), 2_400)
-            self.assertFalse(Lines.beside(str(name.with_suffix(".jsonl")), 2_399))
+            told = SourceLines.beside(str(name.with_suffix(".jsonl")), 2_400)
+            self.assertFalse(SourceLines.beside(str(name.with_suffix(".jsonl")), 2_399))
             self.assertEqual(told.words(1), "main.go:14 ext.Read")
             self.assertEqual((told.words(2), told.words(3), told.words(2_400)), ("", "", "main.go:14 ext.Read"))
             made_at = told.of(1).made
@@ -320,10 +323,10 @@ class Told(unittest.TestCase):
             '{"where":1,"steps":1}\n{"call":1}',
             '{"where":1,"steps":1}\n7',
         ):
-            self.assertFalse(Lines(text, 1))
+            self.assertFalse(SourceLines(text, 1))
 
     def test_a_programs_words_are_not_obeyed_by_a_terminal(self) -> None:
-        calls = Calls((Call("main.\x1b[2Jf", "m\u202e.go", 3, "program"),), None)
+        calls = Calls((LineCall("main.\x1b[2Jf", "m\u202e.go", 3, "program"),), None)
         self.assertEqual(
             wait_of(1, "parked 0 r", 9, "step 9", calls).sentences[0],
             "m\\u202e.go:3: main.\\x1b[2Jf waits to read (goroutine 1, since step 9)",
@@ -334,7 +337,7 @@ class Told(unittest.TestCase):
             with tempfile.TemporaryDirectory() as folder:
                 log = pathlib.Path(folder, f"log{text}.1")
                 log.write_bytes(b"nothing")
-                outcome = convert(log, log.with_suffix(".jsonl"), None, Wish())
+                outcome = convert(log, log.with_suffix(".jsonl"), None, RecordingOptions())
             self.assertFalse(outcome.taken)
             self.assertEqual(unseen("\n".join(outcome.lines)), [])
             self.assertIn("too short for a log", outcome.lines[0])
@@ -359,6 +362,6 @@ class Told(unittest.TestCase):
         ):
             log, name = pathlib.Path(folder, "log.1"), pathlib.Path(folder, "made.jsonl")
             log.write_bytes(from_text((REAL / "past.log").read_text())[0])
-            self.assertTrue(convert(log, name, None, Wish()).taken)
+            self.assertTrue(convert(log, name, None, RecordingOptions()).taken)
             self.assertTrue(name.exists())
             self.assertFalse(name.with_suffix(".where").exists())

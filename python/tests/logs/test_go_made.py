@@ -8,12 +8,12 @@ import unittest
 from typing import Any
 
 from netrev.recording import goroutines as where
-from netrev.recording.where import Lines
+from netrev.recording.where import SourceLines
 from netrev_go.log.beside import OF_IPV4
 
-from netrev_go.log.goroutines import GENERATION, GIVES, ROOM, UNENDED, VALUE, At, FailedDial, Goroutines, Making, Timer  # fmt: skip
-from netrev_go.log.lines import OF_GO, OF_THE_PROGRAM, Call, Calls, is_ours, outside_the_runtime
-from netrev_go.log.points import Kind
+from netrev_go.log.goroutines import GENERATION, GIVES, ROOM, UNENDED, VALUE, At, LoggedDial, Goroutines, LoggedChannel, LoggedTimer  # fmt: skip
+from netrev_go.log.lines import OF_GO, OF_THE_PROGRAM, LineCall, Calls, is_ours, outside_the_runtime
+from netrev_go.log.points import PointKind
 from netrev_go.log.ran import Ran
 from netrev_go.steps.cutting import goroutines_of
 from netrev_go.steps.goroutine_lines import CANCELLED, TIMED_OUT
@@ -41,14 +41,16 @@ def used(found: Goroutines) -> list[tuple[int, int, str]]:
 
 class Channels(unittest.TestCase):
     def test_who_made_a_channel_where_and_when(self) -> None:
-        found = Points().at(3).add(Kind.MAKES, 7, CHANNEL, b=2, stack=4).found()
-        self.assertEqual((found.made, found.rooms), ({CHANNEL: Making(7, 4, 1, 3_000)}, {CHANNEL: 2}))
+        found = Points().at(3).add(PointKind.MAKES, 7, CHANNEL, b=2, stack=4).found()
+        self.assertEqual((found.made, found.rooms), ({CHANNEL: LoggedChannel(7, 4, 1, 3_000)}, {CHANNEL: 2}))
         self.assertEqual(found.stacks(), {4})
 
     def test_one_that_is_made_at_an_address_again_is_another(self) -> None:
-        points = Points().add(Kind.MAKES, 7, CHANNEL, b=2).add(Kind.SENT, 7, CHANNEL, 0, 2)
-        points.add(Kind.MAKES, 8, CHANNEL, b=1).add(Kind.SENT, 8, CHANNEL, 0, 1).add(Kind.RECEIVED, 9, CHANNEL, 1, 1)
-        points.add(Kind.MAKES, 9, CHANNEL, b=0).add(Kind.CHANNEL_CLOSED, 9, CHANNEL)
+        points = Points().add(PointKind.MAKES, 7, CHANNEL, b=2).add(PointKind.SENT, 7, CHANNEL, 0, 2)
+        points.add(PointKind.MAKES, 8, CHANNEL, b=1).add(PointKind.SENT, 8, CHANNEL, 0, 1).add(
+            PointKind.RECEIVED, 9, CHANNEL, 1, 1
+        )
+        points.add(PointKind.MAKES, 9, CHANNEL, b=0).add(PointKind.CHANNEL_CLOSED, 9, CHANNEL)
         found = points.found()
         self.assertEqual([making.goroutine for making in found.made.values()], [7, 8, 9])
         self.assertEqual(list(found.made), [CHANNEL, SECOND, THIRD])
@@ -57,54 +59,63 @@ class Channels(unittest.TestCase):
         self.assertEqual(used(found), expected)
 
     def test_one_whose_making_was_not_seen_is_another_too(self) -> None:
-        points = Points().add(Kind.SENT, 7, CHANNEL, 0, 2).add(Kind.MAKES, 8, CHANNEL, b=1)
-        found = points.add(Kind.SENT, 8, CHANNEL, 0, 1).found()
+        points = Points().add(PointKind.SENT, 7, CHANNEL, 0, 2).add(PointKind.MAKES, 8, CHANNEL, b=1)
+        found = points.add(PointKind.SENT, 8, CHANNEL, 0, 1).found()
         self.assertEqual(used(found), [(CHANNEL, 7, "put"), (SECOND, 8, "put")])
         self.assertEqual(list(found.made), [SECOND])
 
     def test_those_of_other_addresses_stay_apart(self) -> None:
-        points = Points().add(Kind.MAKES, 7, CHANNEL).add(Kind.MAKES, 7, OTHER_CHANNEL).add(Kind.MAKES, 7, CHANNEL)
+        points = (
+            Points()
+            .add(PointKind.MAKES, 7, CHANNEL)
+            .add(PointKind.MAKES, 7, OTHER_CHANNEL)
+            .add(PointKind.MAKES, 7, CHANNEL)
+        )
         self.assertEqual(list(points.found().made), [CHANNEL, OTHER_CHANNEL, SECOND])
 
     def test_a_wait_is_at_the_channel_that_was_there_when_it_began(self) -> None:
-        points = Points().add(Kind.MAKES, 7, CHANNEL).add(Kind.PARKS, 8, CHANNEL, VALUE)
-        points.add(Kind.MAKES, 7, CHANNEL).add(Kind.PARKS, 9, CHANNEL, ROOM).add(Kind.GOES_ON, 8)
+        points = Points().add(PointKind.MAKES, 7, CHANNEL).add(PointKind.PARKS, 8, CHANNEL, VALUE)
+        points.add(PointKind.MAKES, 7, CHANNEL).add(PointKind.PARKS, 9, CHANNEL, ROOM).add(PointKind.GOES_ON, 8)
         found = points.found()
         self.assertEqual([park.objects for park in found.parks], [(At(CHANNEL, VALUE),), (At(SECOND, ROOM),)])
         self.assertEqual([park.end == UNENDED for park in found.parks], [False, True])
 
     def test_a_select_is_at_those_that_are_there(self) -> None:
-        points = Points().add(Kind.MAKES, 7, CHANNEL).add(Kind.MAKES, 7, CHANNEL)
-        points.add(Kind.CASES, 8, CHANNEL, cases(VALUE, VALUE), OTHER_CHANNEL)
-        points.add(Kind.PARKS, 8, CHANNEL, cases(ROOM))
+        points = Points().add(PointKind.MAKES, 7, CHANNEL).add(PointKind.MAKES, 7, CHANNEL)
+        points.add(PointKind.CASES, 8, CHANNEL, cases(VALUE, VALUE), OTHER_CHANNEL)
+        points.add(PointKind.PARKS, 8, CHANNEL, cases(ROOM))
         (park,) = points.found().parks
         self.assertEqual(park.objects, (At(SECOND, VALUE), At(OTHER_CHANNEL, VALUE), At(SECOND, ROOM)))
 
     def test_a_value_that_is_handed_over_goes_through_the_one_that_is_there(self) -> None:
-        for kind, more in ((Kind.MET, GIVES), (Kind.HANDED, 3)):
-            points = Points().add(Kind.MAKES, 7, CHANNEL).add(Kind.MAKES, 7, CHANNEL)
-            points.add(Kind.PARKS, 8, CHANNEL, VALUE).add(kind, 7, CHANNEL, 8, more)
+        for kind, more in ((PointKind.MET, GIVES), (PointKind.HANDED, 3)):
+            points = Points().add(PointKind.MAKES, 7, CHANNEL).add(PointKind.MAKES, 7, CHANNEL)
+            points.add(PointKind.PARKS, 8, CHANNEL, VALUE).add(kind, 7, CHANNEL, 8, more)
             self.assertEqual(used(points.found()), [(SECOND, 7, "put"), (SECOND, 8, "took")])
 
     def test_a_timer_has_the_channel_that_is_there(self) -> None:
-        points = Points().add(Kind.MAKES, 7, CHANNEL).add(Kind.TIMER, 7, CHANNEL, 90_000)
-        points.add(Kind.MAKES, 8, CHANNEL).add(Kind.TIMER, 8, CHANNEL, 95_000).add(Kind.STOPPED, 8, CHANNEL)
-        found = points.add(Kind.TIMER, 9, 0, 80_000).found().timers
+        points = Points().add(PointKind.MAKES, 7, CHANNEL).add(PointKind.TIMER, 7, CHANNEL, 90_000)
+        points.add(PointKind.MAKES, 8, CHANNEL).add(PointKind.TIMER, 8, CHANNEL, 95_000).add(
+            PointKind.STOPPED, 8, CHANNEL
+        )
+        found = points.add(PointKind.TIMER, 9, 0, 80_000).found().timers
         self.assertEqual([timer.address for timer in found], [CHANNEL, SECOND, SECOND, 0])
-        self.assertIsInstance(found[0], Timer)
+        self.assertIsInstance(found[0], LoggedTimer)
 
     def test_nrdb_reads_where_they_were_made(self) -> None:
-        points = Points().at(3).add(Kind.MAKES, 7, CHANNEL, b=2, stack=4).add(Kind.SENT, 7, CHANNEL, 0, 2, stack=4)
-        points.at(12).add(Kind.MAKES, 8, CHANNEL, b=1, stack=5).add(Kind.PARKS, 9, CHANNEL, VALUE, 1, stack=4)
-        points.add(Kind.MAKES, 8, OTHER_CHANNEL, stack=5)  # a channel that isn't used
+        points = (
+            Points().at(3).add(PointKind.MAKES, 7, CHANNEL, b=2, stack=4).add(PointKind.SENT, 7, CHANNEL, 0, 2, stack=4)
+        )
+        points.at(12).add(PointKind.MAKES, 8, CHANNEL, b=1, stack=5).add(PointKind.PARKS, 9, CHANNEL, VALUE, 1, stack=4)
+        points.add(PointKind.MAKES, 8, OTHER_CHANNEL, stack=5)  # a channel that isn't used
         lines = written(points.found(), CALLS)
         (at,) = lines.parks[9][0].objects
         first = at.object % 2 + 1
         self.assertEqual(
             lines.made,
             {
-                first: where.Making(first, 7, 1, 1, 3_000),
-                at.object: where.Making(at.object, 8, 2, 2, 12_000),
+                first: where.ChannelOrigin(first, 7, 1, 1, 3_000),
+                at.object: where.ChannelOrigin(at.object, 8, 2, 2, 12_000),
             },
         )
         self.assertEqual([use.goid for use in lines.uses[first]], [7])
@@ -117,17 +128,17 @@ class Dials(unittest.TestCase):
     def dials(self) -> Points:
         """Three failed dials: the context of the first was cancelled, the system refused the second, and the third,
         which only Go's own code made, timed out."""
-        points = Points().add(Kind.MAKES, 7, CHANNEL).add(Kind.MAKES, 7, CHANNEL).at(3)
-        points.add(Kind.CHANNEL_CLOSED, 7, CHANNEL, stack=4)
-        points.add(Kind.DIAL_FAILED, 7, CHANNEL, CANCELLED, 0, stack=4).at(12)
-        points.add(Kind.DIAL_FAILED, 8, 0, errno.ECONNREFUSED, SERVER, stack=5)
-        return points.add(Kind.DIAL_FAILED, 9, 0, TIMED_OUT, 0, stack=6)
+        points = Points().add(PointKind.MAKES, 7, CHANNEL).add(PointKind.MAKES, 7, CHANNEL).at(3)
+        points.add(PointKind.CHANNEL_CLOSED, 7, CHANNEL, stack=4)
+        points.add(PointKind.DIAL_FAILED, 7, CHANNEL, CANCELLED, 0, stack=4).at(12)
+        points.add(PointKind.DIAL_FAILED, 8, 0, errno.ECONNREFUSED, SERVER, stack=5)
+        return points.add(PointKind.DIAL_FAILED, 9, 0, TIMED_OUT, 0, stack=6)
 
     def test_who_dialed_where_when_and_under_which_context(self) -> None:
         expected = [
-            FailedDial(7, 4, 1, 4_000, CANCELLED, 0, SECOND),
-            FailedDial(8, 5, 2, 12_000, errno.ECONNREFUSED, SERVER, 0),
-            FailedDial(9, 6, 2, 13_000, TIMED_OUT, 0, 0),
+            LoggedDial(7, 4, 1, 4_000, CANCELLED, 0, SECOND),
+            LoggedDial(8, 5, 2, 12_000, errno.ECONNREFUSED, SERVER, 0),
+            LoggedDial(9, 6, 2, 13_000, TIMED_OUT, 0, 0),
         ]
         self.assertEqual(self.dials().found().dials, expected)
         self.assertLessEqual({4, 5, 6}, self.dials().found().stacks())
@@ -173,13 +184,13 @@ class Dials(unittest.TestCase):
             (errno.EHOSTUNREACH, "EHOSTUNREACH"),
             (999_999, ""),
         ):
-            lines = written(Points().add(Kind.DIAL_FAILED, 7, 0, why).found(), {})
+            lines = written(Points().add(PointKind.DIAL_FAILED, 7, 0, why).found(), {})
             self.assertEqual(lines.failed_dials[7][0].why, words)
 
     def test_the_newest_are_kept_where_there_isnt_room_for_all(self) -> None:
         points = Points()
         for goid in (7, 8, 9):
-            points.add(Kind.DIAL_FAILED, goid)
+            points.add(PointKind.DIAL_FAILED, goid)
         self.assertEqual(list(written(points.found(), {}, most=2).failed_dials), [8, 9])
 
 
@@ -192,7 +203,7 @@ class Form(unittest.TestCase):
         for name, row in good.items():
             untyped = [[[*row[:at], None, *row[at + 1 :]]] for at in range(len(row))]
             for rows in ([row], row, 7, [row[:-1]], [[*row, 1]], *untyped):
-                read = Lines("\n".join(map(json.dumps, [*first, {name: rows}])), 3)
+                read = SourceLines("\n".join(map(json.dumps, [*first, {name: rows}])), 3)
                 self.assertEqual(read.fault, "" if rows == [row] else "line 4 is malformed", (name, rows))
                 self.assertTrue(not read.fault or not (read.made or read.failed_dials))
 
@@ -206,10 +217,10 @@ class Ours(unittest.TestCase):
             ("example.com/netrev.(*Pool).Get", OF_GO, False),
         ):  # fmt: skip
             with self.subTest(function):
-                self.assertIs(is_ours(Call(function, "a.go", 3, of)), is_so)
+                self.assertIs(is_ours(LineCall(function, "a.go", 3, of)), is_so)
 
     def test_a_stack_has_none_of_them(self) -> None:
-        ours, lock = Call("sync.runtime_netrevLocked", "sync/mutex.go", 9, OF_GO), Call(
+        ours, lock = LineCall("sync.runtime_netrevLocked", "sync/mutex.go", 9, OF_GO), LineCall(
             "sync.(*Mutex).Lock", "sync/mutex.go", 40, OF_GO
         )
         self.assertEqual(outside_the_runtime([ours, lock, PROGRAM]), (lock, PROGRAM))

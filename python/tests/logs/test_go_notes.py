@@ -13,9 +13,9 @@ from netrev.text.reading import read_text
 from netrev_go.log.answering import UnconvertibleError
 
 from netrev_go.log.notes import ARMED, CHECKING, CLOSING, ENTERING, EVENT_ERROR, GOROUTINE, NIL, PARKED, PARKING, READ_RUNS, READY, SHUT, SWAPPING, UNQUEUED, WAIT, WRITE_RUNS  # fmt: skip
-from netrev_go.log.points import AT_A_SOCKET, AT_A_WORD, Kind, Log, Point
+from netrev_go.log.points import AT_A_SOCKET, AT_A_WORD, PointKind, Log, Point
 from netrev_go.log.prelude import NOBODY
-from netrev_go.steps.making import NothingRecordedError, Recording, make
+from netrev_go.steps.making import NothingRecordedError, NewRecording, make
 
 WORD, DESCRIPTOR, OTHER_WORD, OTHER_DESCRIPTOR = 700, 900, 1700, 1900
 READ, WRITE = ord("r"), ord("w")
@@ -33,9 +33,9 @@ class Noted:
 
     def __init__(self) -> None:
         self.points: list[Point] = []
-        self.add(Kind.NOTES_BEGIN, 0, 0, 1)
+        self.add(PointKind.NOTES_BEGIN, 0, 0, 1)
 
-    def add(self, kind: Kind, g: int, at: int, a: int = 0, b: int = 0, c: int = 0, stack: int = 0) -> "Noted":
+    def add(self, kind: PointKind, g: int, at: int, a: int = 0, b: int = 0, c: int = 0, stack: int = 0) -> "Noted":
         self.points.append(Point(100 + len(self.points), kind, g, at, a, b, c, NOW, stack))
         return self
 
@@ -44,28 +44,28 @@ class Noted:
         inside: tuple[Inside, ...] = (), queued: tuple[tuple[int, int], ...] = (), word: int = WORD, descriptor: int = DESCRIPTOR,
         counts: int = 0,
     ) -> "Noted":  # fmt: skip
-        self.add(Kind.NOTED, 0, word, lock, descriptor, counts)
-        self.add(Kind.NOTED_POLL, 0, descriptor, TAG, *SEQUENCES)
-        self.add(Kind.NOTED_DEADLINES, 0, descriptor, *deadlines, flags | words[0] << 8 | words[1] << 10)
+        self.add(PointKind.NOTED, 0, word, lock, descriptor, counts)
+        self.add(PointKind.NOTED_POLL, 0, descriptor, TAG, *SEQUENCES)
+        self.add(PointKind.NOTED_DEADLINES, 0, descriptor, *deadlines, flags | words[0] << 8 | words[1] << 10)
         for side, g, place in inside:
-            self.add(Kind.NOTED_INSIDE, g, descriptor, side, place, stack=5)
+            self.add(PointKind.NOTED_INSIDE, g, descriptor, side, place, stack=5)
         for side, g in queued:
-            self.add(Kind.NOTED_QUEUED, g, word, side)
+            self.add(PointKind.NOTED_QUEUED, g, word, side)
         return self
 
     def end(self) -> "Noted":
-        return self.add(Kind.NOTES_END, 0, 0, 1, 1)
+        return self.add(PointKind.NOTES_END, 0, 0, 1, 1)
 
-    def made(self) -> Recording:
+    def made(self) -> NewRecording:
         return make(Log(self.points, begin=BEGIN, from_the_start=False))
 
-    def replayed(self) -> tuple[Recording, Machine]:
+    def replayed(self) -> tuple[NewRecording, Machine]:
         """The recording, and the machine after it; checks that the machine gives each recorded answer."""
         made = self.made()
         return made, replayed(made)
 
 
-def replayed(made: Recording) -> Machine:
+def replayed(made: NewRecording) -> Machine:
     text = read_text("\n".join([made.header, *map(str, made.lines)]).encode())
     machine = Machine(Limits(*text.limits))
     for number, (step, answer) in enumerate(zip(text.steps, text.answers), 1):
@@ -184,22 +184,28 @@ class Prelude(unittest.TestCase):
         self.assertEqual(machine.sockets[0].queues[0], (made.numbers[SECOND], made.numbers[WRITER]))
 
     def test_a_lock_is_that_of_who_gives_it_up(self) -> None:
-        log = Noted().note(READ_LOCKED).end().add(Kind.RW_UNLOCK, SECOND, WORD, READ_LOCKED, 0, 1)
+        log = Noted().note(READ_LOCKED).end().add(PointKind.RW_UNLOCK, SECOND, WORD, READ_LOCKED, 0, 1)
         made, machine = log.replayed()
         self.assertIn(["rwlock", made.numbers[SECOND], 0, "r", "yes"], [json.loads(str(line)) for line in made.lines])
         self.assertEqual((machine.sockets[0].lock.number, made.prelude), (0, len(made.lines) - 1))
 
     def test_a_reference_is_that_of_who_gives_it_up(self) -> None:
-        log = Noted().note(16).end().add(Kind.DECREF, READER, WORD, 16, 8, 0).add(Kind.DECREF, SECOND, WORD, 8, 0, 0)
+        log = (
+            Noted()
+            .note(16)
+            .end()
+            .add(PointKind.DECREF, READER, WORD, 16, 8, 0)
+            .add(PointKind.DECREF, SECOND, WORD, 8, 0, 0)
+        )
         made, machine = log.replayed()
         self.assertEqual((set(made.numbers), machine.sockets[0].lock.number), ({READER, SECOND}, 0))
 
     def test_one_that_is_closed_while_a_read_is_under_way(self) -> None:
         log = Noted().note(19, CLOSING, inside=((READ, READER, SWAPPING),))
         log.note(word=OTHER_WORD, descriptor=OTHER_DESCRIPTOR).end()
-        log.add(Kind.SWAP, READER, DESCRIPTOR, READ, 0).add(Kind.WAIT_CHECK, READER, DESCRIPTOR, READ, 1)
-        log.add(Kind.DECREF, SECOND, WORD, 19, 11, 0).add(Kind.RW_UNLOCK, READER, WORD, 11, 1, 3)
-        made, machine = log.add(Kind.CLOSE, READER, DESCRIPTOR).replayed()
+        log.add(PointKind.SWAP, READER, DESCRIPTOR, READ, 0).add(PointKind.WAIT_CHECK, READER, DESCRIPTOR, READ, 1)
+        log.add(PointKind.DECREF, SECOND, WORD, 19, 11, 0).add(PointKind.RW_UNLOCK, READER, WORD, 11, 1, 3)
+        made, machine = log.add(PointKind.CLOSE, READER, DESCRIPTOR).replayed()
         self.assertEqual((machine.sockets[0].lock.number, machine.free), (1, (0,)))
         self.assertEqual(made.sockets, 2)
 
@@ -210,8 +216,8 @@ class Prelude(unittest.TestCase):
         self.assertEqual(machine.sockets[0].buffers[1], b"")
 
     def test_an_output_that_is_found_full_later_was_full(self) -> None:
-        log = Noted().note(WRITE_LOCKED).end().add(Kind.WRITE, WRITER, WORD, 3, 2, 0)
-        log.add(Kind.WRITE, WRITER, WORD, 3, 0, 1).add(Kind.RW_UNLOCK, WRITER, WORD, WRITE_LOCKED, 0, 0)
+        log = Noted().note(WRITE_LOCKED).end().add(PointKind.WRITE, WRITER, WORD, 3, 2, 0)
+        log.add(PointKind.WRITE, WRITER, WORD, 3, 0, 1).add(PointKind.RW_UNLOCK, WRITER, WORD, WRITE_LOCKED, 0, 0)
         made, machine = log.replayed()
         answers = [json.loads(str(line))[-1] for line in made.lines if "syswrite" in str(line)]
         self.assertEqual(answers, [["put", 4_096], ["put", 2], "again"])
@@ -219,9 +225,9 @@ class Prelude(unittest.TestCase):
 
     def test_gos_sequences_and_tags_are_counted_from_there(self) -> None:
         log = Noted().note(flags=READ_RUNS, deadlines=(NOW, 0)).end()
-        log.add(Kind.FIRE, 0, DESCRIPTOR, SEQUENCES[0] - 1, 1 | 4)  # of a timer that was stopped before
-        log.add(Kind.FIRE, 0, DESCRIPTOR, SEQUENCES[0], 1).add(Kind.EVENT, 0, DESCRIPTOR, READ, 0, TAG)
-        log.add(Kind.EVENT, 0, DESCRIPTOR, READ, 2, TAG - 1)
+        log.add(PointKind.FIRE, 0, DESCRIPTOR, SEQUENCES[0] - 1, 1 | 4)  # of a timer that was stopped before
+        log.add(PointKind.FIRE, 0, DESCRIPTOR, SEQUENCES[0], 1).add(PointKind.EVENT, 0, DESCRIPTOR, READ, 0, TAG)
+        log.add(PointKind.EVENT, 0, DESCRIPTOR, READ, 2, TAG - 1)
         made, machine = log.replayed()
         self.assertEqual([str(line) for line in made.lines if "fire" in str(line)], ['["fire",0,"done"]'])
         self.assertEqual((machine.descs[0].deadlines[0], machine.descs[0].words[0]), (-1, "ready"))
@@ -229,7 +235,13 @@ class Prelude(unittest.TestCase):
         self.assertEqual(events, [["pollevent", 0, 1, "r", 0, "done"]])
 
     def test_a_socket_of_the_window_is_not_noted_again(self) -> None:
-        log = Noted().note().end().add(Kind.INIT, 1, OTHER_WORD).add(Kind.OPEN, 1, OTHER_DESCRIPTOR, 5 | 9 << 32, 1, 1)
+        log = (
+            Noted()
+            .note()
+            .end()
+            .add(PointKind.INIT, 1, OTHER_WORD)
+            .add(PointKind.OPEN, 1, OTHER_DESCRIPTOR, 5 | 9 << 32, 1, 1)
+        )
         log.note(word=OTHER_WORD, descriptor=OTHER_DESCRIPTOR, lock=8).note(lock=8).end()
         made, machine = log.replayed()
         self.assertEqual((made.sockets, [socket.lock.number for socket in machine.sockets]), (2, [0, 0]))
@@ -241,7 +253,13 @@ class Prelude(unittest.TestCase):
             self.assertEqual([socket.shut for socket in replayed(made).sockets], [is_shut])
 
     def test_points_before_its_note_are_not_its(self) -> None:
-        log = Noted().add(Kind.INCREF, READER, WORD, 0, 8, 2).add(Kind.DECREF, READER, WORD, 8, 0, 0).note().end()
+        log = (
+            Noted()
+            .add(PointKind.INCREF, READER, WORD, 0, 8, 2)
+            .add(PointKind.DECREF, READER, WORD, 8, 0, 0)
+            .note()
+            .end()
+        )
         made, _ = log.replayed()
         self.assertEqual(sum("incref" in str(line) for line in made.lines), 0)
 
@@ -257,10 +275,10 @@ class LeftOut(unittest.TestCase):
             (Noted().note(READ_LOCKED), holding),
             (Noted().note(8), referring),
             (Noted().note(1, CLOSING), "it was being closed"),
-            (Noted().note(READ_LOCKED).add(Kind.RELEASE, READER, WORD), handing),
-            (Noted().note().add(Kind.ACQUIRE, READER, WORD, 1, 1), handing),
+            (Noted().note(READ_LOCKED).add(PointKind.RELEASE, READER, WORD), handing),
+            (Noted().note().add(PointKind.ACQUIRE, READER, WORD, 1, 1), handing),
             (Noted().note(READ_LOCKED + A_READER_WAITS, UNQUEUED), handing),
-            (Noted().note(READ_LOCKED + A_READER_WAITS).add(Kind.RW_UNLOCK, 1, WORD, READ_LOCKED + A_READER_WAITS, 0, 1), "the model comes to another lock"),
+            (Noted().note(READ_LOCKED + A_READER_WAITS).add(PointKind.RW_UNLOCK, 1, WORD, READ_LOCKED + A_READER_WAITS, 0, 1), "the model comes to another lock"),
             (
                 Noted().note(WRITE_LOCKED, EVENT_ERROR, (NIL, GOROUTINE), inside=((WRITE, WRITER, PARKED),)),
                 "a goroutine waits to write there after an error",
@@ -270,7 +288,7 @@ class LeftOut(unittest.TestCase):
             (Noted().note(words=(WAIT, NIL)), "the model comes to another word"),
             (Noted().note(deadlines=(NOW + 500, 0)), "the model comes to another timer"),
             (Noted().note(deadlines=(BEGIN - 1, 0), flags=READ_RUNS), "its timer was due"),
-            (Noted().add(Kind.NOTED, 0, WORD, 0, DESCRIPTOR), "its note is cut short or damaged"),
+            (Noted().add(PointKind.NOTED, 0, WORD, 0, DESCRIPTOR), "its note is cut short or damaged"),
             (Noted().note(inside=((READ, READER, 9),)), "its note is cut short or damaged"),
         ):  # fmt: skip
             with self.subTest(why):
@@ -301,7 +319,7 @@ class Damaged(unittest.TestCase):
             "queued": [((READ, 31),), ((WRITE, 31), (WRITE, 31))],
             "counts": [1, -1],
         }
-        others = [kind for kind in map(Kind, sorted(AT_A_SOCKET)) if kind not in (Kind.INIT, Kind.OPEN)]
+        others = [kind for kind in map(PointKind, sorted(AT_A_SOCKET)) if kind not in (PointKind.INIT, PointKind.OPEN)]
         for _ in range(400):
             log = Noted()
             for word, descriptor, goroutines in sockets:
@@ -335,9 +353,9 @@ class Numbers(unittest.TestCase):
         """5,000 goroutines, each of which sets a deadline."""
         log = Noted().note().end()
         for g in range(1, 5_001):
-            log.add(Kind.INCREF, g, WORD, 0, 8, 2).add(Kind.DECREF, g, WORD, 8, 0, 0)
+            log.add(PointKind.INCREF, g, WORD, 0, 8, 2).add(PointKind.DECREF, g, WORD, 8, 0, 0)
             if ends:
-                log.add(Kind.ENDS, g, 0)
+                log.add(PointKind.ENDS, g, 0)
         return log
 
     def test_one_that_has_ended_hands_its_number_on(self) -> None:
@@ -353,7 +371,9 @@ class Numbers(unittest.TestCase):
     def test_where_all_fit_each_has_its_own(self) -> None:
         log = Noted().note().end()
         for g in (1, 2):
-            log.add(Kind.INCREF, g, WORD, 0, 8, 2).add(Kind.DECREF, g, WORD, 8, 0, 0).add(Kind.ENDS, g, 0)
+            log.add(PointKind.INCREF, g, WORD, 0, 8, 2).add(PointKind.DECREF, g, WORD, 8, 0, 0).add(
+                PointKind.ENDS, g, 0
+            )
         made, _ = log.replayed()
         self.assertEqual((made.numbers, made.taken), ({1: 1, 2: 2}, []))
 

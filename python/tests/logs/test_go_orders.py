@@ -8,9 +8,9 @@ import unittest
 from typing import Optional
 
 from dev.fuzz.generators.logs import binary
-from netrev.recording.where import Lines
-from netrev_go.log.orders import Queue
-from netrev_go.log.points import Kind, Log
+from netrev.recording.where import SourceLines
+from netrev_go.log.orders import ValueQueue
+from netrev_go.log.points import PointKind, Log
 from netrev_go.steps.making import make
 from netrev_go.steps.where import write_where
 
@@ -29,14 +29,14 @@ class Ordered(Points):
         self.opened()
 
     def step(self, g: int) -> "Ordered":
-        self.add(Kind.INCREF, g, WORD, 0, 8, 2)
+        self.add(PointKind.INCREF, g, WORD, 0, 8, 2)
         return self
 
     def ready(self, g: int, whom: int, how: int = 0) -> "Ordered":
-        self.add(Kind.READY, g, 0, whom, how)
+        self.add(PointKind.READY, g, 0, whom, how)
         return self
 
-    def at(self, kind: Kind, g: int, a: int = 0, b: int = 0, channel: int = CHANNEL) -> "Ordered":
+    def at(self, kind: PointKind, g: int, a: int = 0, b: int = 0, channel: int = CHANNEL) -> "Ordered":
         self.add(kind, g, channel, a, b)
         return self
 
@@ -63,7 +63,7 @@ class Orders(unittest.TestCase):
         self.assertEqual(log.orders(), [["1.1", "2.2"]])
 
     def test_who_is_handed_a_value_comes_behind_who_gives_it(self) -> None:
-        log = Ordered().step(1).step(2).at(Kind.HANDED, 1, 2, 3).step(1).step(2)
+        log = Ordered().step(1).step(2).at(PointKind.HANDED, 1, 2, 3).step(1).step(2)
         self.assertEqual(log.orders(), [["1.1", "2.2"]])
 
     def test_an_order_goes_through_goroutines_without_steps(self) -> None:
@@ -75,32 +75,48 @@ class Orders(unittest.TestCase):
         self.assertEqual(log.orders(), [["1.1", "2.1"], ["1.2", "2.3"]])
 
     def test_both_come_behind_a_meeting(self) -> None:
-        log = Ordered().step(1).step(2).at(Kind.MET, 1, 2).step(1).step(2)
+        log = Ordered().step(1).step(2).at(PointKind.MET, 1, 2).step(1).step(2)
         self.assertEqual(log.orders(), [["2.1", "1.2"], ["1.1", "2.2"]])
 
     def test_a_value_of_a_buffer_comes_behind_its_own_sender(self) -> None:
         log = Ordered().step(1).step(2).step(3)
-        log.at(Kind.SENT, 1, 0, 2).at(Kind.SENT, 2, 1, 2).at(Kind.RECEIVED, 3, 2, 2).step(3)
+        log.at(PointKind.SENT, 1, 0, 2).at(PointKind.SENT, 2, 1, 2).at(PointKind.RECEIVED, 3, 2, 2).step(3)
         self.assertEqual(log.orders(), [["1.1", "3.2"]])
-        self.assertEqual(log.at(Kind.RECEIVED, 3, 1, 2).step(3).orders(), [["1.1", "3.2"], ["2.1", "3.3"]])
+        self.assertEqual(log.at(PointKind.RECEIVED, 3, 1, 2).step(3).orders(), [["1.1", "3.2"], ["2.1", "3.3"]])
 
     def test_a_place_of_a_buffer_comes_behind_who_made_room(self) -> None:
-        log = Ordered().at(Kind.SENT, 1, 0, 1).step(2).at(Kind.RECEIVED, 2, 1, 1).at(Kind.SENT, 3, 0, 1).step(3)
+        log = (
+            Ordered()
+            .at(PointKind.SENT, 1, 0, 1)
+            .step(2)
+            .at(PointKind.RECEIVED, 2, 1, 1)
+            .at(PointKind.SENT, 3, 0, 1)
+            .step(3)
+        )
         self.assertEqual(log.orders(), [["open", "3.1"], ["2.1", "3.1"]])
 
     def test_who_finds_a_channel_closed_comes_behind_its_close(self) -> None:
-        log = Ordered().step(1).at(Kind.CHANNEL_CLOSED, 1).step(2).at(Kind.FOUND_CLOSED, 2).step(2)
+        log = Ordered().step(1).at(PointKind.CHANNEL_CLOSED, 1).step(2).at(PointKind.FOUND_CLOSED, 2).step(2)
         self.assertEqual(log.orders(), [["1.1", "2.2"]])
 
     def test_another_channel_at_the_same_place_is_another_one(self) -> None:
-        log = Ordered().step(1).at(Kind.SENT, 1, 0, 2).at(Kind.SENT, 2, 0, 2).at(Kind.RECEIVED, 3, 1, 2).step(3)
+        log = (
+            Ordered()
+            .step(1)
+            .at(PointKind.SENT, 1, 0, 2)
+            .at(PointKind.SENT, 2, 0, 2)
+            .at(PointKind.RECEIVED, 3, 1, 2)
+            .step(3)
+        )
         self.assertEqual(log.orders(), [])
 
     def test_a_queue_gets_the_length_that_is_known(self) -> None:
-        orders = make(Log(Ordered().at(Kind.RECEIVED, 1, 2, 2).at(Kind.SENT, 1, 9, 1).points, has_orders=True)).orders
+        orders = make(
+            Log(Ordered().at(PointKind.RECEIVED, 1, 2, 2).at(PointKind.SENT, 1, 9, 1).points, has_orders=True)
+        ).orders
         self.assertEqual(orders, [])
         for count, taken in ((0, [{}, {}]), (1, [{}, {1: 0}]), (2, [{1: 0}, {1: 1}]), (5, [{1: 3}, {1: 4}])):
-            queue = Queue()
+            queue = ValueQueue()
             for number in range(count):
                 queue.put({1: number})
             queue.fit(2)
@@ -109,7 +125,7 @@ class Orders(unittest.TestCase):
     def test_a_channel_has_any_number_of_places(self) -> None:
         log = Ordered().step(1)
         for most in (2**30, 2**62):
-            log.at(Kind.SENT, 1, 0, most).at(Kind.RECEIVED, 2, 1, most).step(2)
+            log.at(PointKind.SENT, 1, 0, most).at(PointKind.RECEIVED, 2, 1, most).step(2)
         self.assertEqual(log.orders(), [["1.1", "2.1"]])
 
 
@@ -127,5 +143,5 @@ class Written(unittest.TestCase):
             written: tuple[Optional[list[tuple[int, int]]], ...] = None, [], [(n, n + 1) for n in range(1, 2_500)]
             for orders in written:
                 write_where(path, [0] * 3_000, {}, orders)
-                self.assertEqual(Lines.beside(str(path), 3_000).orders, orders)
-                self.assertIsNone(Lines.beside(str(path), 2_999).orders)
+                self.assertEqual(SourceLines.beside(str(path), 3_000).orders, orders)
+                self.assertIsNone(SourceLines.beside(str(path), 2_999).orders)

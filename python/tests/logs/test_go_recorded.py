@@ -20,7 +20,7 @@ from dev.recorder.fetching import is_here
 from netrev_go.go_command.running import logs_in
 from netrev_go.go_command.toolchain import Go, overlay, quiet_go
 from netrev_go.log.logfile import Header, points_of, read_log
-from netrev_go.log.points import Kind, Log, Point
+from netrev_go.log.points import PointKind, Log, Point
 from netrev_go.steps.compare import by_the_model
 from netrev_go.steps.making import make, write, write_words
 from netrev_go.trying import tried_in
@@ -34,8 +34,14 @@ LOW = 2**32 - 1
 GREAT = 2**40  # greater numbers are addresses, times and hashes
 MANY_TIMES = 100  # greater counts differ: the log also has events, whose number differs from run to run
 SELECT = 3  # in the lowest byte of what a goroutine waits for
-OTHER_GOROUTINE = (Kind.READY, Kind.MET, Kind.HANDED)
-TIMES = {Kind.SET_DEADLINE: "b", Kind.DEADLINE_CALL: "b", Kind.NOTED_DEADLINES: "ab", Kind.TIMER: "a", Kind.PARKS: "b"}
+OTHER_GOROUTINE = (PointKind.READY, PointKind.MET, PointKind.HANDED)
+TIMES = {
+    PointKind.SET_DEADLINE: "b",
+    PointKind.DEADLINE_CALL: "b",
+    PointKind.NOTED_DEADLINES: "ab",
+    PointKind.TIMER: "a",
+    PointKind.PARKS: "b",
+}
 needs_go = pytest.mark.skipif(
     not is_here(RELEASE), reason=f"Go {RELEASE} isn't here (python3 python dev.recorder.fetching {RELEASE})"
 )
@@ -62,46 +68,46 @@ def cell(point: Point, field: str, value: int, begin: int, names: Names) -> str:
     kind = point.kind
     if kind in OTHER_GOROUTINE and field == "a":
         return names.of("g", value)
-    if kind in (Kind.INIT, Kind.OPEN) and field == "a":
+    if kind in (PointKind.INIT, PointKind.OPEN) and field == "a":
         return f"{names.of('fd', value & LOW)}/{value >> 32}"
-    if kind == Kind.PARKS and field == "b" and point.a & 255 == SELECT:
+    if kind == PointKind.PARKS and field == "b" and point.a & 255 == SELECT:
         return names.of("@", value)
-    if field in TIMES.get(Kind(kind), "") and abs(value) > SECOND:
-        since = value if kind in (Kind.SET_DEADLINE, Kind.DEADLINE_CALL) else value - begin
+    if field in TIMES.get(PointKind(kind), "") and abs(value) > SECOND:
+        since = value if kind in (PointKind.SET_DEADLINE, PointKind.DEADLINE_CALL) else value - begin
         return f"{round(since / SECOND / BETWEEN) * BETWEEN}s" if since > 0 else "past"
-    if kind in (Kind.NAMED, Kind.NOTED_NAMED) and field != "c" and point.c in (1, 2):
+    if kind in (PointKind.NAMED, PointKind.NOTED_NAMED) and field != "c" and point.c in (1, 2):
         return address_of(value, names) if value else "0"
-    if kind in (Kind.NAMED, Kind.NOTED_NAMED) and field != "c" and point.c == 0:
+    if kind in (PointKind.NAMED, PointKind.NOTED_NAMED) and field != "c" and point.c == 0:
         return names.of("end", value)
-    if kind in (Kind.SET_DEADLINE, Kind.DEADLINE_CALL) and field == "b" and value > 1:
+    if kind in (PointKind.SET_DEADLINE, PointKind.DEADLINE_CALL) and field == "b" and value > 1:
         return "soon"
-    if kind == Kind.DIAL_FAILED and field == "b" and value:
+    if kind == PointKind.DIAL_FAILED and field == "b" and value:
         return f"{value:x}"
-    if kind == Kind.NOTED_POLL and value > MANY_TIMES:
+    if kind == PointKind.NOTED_POLL and value > MANY_TIMES:
         return "many"
-    return names.of("@", value) if abs(value) > GREAT and not (kind == Kind.NAMED and point.c == 3) else str(value)
+    return names.of("@", value) if abs(value) > GREAT and not (kind == PointKind.NAMED and point.c == 3) else str(value)
 
 
 def lines_of(points: list[Point], log: Log, names: Names) -> Iterator[str]:
     """A line for each point of one of the program's goroutines, each note, and each timer that fires."""
     for point in points:
-        is_noted = Kind.NOTED <= point.kind <= Kind.NOTED_NAMED
-        if point.goroutine or is_noted or point.kind == Kind.FIRE:
+        is_noted = PointKind.NOTED <= point.kind <= PointKind.NOTED_NAMED
+        if point.goroutine or is_noted or point.kind == PointKind.FIRE:
             values = [cell(point, field, getattr(point, field), log.begin, names) for field in "abc"]
             calls = f" stack of {len(log.stacks[point.stack].calls)}" if point.stack else ""
-            yield f"{names.of('g', point.goroutine)} {Kind(point.kind).name} {names.of('@', point.at)} {' '.join(values)}{' timed' * bool(point.time)}{calls}"
+            yield f"{names.of('g', point.goroutine)} {PointKind(point.kind).name} {names.of('@', point.at)} {' '.join(values)}{' timed' * bool(point.time)}{calls}"
 
 
 def text_of(log: Log, points: list[Point]) -> str:
     """The log from the first socket on, as text; repeated lines are counted."""
     names = Names()
-    first = next(place for place, point in enumerate(points) if point.kind == Kind.INIT)
+    first = next(place for place, point in enumerate(points) if point.kind == PointKind.INIT)
     lines = []
     for line, same in groupby(lines_of(points[first:], log, names)):
         count = len(list(same))
         lines.append(f"{line} times {count if count <= MANY_TIMES else 'many'}" if count > 1 else line)
     lines += sorted(
-        {f"event {point.a} {point.b}{' tagged' * bool(point.c)}" for point in points if point.kind == Kind.EVENT}
+        {f"event {point.a} {point.b}{' tagged' * bool(point.c)}" for point in points if point.kind == PointKind.EVENT}
     )
     held = (
         (names.of("g", one.goroutine), one.is_reader, len(log.stacks[one.stack].calls)) for one in log.holders or ()

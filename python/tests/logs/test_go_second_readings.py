@@ -6,10 +6,10 @@ from typing import Optional
 
 import pytest
 
-from netrev_go.log.goroutines import BY_GO, CONDITION, MUTEX, NEVER, ROOM, SLEEP, UNENDED, VALUE, At, Born, Goroutines, Park, Timer, goroutines_of  # fmt: skip
+from netrev_go.log.goroutines import BY_GO, CONDITION, MUTEX, NEVER, ROOM, SLEEP, UNENDED, VALUE, At, Born, Goroutines, LoggedPark, LoggedTimer, goroutines_of  # fmt: skip
 from netrev_go.log.orders import orders_of
-from netrev_go.log.points import Kind, Point
-from netrev_go.log.waits import WAITED_FOR, Wait, waits_of
+from netrev_go.log.points import PointKind, Point
+from netrev_go.log.waits import WAITED_FOR, LoggedWait, waits_of
 
 Edges = dict[int, set[int]]  # for each point, those that directly precede it
 Pairs = list[tuple[int, int]]
@@ -45,21 +45,21 @@ class Synchronized:
         sent, received, room = self.sent[channel], self.received[channel], self.rooms[channel]
         held = len(sent) - len(received)
         if what == "step":
-            self.steps[self.point(Kind.INCREF, g)] = g
+            self.steps[self.point(PointKind.INCREF, g)] = g
         elif what == "ready" and g != other:
-            self.last[other] = self.last.get(other, set()) | {self.point(Kind.READY, g, a=other)}
+            self.last[other] = self.last.get(other, set()) | {self.point(PointKind.READY, g, a=other)}
         elif what == "send" and held < room and channel not in self.closed:
             place = received[len(sent) - room : len(sent) - room + 1] if len(sent) >= room else []
-            sent.append(self.point(Kind.SENT, g, channel, held, room, (*place,)))
+            sent.append(self.point(PointKind.SENT, g, channel, held, room, (*place,)))
         elif what == "receive" and held:
-            received.append(self.point(Kind.RECEIVED, g, channel, held, room, (sent[len(received)],)))
+            received.append(self.point(PointKind.RECEIVED, g, channel, held, room, (sent[len(received)],)))
         elif what == "meet" and g != other:
-            number = self.point(Kind.MET, g, 800, other, behind=(*self.last.get(other, ()),))
+            number = self.point(PointKind.MET, g, 800, other, behind=(*self.last.get(other, ()),))
             self.last[other] = {number}
         elif what == "close" and channel not in self.closed:
-            self.closed[channel] = self.point(Kind.CHANNEL_CLOSED, g, channel, held, room)
+            self.closed[channel] = self.point(PointKind.CHANNEL_CLOSED, g, channel, held, room)
         elif what == "find" and channel in self.closed:
-            self.point(Kind.FOUND_CLOSED, g, channel, held, room, (self.closed[channel],))
+            self.point(PointKind.FOUND_CLOSED, g, channel, held, room, (self.closed[channel],))
 
     def before(self) -> dict[int, set[int]]:
         """For each step, all steps that come before it along the edges."""
@@ -115,7 +115,19 @@ def random_waits(seed: int) -> tuple[list[Point], list[Made]]:
     dice, points, steps = random.Random(seed), list[Point](), list[Made]()
     for number in range(100):
         kind = dice.choice(
-            (0, 0, 0, Kind.PARKS, Kind.PARKS, Kind.GOES_ON, Kind.READY, Kind.READY, Kind.TIMER, Kind.STOPPED, Kind.ENDS)
+            (
+                0,
+                0,
+                0,
+                PointKind.PARKS,
+                PointKind.PARKS,
+                PointKind.GOES_ON,
+                PointKind.READY,
+                PointKind.READY,
+                PointKind.TIMER,
+                PointKind.STOPPED,
+                PointKind.ENDS,
+            )
         )
         g, at, a, b, clock = (
             dice.randint(1, 4),
@@ -127,7 +139,7 @@ def random_waits(seed: int) -> tuple[list[Point], list[Made]]:
         if kind == 0:
             steps.append((number, g, len(steps) + 1))
             continue
-        if kind == Kind.PARKS:
+        if kind == PointKind.PARKS:
             at, a, b = dice.choice(
                 (
                     (700, VALUE, 2),
@@ -138,7 +150,7 @@ def random_waits(seed: int) -> tuple[list[Point], list[Made]]:
                     (0, CONDITION, 0),
                 )
             )
-        elif kind == Kind.TIMER:
+        elif kind == PointKind.TIMER:
             a = clock + a
         points.append(Point(number, kind, g, at, a, b, 0, clock, dice.randint(0, 3)))
     return points, steps
@@ -151,45 +163,47 @@ def steps_before(number: int, steps: list[Made]) -> int:
 def end_of(park: Point, points: list[Point]) -> Optional[Point]:
     """The point at which a goroutine continues; None if it parks again before that, or never continues."""
     own = (one for one in points if one.number > park.number and one.goroutine == park.goroutine)
-    following = next((one for one in own if one.kind in (Kind.PARKS, Kind.GOES_ON)), None)
-    return following if following and following.kind == Kind.GOES_ON else None
+    following = next((one for one in own if one.kind in (PointKind.PARKS, PointKind.GOES_ON)), None)
+    return following if following and following.kind == PointKind.GOES_ON else None
 
 
-def naive_park(one: Point, points: list[Point], steps: list[Made]) -> Park:
+def naive_park(one: Point, points: list[Point], steps: list[Made]) -> LoggedPark:
     end = end_of(one, points)
     woken = [
         other.goroutine for other in points
-        if end and one.number < other.number < end.number and other.kind == Kind.READY
+        if end and one.number < other.number < end.number and other.kind == PointKind.READY
         and (other.a, other.b) == (one.goroutine, 0)
     ]  # fmt: skip
     objects = (At(one.at, one.a if one.a in (VALUE, ROOM) else 0),) if one.at else ()
     due = one.b - BEGIN if one.a == SLEEP and one.b > one.time else 0
     last, ends = (steps_before(end.number, steps), end.time - BEGIN) if end else (UNENDED, UNENDED)
     first, by = steps_before(one.number, steps), woken[-1] if woken else 0
-    return Park(one.goroutine, first, last, one.time - BEGIN, ends, one.a, one.stack, by, objects, due)
+    return LoggedPark(one.goroutine, first, last, one.time - BEGIN, ends, one.a, one.stack, by, objects, due)
 
 
 @pytest.mark.parametrize("seed", range(40))
 def test_a_wait_ends_where_its_goroutine_goes_on_and_by_who_made_it_ready(seed: int) -> None:
     points, steps = random_waits(seed)
     found = goroutines_of(points, steps, BEGIN)
-    parks = [one for one in points if one.kind == Kind.PARKS]
+    parks = [one for one in points if one.kind == PointKind.PARKS]
     assert found.parks == [naive_park(one, points, steps) for one in parks]
     ended = sorted((end.number, place) for place, one in enumerate(parks) if (end := end_of(one, points)))
     assert found.finished == [place for _, place in ended]
     assert found.ended == {
-        one.goroutine: (steps_before(one.number, steps), one.time - BEGIN) for one in points if one.kind == Kind.ENDS
+        one.goroutine: (steps_before(one.number, steps), one.time - BEGIN)
+        for one in points
+        if one.kind == PointKind.ENDS
     }
     assert found.born == {
         one.a: Born(one.goroutine, steps_before(one.number, steps), one.time - BEGIN)
-        for one in points if one.kind == Kind.READY and one.b == BY_GO
+        for one in points if one.kind == PointKind.READY and one.b == BY_GO
     }  # fmt: skip
     assert found.timers == [
-        Timer(
+        LoggedTimer(
             one.at, one.goroutine, one.stack, steps_before(one.number, steps), one.time - BEGIN,
-            one.a - BEGIN if one.kind == Kind.TIMER else NEVER,
+            one.a - BEGIN if one.kind == PointKind.TIMER else NEVER,
         )
-        for one in points if one.kind in (Kind.TIMER, Kind.STOPPED)
+        for one in points if one.kind in (PointKind.TIMER, PointKind.STOPPED)
     ]  # fmt: skip
 
 
@@ -199,9 +213,9 @@ def test_waits_of_a_recording_are_those_with_a_step_in_them(seed: int) -> None:
     points, steps = random_waits(seed)
     found, numbers, since = goroutines_of(points, steps, BEGIN), {1: 0, 2: 1, 3: 2}, {3: 5}
     ended = sorted(
-        (end.number, one.number) for one in points if one.kind == Kind.PARKS and (end := end_of(one, points))
+        (end.number, one.number) for one in points if one.kind == PointKind.PARKS and (end := end_of(one, points))
     )
-    by_number = dict(zip((one.number for one in points if one.kind == Kind.PARKS), found.parks))
+    by_number = dict(zip((one.number for one in points if one.kind == PointKind.PARKS), found.parks))
     never = [number for number, park in by_number.items() if park.last == UNENDED]
     expected = []
     for park in [by_number[number] for number in (*(number for _, number in ended), *never)]:
@@ -210,7 +224,7 @@ def test_waits_of_a_recording_are_those_with_a_step_in_them(seed: int) -> None:
             continue
         by = numbers[park.by] if park.by in numbers and park.last >= since.get(park.by, 0) else -1
         reason = WAITED_FOR[park.what] if park.what in (VALUE, ROOM, CONDITION) else ""
-        expected.append(Wait(park.first, max(park.last, 0), numbers[park.goroutine], reason, park.stack, by))
+        expected.append(LoggedWait(park.first, max(park.last, 0), numbers[park.goroutine], reason, park.stack, by))
     assert waits_of(found, numbers, since) == expected
 
 

@@ -19,11 +19,11 @@ from unittest import mock
 import pytest
 from dev.fuzz.generators.random_logs import log_of, program_of
 from netrev_go.go_command.toolchain import Go
-from netrev_go.log.lines import Roots, lines_of
-from netrev_go.log.points import Holder, Kind, Log, Point, Stack
+from netrev_go.log.lines import SourceRoots, lines_of
+from netrev_go.log.points import LoggedHolder, PointKind, Log, Point, PointStack
 from netrev_go.log.ran import Ran, Tests
 from netrev_go.steps import converting, report
-from netrev_go.steps.converting import ReadLog, Wish, converted
+from netrev_go.steps.converting import ReadLog, RecordingOptions, converted
 from netrev_go.steps.making import NothingRecordedError, make
 
 HERE = Path(__file__).parent
@@ -42,11 +42,13 @@ def stored_log() -> tuple[Log, Symbols]:
         if isinstance(line, list):
             log.points.append(Point(*line))
         elif "stack" in line:
-            log.stacks[line["stack"]] = Stack(line["made"], line["started"], tuple(line["calls"]))
+            log.stacks[line["stack"]] = PointStack(line["made"], line["started"], tuple(line["calls"]))
         elif "address" in line:
             symbols[line["address"]] = (line["function"], line["file"], line["line"])
         elif "mutex" in line:
-            log.holders.append(Holder(line["mutex"], line["goroutine"], line["reads"], line["passed"], line["of"]))
+            log.holders.append(
+                LoggedHolder(line["mutex"], line["goroutine"], line["reads"], line["passed"], line["of"])
+            )
         else:
             log.begin, log.text = line["begin"], line["text"]
     return log, symbols
@@ -57,7 +59,7 @@ class Drawn:
     """A part of the log, and the options for its conversion."""
 
     log: Log
-    wish: Wish
+    wish: RecordingOptions
     test: Ran | None
     tests: Tests
     has_lines: bool
@@ -67,7 +69,7 @@ def drawn(log: Log, number: int) -> Drawn:
     """A part of the log: number 0 is all of it."""
     dice, points = random.Random(number), log.points
     if not number:
-        return Drawn(log, Wish(words=True), None, Tests(), True)
+        return Drawn(log, RecordingOptions(words=True), None, Tests(), True)
     if number % 2:
         first = dice.choice((0, 0, dice.randrange(len(points)), dice.randrange(len(points) // 3)))
         points = points[first : dice.choice((len(points), dice.randrange(first + 1, len(points) + 1)))]
@@ -83,11 +85,11 @@ def drawn(log: Log, number: int) -> Drawn:
         log,
         points=points,
         from_the_start=bool(points) and points[0].number == 0,
-        has_orders=number % 9 > 0 and Kind.PARKS in kinds,
+        has_orders=number % 9 > 0 and PointKind.PARKS in kinds,
     )
     part.holders = None if number % 4 == 3 else [one for one in log.holders or () if dice.random() < 0.8]
     sockets, megabytes = dice.choice((1, 2, 3, 5, 9, 256)), dice.choice((1, 1_024))
-    wish = Wish(
+    wish = RecordingOptions(
         sockets,
         megabytes,
         dice.random() < 0.2,
@@ -116,7 +118,7 @@ def looked_up(symbols: Symbols) -> Iterator[None]:
         with mock.patch("netrev_go.log.lines.shift", return_value=0), mock.patch(
             "netrev_go.log.lines.looked_up", return_value=symbols
         ):
-            return lines_of(log, used, Path("none"), ["go"], Roots(SOURCES, Path("/samples")))
+            return lines_of(log, used, Path("none"), ["go"], SourceRoots(SOURCES, Path("/samples")))
 
     with mock.patch.object(converting, "lines_of", found), mock.patch.object(
         converting, "line_reader", lambda _: ["go"]

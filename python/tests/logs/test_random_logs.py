@@ -3,9 +3,9 @@ and each goroutine's steps. `make fuzz-around` tries other programs, also with n
 
 import pytest
 
-from dev.fuzz.generators.random_logs import Program, program_of, replayed, wrong
+from dev.fuzz.generators.random_logs import RandomProgram, program_of, replayed, wrong
 from netrev_go.log.answering import UnconvertibleError
-from netrev_go.log.points import Kind, Log
+from netrev_go.log.points import PointKind, Log
 from netrev_go.steps.making import make
 
 from .test_go_converting import DESCRIPTOR, WORD, Points
@@ -29,19 +29,21 @@ def test_random_programs_do_all_that_is_recorded() -> None:
     programs = [program_of(str(seed)) for seed in range(60)]
     kinds = {point.kind for program in programs for point in program.runtime.points}
     assert kinds >= {
-        kind for kind in Kind if Kind.INIT <= kind <= Kind.CLOSE_WRITE or Kind.NOTED <= kind < Kind.NOTED_NAMED
+        kind
+        for kind in PointKind
+        if PointKind.INIT <= kind <= PointKind.CLOSE_WRITE or PointKind.NOTED <= kind < PointKind.NOTED_NAMED
     }
     assert sum(map(uses_again, programs)) > 5 and sum(map(fires_late, programs)) > 3
 
 
-def uses_again(program: Program) -> bool:
+def uses_again(program: RandomProgram) -> bool:
     """Whether a descriptor later belongs to another socket."""
     return len(program.runtime.descriptors) < sum(fd.pd is not None for fd in program.all)
 
 
-def fires_late(program: Program) -> bool:
+def fires_late(program: RandomProgram) -> bool:
     """Whether the function of a timer ran after the timer was stopped or reset."""
-    return any(point.kind == Kind.FIRE and point.b & 4 for point in program.runtime.points)
+    return any(point.kind == PointKind.FIRE and point.b & 4 for point in program.runtime.points)
 
 
 def said_of(log: Points) -> str:
@@ -53,7 +55,7 @@ def said_of(log: Points) -> str:
 def test_writes_go_on_past_the_capacity(sizes: tuple[int, ...]) -> None:
     log = Points().opened()
     for size in sizes:
-        log.add(Kind.WRITE, 1, WORD, size, size, 0)
+        log.add(PointKind.WRITE, 1, WORD, size, size, 0)
     assert said_of(log) == ""
 
 
@@ -64,9 +66,9 @@ def two_timers(*fired: tuple[int, int], now: int = 105) -> Points:
     """Deadlines of two descriptors pass at once, at 105; then these timers go off."""
     log = Points().opened().opened(OTHER_WORD, OTHER)
     for descriptor in (DESCRIPTOR, OTHER):
-        log.add(Kind.SET_DEADLINE, 1, descriptor, 114, 5, time=100)
+        log.add(PointKind.SET_DEADLINE, 1, descriptor, 114, 5, time=100)
     for descriptor, bits in fired:
-        log.add(Kind.FIRE, 0, descriptor, 1, bits, time=now)
+        log.add(PointKind.FIRE, 0, descriptor, 1, bits, time=now)
     return log
 
 

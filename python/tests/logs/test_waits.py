@@ -7,20 +7,20 @@ from typing import Any
 
 from netrev.findings.causes.tables import hangs_table
 from netrev.recording.goroutines import A_SLEEP
-from netrev.recording.waits import Name, Waiting, of_names
-from netrev.recording.where import Lines, Stack
+from netrev.recording.waits import Name, ObjectWait, of_names
+from netrev.recording.where import SourceLines, Stack
 from netrev_go.log.goroutines import SLEEP, goroutines_of
-from netrev_go.log.points import Kind, Point
-from netrev_go.log.waits import Wait, waits_of
+from netrev_go.log.points import PointKind, Point
+from netrev_go.log.waits import LoggedWait, waits_of
 from tests.failed_calls.test_causes import TWO_ENDS, with_lines, writes
 from tests.suspects.test_suspects import Steps
 
 
-def point(number: int, kind: Kind, goroutine: int, a: int = 0, stack: int = 0) -> Point:
+def point(number: int, kind: PointKind, goroutine: int, a: int = 0, stack: int = 0) -> Point:
     return Point(number, kind, goroutine, 0, a, 0, 0, 0, stack)
 
 
-def waits(*points: Point) -> list[Wait]:
+def waits(*points: Point) -> list[LoggedWait]:
     """The waits from these points, in NAME.where's form for the recording's goroutines."""
     return waits_of(goroutines_of(points, STEPS, 0), NUMBERS)
 
@@ -31,27 +31,27 @@ STEPS = [(0, 17, 4), (3, 18, 5), (3, 18, 6)]
 
 class Points(unittest.TestCase):
     def test_a_wait_that_ends_is_kept_where_a_step_is_in_it(self) -> None:
-        parks, goes_on = point(1, Kind.PARKS, 17, 1, 9), point(5, Kind.GOES_ON, 17)
-        readies = point(4, Kind.READY, 18, 17)
-        points = [point(0, Kind.READ, 17), parks, point(3, Kind.READ, 18), readies, goes_on]
-        self.assertEqual(waits(*points), [Wait(4, 6, 0, "a value from a channel", 9, 1)])
-        self.assertEqual(waits(points[0], parks, point(2, Kind.GOES_ON, 17), points[2]), [])
+        parks, goes_on = point(1, PointKind.PARKS, 17, 1, 9), point(5, PointKind.GOES_ON, 17)
+        readies = point(4, PointKind.READY, 18, 17)
+        points = [point(0, PointKind.READ, 17), parks, point(3, PointKind.READ, 18), readies, goes_on]
+        self.assertEqual(waits(*points), [LoggedWait(4, 6, 0, "a value from a channel", 9, 1)])
+        self.assertEqual(waits(points[0], parks, point(2, PointKind.GOES_ON, 17), points[2]), [])
 
     def test_one_that_does_not_end_is_kept(self) -> None:
-        points = [point(0, Kind.READ, 17), point(1, Kind.PARKS, 17, 3, 9)]
-        self.assertEqual(waits(*points), [Wait(4, 0, 0, "a select", 9, -1)])
+        points = [point(0, PointKind.READ, 17), point(1, PointKind.PARKS, 17, 3, 9)]
+        self.assertEqual(waits(*points), [LoggedWait(4, 0, 0, "a select", 9, -1)])
 
     def test_they_have_the_order_of_their_ends(self) -> None:
-        parks = [point(1, Kind.PARKS, 17, 3, 9), point(2, Kind.PARKS, 18, 3, 8)]
-        goes_on = [point(6, Kind.GOES_ON, 18), point(7, Kind.GOES_ON, 17)]
+        parks = [point(1, PointKind.PARKS, 17, 3, 9), point(2, PointKind.PARKS, 18, 3, 8)]
+        goes_on = [point(6, PointKind.GOES_ON, 18), point(7, PointKind.GOES_ON, 17)]
         self.assertEqual([wait.stack for wait in waits(*parks, *goes_on)], [8, 9])
         self.assertEqual([wait.stack for wait in waits(*parks, *goes_on[:1])], [8, 9])
 
     def test_a_sleep_is_none_of_these(self) -> None:
-        self.assertEqual(waits(point(1, Kind.PARKS, 17, SLEEP)), [])
+        self.assertEqual(waits(point(1, PointKind.PARKS, 17, SLEEP)), [])
 
     def test_a_goroutine_that_the_recording_has_not_is_left_out(self) -> None:
-        self.assertEqual(waits(point(1, Kind.PARKS, 99)), [])
+        self.assertEqual(waits(point(1, PointKind.PARKS, 99)), [])
 
 
 def hung(extra: list[dict[str, Any]], steps: Steps) -> str:
@@ -69,7 +69,7 @@ def hung(extra: list[dict[str, Any]], steps: Steps) -> str:
         {"peers": [[0, 1]]},
         *extra,
     ]
-    recording.lines = Lines("\n".join(map(json.dumps, told)), len(steps))
+    recording.lines = SourceLines("\n".join(map(json.dumps, told)), len(steps))
     assert not recording.lines.fault, recording.lines.fault
     return "\n".join(row.text for row in hangs_table(recording, recording.length).rows)
 
@@ -107,7 +107,7 @@ class Hangs(unittest.TestCase):
 
 class Words(unittest.TestCase):
     def test_what_a_goroutine_does(self) -> None:
-        wait = Waiting(Name(3), 5, None, "", Stack((), None), begin=1_000)
+        wait = ObjectWait(Name(3), 5, None, "", Stack((), None), begin=1_000)
         for reason, due, words in (
             (A_SLEEP, 0, "sleeps"),
             (A_SLEEP, 2_000_001_000, "sleeps for 2 s"),

@@ -7,17 +7,28 @@ import pytest
 from dev.fuzz.generators.random_steps import Author
 from netrev.machine.machine import IDLE, StepRefusedError, World
 from netrev.machine.steps import apply
-from netrev.run.flow import ANSWERS, ASLEEP, BY_STATUS, NAMES, SORTS, Came, Sort, came, first_step, step_by_status
+from netrev.run.flow import (
+    ANSWERS,
+    ASLEEP,
+    BY_STATUS,
+    NAMES,
+    SORTS,
+    Consequence,
+    OperationType,
+    came,
+    first_step,
+    step_by_status,
+)
 from netrev.text.contents import Answer, Step
 from netrev.text.vocabulary import KINDS, OF_A_GOROUTINE
 
 NOT_THERE = 2  # the number of the reason that the goroutine isn't at that place
 BEHIND = {  # the statuses that a goroutine may have after a step, by its answer
-    Came.OVER: ("idle", "owing", "gone"),
-    Came.FAILS: ("idle",),
-    Came.READY: ("idle",),
-    Came.STAYS: (*BY_STATUS, *ASLEEP),
-    Came.WAITS: ("idle", "entering"),
+    Consequence.OVER: ("idle", "owing", "gone"),
+    Consequence.FAILS: ("idle",),
+    Consequence.READY: ("idle",),
+    Consequence.STAYS: (*BY_STATUS, *ASLEEP),
+    Consequence.WAITS: ("idle", "entering"),
 }
 Made = tuple[World, Step, Answer, World]
 
@@ -47,7 +58,9 @@ def test_who_is_in_an_operation_makes_the_step_of_its_status_and_no_other(seed: 
         if step is not None:
             apply(world, step)
             others = [
-                first_step(sort, g, 0, "r", ()) for sort in Sort if NAMES[sort].of == "d" and sort is not Sort.SET
+                first_step(sort, g, 0, "r", ())
+                for sort in OperationType
+                if NAMES[sort].of == "d" and sort is not OperationType.SET
             ]
             for other in others:
                 with pytest.raises(StepRefusedError) as refused:
@@ -68,10 +81,12 @@ def test_rows_have_the_answers_that_their_kinds_can_have() -> None:
 
 
 def test_a_first_step_names_what_its_kind_does() -> None:
-    assert first_step(Sort.SET, 3, 1, "rw", (5,)) == ("setdeadline", 3, 1, "rw", 5)
-    assert first_step(Sort.READ, 3, 1, "r", (16,)) == ("sysread", 3, 1, 16)
-    assert first_step(Sort.UNLOCK, 3, 1, "w", ()) == ("rwunlock", 3, 1, "w")
-    assert first_step(Sort.MAKE, 3, 1, "", (4, 4)) == ("sockopen", 4, 4) and first_step(Sort.EXIT, 3, 1, "", ()) == (
+    assert first_step(OperationType.SET, 3, 1, "rw", (5,)) == ("setdeadline", 3, 1, "rw", 5)
+    assert first_step(OperationType.READ, 3, 1, "r", (16,)) == ("sysread", 3, 1, 16)
+    assert first_step(OperationType.UNLOCK, 3, 1, "w", ()) == ("rwunlock", 3, 1, "w")
+    assert first_step(OperationType.MAKE, 3, 1, "", (4, 4)) == ("sockopen", 4, 4) and first_step(
+        OperationType.EXIT, 3, 1, "", ()
+    ) == (
         "exit",
         3,
     )

@@ -19,7 +19,7 @@ from netrev.model.suspects import (
     TIMEOUT,
     suspects,
 )
-from netrev.text.contents import Limits, Recording, Step
+from netrev.text.contents import Limits, Contents, Step
 from netrev.text.writing import write_plain
 
 THEMES = (
@@ -496,10 +496,10 @@ def text_of(steps: Steps) -> bytes:
     for step in steps:
         world, answer = apply(world, step)
         answers.append(answer)
-    return write_plain(Recording(2, LIMITS, steps, answers))
+    return write_plain(Contents(2, LIMITS, steps, answers))
 
 
-def random_recording(dice: random.Random) -> Recording:
+def random_recording(dice: random.Random) -> Contents:
     """A random recording, which often ends when a goroutine is parked."""
     recording, worlds = Author(dice, themes=THEMES).recording(dice.choice([12, 40, 80, 120]))
     parked = [position for position, world in enumerate(worlds) if world.waiters]
@@ -509,7 +509,7 @@ def random_recording(dice: random.Random) -> Recording:
     return recording._replace(steps=recording.steps[:end], answers=recording.answers[:end])
 
 
-def random_waits(dice: random.Random) -> Recording:
+def random_waits(dice: random.Random) -> Contents:
     """A random recording with few goroutines, which wait on one descriptor while its deadlines are set and pass."""
     world, steps, answers = World(LIMITS), [*OPEN, ("spawn",), ("spawn",)], []
     for step in steps:
@@ -523,7 +523,7 @@ def random_waits(dice: random.Random) -> Recording:
             continue
         steps.append(step)
         answers.append(answer)
-    return Recording(2, LIMITS, steps, answers)
+    return Contents(2, LIMITS, steps, answers)
 
 
 NEXT = {

@@ -7,7 +7,7 @@ from pathlib import Path
 
 from dev.bench.measurements import WRITES
 from dev.bench.programs import ROOT
-from dev.bench.recordings import Recording, of_shape
+from dev.bench.recordings import BenchRecording, of_shape
 from dev.bench.servers import plain_lines
 from netrev.text.reading import read_text
 from tests.support.folders import folder_of
@@ -26,7 +26,7 @@ class LargeLimits(unittest.TestCase):
     def setUp(self) -> None:
         self.folder = folder_of(self)
 
-    def lines(self, recording: Recording) -> list[bytes]:
+    def lines(self, recording: BenchRecording) -> list[bytes]:
         return recording.file.read_bytes().splitlines()
 
     def test_the_same_steps_behind_a_header_with_more_room(self) -> None:
@@ -53,7 +53,7 @@ class PlainLines(unittest.TestCase):
 
 class Asked(unittest.TestCase):
     def test_a_walk_goes_there_and_back(self) -> None:
-        lines = Recording("mix", Path("mix.jsonl"), 250).parts["walk"]
+        lines = BenchRecording("mix", Path("mix.jsonl"), 250).parts["walk"]
         moves = [line for line, reply in lines if reply]
         self.assertEqual(moves[:3], ["stepi 100", "stepi 100", "stepi 50"])
         self.assertEqual(moves[3:], ["reverse-stepi 50", "reverse-stepi 100", "reverse-stepi 100"])

@@ -6,7 +6,7 @@ import resource
 import signal
 import subprocess
 
-from netrev.machine.debugger import State, is_command, read_line
+from netrev.machine.debugger import SharedState, is_command, read_line
 
 from .support.sharing import NETREV, PATIENCE, Server, WrongResultError, expect, talk
 
@@ -106,7 +106,7 @@ def expect_beginning(recording, replies):
     """Checks that each reply is right, or that it reports, as docs/reference/COMMANDS.md says, that memory ran out.
     Only a query and a search may report that: the query may be repeated, and `resume` returns the reply to the search
     once. Returns how many commands were placed, and the final position."""
-    state, placed, owed = State(), 0, None
+    state, placed, owed = SharedState(), 0, None
     for line, came in zip(WALK.splitlines(), replies):
         asked = read_line(line.encode())
         assert asked, line

@@ -16,7 +16,7 @@ import pytest
 from dev.fuzz.generators.random_steps import Author
 from netrev.machine.observer import Observer
 from netrev.model.program import printed
-from netrev.text.contents import Recording
+from netrev.text.contents import Contents
 from netrev.text.reading import read_text
 from netrev.text.vocabulary import CELLS, Of
 from netrev.text.writing import write_plain
@@ -59,7 +59,7 @@ REFUSED = (
 )
 
 
-def cells_of(recording: Recording) -> list[str]:
+def cells_of(recording: Contents) -> list[str]:
     """The cells of all objects at the end, in the order of docs/reference/COMMANDS.md."""
     kinds = [step[0] for step in recording.steps]
     made = {of: kinds.count(kind) + (of is Of.GOROUTINE) for of, kind in MADE_BY.items()}
@@ -70,7 +70,7 @@ def cells_of(recording: Recording) -> list[str]:
     ]
 
 
-def changes_by_prints(path: Path, recording: Recording) -> bytes:
+def changes_by_prints(path: Path, recording: Contents) -> bytes:
     """The lines that follow from the printed values at each position, and the last line."""
     cells = cells_of(recording)
     prints = "".join(f"print {cell}\n" for cell in cells)

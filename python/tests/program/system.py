@@ -28,7 +28,7 @@ from functools import partial
 from pathlib import Path
 
 import pytest
-from netrev.machine.debugger import Recording
+from netrev.machine.debugger import DebuggedRecording
 
 from .address_spaces import LOOKS, MEGABYTE, NO_MEMORY, ended, limit_memory, loads_in, play_memory, play_memory_of_serve
 from .support.callers import callers
@@ -473,13 +473,13 @@ def suspects():
 def play_memory_of_suspects(folder):
     text = (LARGE + LOST_AFTER).encode()
     path = Path(os.fsdecode(file_of("recording", text)(folder)))
-    play_memory("suspects", Recording.read(NETREV, path, LOOKS), suspects_of(text))
+    play_memory("suspects", DebuggedRecording.read(NETREV, path, LOOKS), suspects_of(text))
 
 
 def play_memory_of_upgrade(folder):
     text = LARGE.encode()
     path = Path(os.fsdecode(file_of("recording", text)(folder)))
-    play_memory("upgrade", Recording.read(NETREV, path, LOOKS), upgrade_of(text))
+    play_memory("upgrade", DebuggedRecording.read(NETREV, path, LOOKS), upgrade_of(text))
 
 
 def play_reader_goes_in_an_upgrade(folder):
@@ -676,13 +676,13 @@ def memory():
 
             def play(folder, word=word, text=text):
                 path = Path(os.fsdecode(file_of("recording", text)(folder)))
-                play_memory(word, Recording.read(NETREV, path, LOOKS))
+                play_memory(word, DebuggedRecording.read(NETREV, path, LOOKS))
 
             yield Function(f"memory of a hundred sizes: {word} of {what}", play)
 
         def share(folder, text=text):
             path = Path(os.fsdecode(file_of("recording", text)(folder)))
-            play_memory_of_serve(Recording.read(NETREV, path, LOOKS))
+            play_memory_of_serve(DebuggedRecording.read(NETREV, path, LOOKS))
 
         yield Function(f"memory of a hundred sizes: serve of {what}", share)
 

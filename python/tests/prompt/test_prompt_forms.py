@@ -4,7 +4,7 @@ places with Tab. A model takes netrev's part."""
 import io
 
 import pytest
-from netrev.recording.where import Call
+from netrev.recording.where import SourceCall
 from netrev.session.line_hints import hint
 from netrev.session.line_index import is_function
 from netrev.text.vocabulary import KINDS, Of
@@ -77,7 +77,7 @@ def test_list_shows_the_source_of_a_function(prompt: Prompt) -> None:
     ],
 )
 def test_a_method_is_spelled_with_or_without_its_pointer(function: str, name: str, is_meant: bool) -> None:
-    assert is_function(Call(function, "main.go", 7, "program"), name) == is_meant
+    assert is_function(SourceCall(function, "main.go", 7, "program"), name) == is_meant
 
 
 def test_tab_completes_functions_and_lines(prompt: Prompt) -> None:

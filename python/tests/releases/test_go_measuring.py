@@ -11,7 +11,7 @@ from unittest import mock
 
 from dev.fuzz.generators.logs import from_text
 from dev.recorder import building, costs, fetching, real, suites
-from dev.recorder.readiness import Standing
+from dev.recorder.readiness import Readiness
 from dev.recorder.results import read_results
 from dev.recorder.suites import Sample, Suite
 from netrev_go.go_command import toolchain
@@ -69,7 +69,7 @@ class Real(Tools):
         super().setUp()
         (self.folder / "stored").write_bytes(from_text((ROOT / "examples/real/half.log").read_text())[0])
         program = self.script("program", RECORDED)
-        self.stands = Standing("go1.27.3", 90, 88, True, "correct: 952 steps, 952 steps", True)
+        self.stands = Readiness("go1.27.3", 90, 88, True, "correct: 952 steps, 952 steps", True)
         self.checked: Callable[[object, pathlib.Path], tuple[bool, str]] = lambda _, name: (True, "ok 25 steps")
         samples = (Sample("served", "served", (("serve", "1"),), (1, 4), True),)
         self.patch(
@@ -139,7 +139,7 @@ class Real(Tools):
                 self.assertEqual(real.names_for(gate), names)
 
     def test_without_what_it_needs_nothing_is_recorded(self) -> None:
-        self.stands = Standing("go1.27.3", 90, 88, True, "a lock word differs", False)
+        self.stands = Readiness("go1.27.3", 90, 88, True, "a lock word differs", False)
         status, said = self.ran("--go", "1.27")
         self.assertEqual((status, "a lock word differs" in said), (3, True))
         self.patch(real, netrev_program=lambda: None)

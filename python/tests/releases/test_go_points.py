@@ -6,7 +6,7 @@ from pathlib import Path
 
 from netrev.text.vocabulary import NUMBERS
 import netrev_go
-from netrev_go.log.points import Kind
+from netrev_go.log.points import PointKind
 
 GO = Path(netrev_go.__file__).parent / "go"
 PROGRAM = Path(__file__).resolve().parents[3] / "crates/nr_rev/src/kind.rt"
@@ -16,10 +16,10 @@ CONSTANT = re.compile(r"^\tnetrev(\w+?)(?:Kind)? += (\d+)\b", re.MULTILINE)
 A_NUMBER = re.compile(r"netrev(?:Swap|Closed|Point|Poll|PollAlone|Order|Channel)\(\d")
 # points whose names in Go and in Python differ
 OTHERWISE = {
-    "CheckAgain": Kind.CHECK,
-    "EventCame": Kind.EVENT,
-    "Closed": Kind.CHANNEL_CLOSED,
-    "Ended": Kind.FOUND_CLOSED,
+    "CheckAgain": PointKind.CHECK,
+    "EventCame": PointKind.EVENT,
+    "Closed": PointKind.CHANNEL_CLOSED,
+    "Ended": PointKind.FOUND_CLOSED,
 }
 
 
@@ -29,17 +29,17 @@ def in_go() -> dict[str, int]:
     return {name: int(number) for block in blocks for name, number in CONSTANT.findall(block)}
 
 
-def named(name: str) -> Kind:
+def named(name: str) -> PointKind:
     """The kind with this name in Go."""
     spaced = re.sub(r"(?<=[a-z])(?=[A-Z])|(?<=RW)(?=[A-Z])", "_", name)
-    return OTHERWISE.get(name) or Kind[spaced.upper()]
+    return OTHERWISE.get(name) or PointKind[spaced.upper()]
 
 
 class Points(unittest.TestCase):
     def test_go_has_each_kind_by_its_number(self) -> None:
         found = in_go()
         self.assertEqual({name: int(named(name)) for name in found}, found)
-        self.assertEqual({named(name) for name in found}, set(Kind))
+        self.assertEqual({named(name) for name in found}, set(PointKind))
 
     def test_no_point_is_called_by_a_number(self) -> None:
         called = [(file.name, bare) for file in GO.rglob("*.go") for bare in A_NUMBER.findall(file.read_text())]

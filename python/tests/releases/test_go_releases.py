@@ -11,16 +11,16 @@ from unittest import mock
 
 from dev.fuzz.generators.logs import from_text
 from dev.recorder import fetching, readiness as standing, real, results
-from dev.recorder.readiness import Standing, read_standing, standing_of
+from dev.recorder.readiness import Readiness, read_standing, standing_of
 from dev.recorder.results import Result
 from dev.recorder.suites import OF_OTHERS, OF_SAMPLES, SAMPLES, Suite
 from netrev_go import trying
 from netrev_go.go_command.calls_of_go import known_calls, table
 from netrev_go.go_command.toolchain import TRIED, Go, RecorderError, is_tried, release_of, tried
 from netrev_go.log.logfile import read_log
-from netrev_go.log.points import Kind
+from netrev_go.log.points import PointKind
 from netrev_go.steps.compare import DIFFERS, REFUSES, by_the_model
-from netrev_go.steps.making import Recording, make, write, write_words
+from netrev_go.steps.making import NewRecording, make, write, write_words
 from netrev_go.trying import Trial, incomplete, ready, unchained
 from tests.logs.test_go_converting import DESCRIPTOR, WORD, Points
 from tests.support.folders import folder_of
@@ -30,7 +30,7 @@ READING, WRITING = ord("r"), ord("w")
 TAG = 1 << 32
 
 
-def stored(name: str) -> Recording:
+def stored(name: str) -> NewRecording:
     """The recording of a stored log."""
     data, _ = from_text((ROOT / f"examples/real/{name}.log").read_text())
     with tempfile.TemporaryDirectory() as folder:
@@ -39,7 +39,7 @@ def stored(name: str) -> Recording:
         return make(read_log(path))
 
 
-def said_of(made: Recording) -> tuple[bool, str]:
+def said_of(made: NewRecording) -> tuple[bool, str]:
     """The model's message about a recording and Go's lock words."""
     with tempfile.TemporaryDirectory() as folder:
         name = pathlib.Path(folder, "one.jsonl")
@@ -147,7 +147,7 @@ class Tags(unittest.TestCase):
         """Two sockets at one descriptor, whose events have tags 5 and 7."""
         log = Points()
         for word, tag in ((WORD, 5), (WORD + 1, 7)):
-            log.add(Kind.INIT, 1, word).add(Kind.OPEN, 1, DESCRIPTOR, 4 + tag * TAG, 1, 1)
+            log.add(PointKind.INIT, 1, word).add(PointKind.OPEN, 1, DESCRIPTOR, 4 + tag * TAG, 1, 1)
             if word == WORD:
                 log.closed(word)
         return log
@@ -155,26 +155,26 @@ class Tags(unittest.TestCase):
     def test_an_event_is_of_the_use_that_has_its_tag(self) -> None:
         log = (
             self.used_twice()
-            .add(Kind.EVENT, 0, DESCRIPTOR, READING, 0, 7)
-            .add(Kind.EVENT, 0, DESCRIPTOR, READING, 2, 5)
+            .add(PointKind.EVENT, 0, DESCRIPTOR, READING, 0, 7)
+            .add(PointKind.EVENT, 0, DESCRIPTOR, READING, 2, 5)
         )
         self.assertEqual(log.steps()[-2:], [["pollevent", 0, 2, "r", 0, "done"], ["pollevent", 0, 1, "r", 0, "stale"]])
 
     def test_the_answer_is_what_go_compared(self) -> None:
-        log = self.used_twice().add(Kind.EVENT, 0, DESCRIPTOR, READING + WRITING, 3, 7)
+        log = self.used_twice().add(PointKind.EVENT, 0, DESCRIPTOR, READING + WRITING, 3, 7)
         self.assertEqual(log.steps()[-1], ["pollevent", 0, 2, "rw", 1, "stale"])
         self.assertEqual(said_of(log.made()), (False, f"{REFUSES}: step {len(log.steps())}: fault 109 answer"))
 
     def test_an_event_of_a_use_before_the_log_is_left_out(self) -> None:
         log = self.used_twice()
         before = log.steps()
-        self.assertEqual(log.add(Kind.EVENT, 0, DESCRIPTOR, READING, 2, 3).steps(), before)
+        self.assertEqual(log.add(PointKind.EVENT, 0, DESCRIPTOR, READING, 2, 3).steps(), before)
 
     def test_a_descriptor_that_could_not_be_opened_is_freed_by_nobody(self) -> None:
         log = Points().opened().closed()
         before = log.steps()
-        log.add(Kind.INIT, 1, WORD + 1).add(Kind.OPEN, 1, DESCRIPTOR, 4 + 6 * TAG, 1, 1)
-        log.add(Kind.OPEN_FAILED, 1, DESCRIPTOR, 1).add(Kind.CLOSE, 1, DESCRIPTOR)
+        log.add(PointKind.INIT, 1, WORD + 1).add(PointKind.OPEN, 1, DESCRIPTOR, 4 + 6 * TAG, 1, 1)
+        log.add(PointKind.OPEN_FAILED, 1, DESCRIPTOR, 1).add(PointKind.CLOSE, 1, DESCRIPTOR)
         self.assertEqual(log.steps(), before)
 
 
@@ -209,7 +209,7 @@ class Trials(unittest.TestCase):
         )
 
     def test_bytes_that_go_by_are_missed(self) -> None:
-        log = Points().opened().add(Kind.READ, 1, WORD, 8, 2, 0).add(Kind.WRITE, 1, WORD, 3, 3, 0)
+        log = Points().opened().add(PointKind.READ, 1, WORD, 8, 2, 0).add(PointKind.WRITE, 1, WORD, 3, 3, 0)
         self.assertEqual(incomplete(log.made(), "2 3\n"), "")
         self.assertEqual(
             incomplete(log.made(), "2 4"), "the program counted 2 4 bytes read and written, but 2 3 were recorded"
@@ -259,7 +259,7 @@ class Standings(unittest.TestCase):
     GO = Go("go", pathlib.Path("/nowhere"), "go1.28.0", "linux/amd64", "")
     RULES = (True, ["fits runtime/proc.go newproc (as in 1.19)", "without the program's orders: none"])
 
-    def of(self, **put: object) -> Standing:
+    def of(self, **put: object) -> Readiness:
         names: dict[str, object] = {"fit": lambda _: self.RULES, "overlay": lambda _: None, **put}
         with contextlib.ExitStack() as stack:
             for name, value in names.items():
@@ -359,7 +359,7 @@ class Counting(unittest.TestCase):
         with contextlib.redirect_stdout(said):
             good = results.table(list(rows))
             results.summary(
-                list(rows), {"1.27": Standing("go1.27.3", 60, 59, True, "7 steps, 3 lock words, 8 steps", True)}
+                list(rows), {"1.27": Readiness("go1.27.3", 60, 59, True, "7 steps, 3 lock words, 8 steps", True)}
             )
         return good, said.getvalue().splitlines()
 

@@ -10,9 +10,9 @@ from netrev.findings.evidence.waiters import waiters_at
 from netrev.findings.evidence.words import place_of_step, since_begin
 from netrev.findings.handovers.givers import only_itself, untouched
 from netrev.findings.streams.ends_of_reads import end_says
-from netrev.recording.goroutines import FOR_ROOM, At, Use
+from netrev.recording.goroutines import FOR_ROOM, At, ObjectUse
 from netrev.recording.recording import Recording
-from netrev.recording.waits import Name, Waiting
+from netrev.recording.waits import Name, ObjectWait
 from netrev.recording.where import Stack
 from tests.failed_calls.test_causes import READS_ON, TWO_ENDS, with_lines
 
@@ -63,11 +63,11 @@ class Before(unittest.TestCase):
             self.assertEqual(words, " since the recording begins" if expected else "")
 
     def test_channels(self) -> None:
-        wait = Waiting(Name(41, True), 3, None, "", Stack((), None), objects=(At(1, FOR_ROOM),))
+        wait = ObjectWait(Name(41, True), 3, None, "", Stack((), None), objects=(At(1, FOR_ROOM),))
         for begins, words in ((0, "so far"), (4, "since the recording begins")):
             recording = begun(begins, [*TWO_ENDS, *READS_ON])
             self.assertEqual(untouched(recording, wait), [f"Nobody has taken a value from that channel {words}."])
-            recording.lines.uses[1] = [Use(1, 41, "took", 0, 1, 1, 1, 0, 0)]
+            recording.lines.uses[1] = [ObjectUse(1, 41, "took", 0, 1, 1, 1, 0, 0)]
             self.assertEqual(only_itself(recording, wait), f"Only goid 41 itself has taken values there {words},.")
 
 

@@ -13,7 +13,7 @@ import pytest
 from netrev.findings.suspects.loading import RULES, RULES_OF_CALLS, _rule_of
 from netrev.messages import texts
 from netrev.recording.call import Call, Outcome
-from netrev.recording.notes import Pauses, Setting, Status, Use
+from netrev.recording.notes import Pauses, Setting, GoroutineStatus, Use
 from netrev.recording.recording import NotARecordingError, check_size
 from netrev.run import calls
 from netrev.run.calls import Book
@@ -39,7 +39,7 @@ def test_a_pause_counts_once_three_pauses_have_ended(pauses: list[int], enough: 
     [("idle", -1, "", "idle"), ("acquiring 3 r", 3, "r", "acquiring"), ("queued 4 w", 4, "w", "asleep"), ("parked 0 r", 0, "r", "asleep")],
 )  # fmt: skip
 def test_the_parts_of_a_status(text: str, number: int, side: str, states: str) -> None:
-    status = Status(text, Pauses())
+    status = GoroutineStatus(text, Pauses())
     assert (status.number, status.side, str(status)) == (number, side, text)
     is_in = {"idle": status.is_idle, "acquiring": status.is_acquiring, "asleep": status.is_asleep}
     assert [name for name, is_true in is_in.items() if is_true] == [states]

@@ -7,9 +7,9 @@ from netrev.findings.datagrams.cut_datagrams import cut_datagrams
 from netrev.findings.evidence.index import index_of
 from netrev.findings.evidence.sizes import are_known, moved_at, size_of
 from netrev.recording.recording import Recording
-from netrev.recording.where import Lines
+from netrev.recording.where import SourceLines
 from netrev_go.log.beside import OF_UNIX, Beside
-from netrev_go.log.points import Kind, Point
+from netrev_go.log.points import PointKind, Point
 from tests.hangs.test_needs import stored
 
 
@@ -24,7 +24,7 @@ def test_unix_sockets_of_one_connection(order: str, peers: list[tuple[int, int]]
     beside = Beside()
     for who, socket in ((one[0], int(one[1:])) for one in order.split()):
         own, other = (9 if who in "pq" else 7, 0)[:: 1 if who in "abq" else -1]
-        beside.named(socket, Point(socket, Kind.NAMED, ord(who), 0, own, other, OF_UNIX, 0, 0))
+        beside.named(socket, Point(socket, PointKind.NAMED, ord(who), 0, own, other, OF_UNIX, 0, 0))
     beside.pair_unix()
     assert (beside.peers, beside.ends, beside.addresses) == (peers, [], [])
 
@@ -53,7 +53,7 @@ def test_sizes_are_those_that_were_moved() -> None:
     "text, is_good", [('{"sizes":[[1,100]]}', True), ('{"sizes":[[1,"100"]]}', False), ('{"sizes":[[1]]}', False)]
 )
 def test_lines_of_sizes(text: str, is_good: bool) -> None:
-    assert (Lines(f'{{"where":2,"steps":3}}\n{text}', 3).fault == "") is is_good
+    assert (SourceLines(f'{{"where":2,"steps":3}}\n{text}', 3).fault == "") is is_good
 
 
 def test_datagrams_that_were_cut() -> None:

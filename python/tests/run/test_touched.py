@@ -9,7 +9,7 @@ from netrev.recording.recording import Recording
 from netrev.run.calls import book_of
 from netrev.run.changes import PlayedSteps
 from netrev.run.owners import NONE
-from netrev.run.used_sockets import Touched
+from netrev.run.used_sockets import UsedSockets
 
 SEEDS = range(40)
 PARTS = 12
@@ -32,6 +32,8 @@ def test_a_part_alone_tells_whose_its_steps_are() -> None:
             last = dice.randint(first, length)
             steps = slice(max(first - 1, 0), last)
             pairs = Counter(zip(whose.goroutines[steps], whose.sockets[steps]))
-            assert Touched(book.notes, first, last) == {pair: many for pair, many in pairs.items() if pair[0] != NONE}
+            assert UsedSockets(book.notes, first, last) == {
+                pair: many for pair, many in pairs.items() if pair[0] != NONE
+            }
             met += len(pairs)
     assert met > 1_000

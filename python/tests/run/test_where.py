@@ -10,7 +10,7 @@ from typing import Any
 
 from netrev.recording.recording import NotARecordingError, Recording
 from netrev.recording.waits import Name, name_of_goid, waits_of
-from netrev.recording.where import MOST_BYTES, MOST_LINE, Lines
+from netrev.recording.where import MOST_BYTES, MOST_LINE, SourceLines
 from netrev.session.files import written
 from netrev.session.session import UsageError
 from netrev.text.files import whole, written_whole
@@ -52,7 +52,7 @@ class Where(unittest.TestCase):
         self.recording.write_text('{"netrev":1,"gor":1,"sock":1,"desc":1,"buf":16}\n["tick",1]\n["tick",2]\n')
         self.file = self.recording.with_suffix(".where")
 
-    def lines(self) -> Lines:
+    def lines(self) -> SourceLines:
         return Recording.read(str(self.recording)).lines
 
     def fault(self, data: bytes) -> str:
@@ -206,5 +206,5 @@ def test_the_time_at_which_the_lines_were_written(tmp_path: Path) -> None:
     name = tmp_path / "a.where"
     name.write_text('{"where":2,"steps":3}\n')
     os.utime(name, (1_000, 2_000))
-    lines = Lines.beside(str(tmp_path / "a.jsonl"), 3)
+    lines = SourceLines.beside(str(tmp_path / "a.jsonl"), 3)
     assert (lines.written, lines.fault) == (2_000, "")

@@ -15,7 +15,7 @@ from netrev.recording.recording import Recording
 from netrev.session.session import Session
 from netrev.system.interrupts import Interrupts
 from netrev.timeline.events_beside import beside
-from netrev.timeline.picture import Shown, collected
+from netrev.timeline.picture import PageSources, collected
 from netrev.timeline.trace import Tracing
 from nrdb.prompt.answers import ANSWERS
 from tests.support.modelled import Modelled, changes_at, recording_at
@@ -67,7 +67,7 @@ def traced(name: str) -> list[str]:
 
 def pictured(name: str) -> list[str]:
     session, _ = session_of(name)
-    data = collected(Shown.by(session, lambda _: None))
+    data = collected(PageSources.by(session, lambda _: None))
     return [f"{key}: {json.dumps(value, ensure_ascii=False, sort_keys=True)}" for key, value in sorted(data.items())]
 
 

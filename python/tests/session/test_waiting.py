@@ -14,7 +14,7 @@ from unittest import mock
 from dev.fuzz.companion import visit
 from netrev.connection.output import JsonPrinter
 from netrev.connection.scout import Scout
-from netrev.connection.world import World
+from netrev.connection.world import PositionValues
 from netrev.recording.backward_search import OF_A_GOROUTINE, last_steps, takings
 from netrev.recording.recording import Recording
 from netrev.session.session import Session
@@ -168,7 +168,7 @@ class Asked(unittest.TestCase):
 
 
 class Backwards(unittest.TestCase):
-    def worlds(self) -> Iterator[World]:
+    def worlds(self) -> Iterator[PositionValues]:
         """Worlds at various positions of recordings, some of which are written with additional blanks or with
         escapes."""
         dice = random.Random("taken")
@@ -180,7 +180,7 @@ class Backwards(unittest.TestCase):
                 text = text.replace(b'"rwlock"', b'"\\u0072wlock"')
             recording = Recording(text)
             for position in {recording.length, *(dice.randint(0, recording.length) for _ in range(6))}:
-                yield World(Modelled.__new__(Modelled), recording, position)
+                yield PositionValues(Modelled.__new__(Modelled), recording, position)
 
     def test_takings_are_those_of_all_steps(self) -> None:
         met: Counter[bool] = Counter()

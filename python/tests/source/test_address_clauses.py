@@ -15,9 +15,9 @@ from netrev.findings.http import ended_contexts  # fmt: skip
 from netrev.findings.source import functions as source_functions  # fmt: skip
 from netrev.findings.streams import exchanges, failed_dials, left_in_buffers  # fmt: skip
 from netrev.recording.call import CLOSE
-from netrev.recording.goroutines import CLOSED, PUT, TOOK, Use
+from netrev.recording.goroutines import CLOSED, PUT, TOOK, ObjectUse
 from netrev.recording.waits import Name
-from netrev.recording.where import OF_GO, OF_THE_PROGRAM, Call, Stack
+from netrev.recording.where import OF_GO, OF_THE_PROGRAM, SourceCall, Stack
 from tests.failed_calls.test_cause_boundaries import line_of
 
 Patch = pytest.MonkeyPatch
@@ -105,8 +105,8 @@ def test_why_a_dial_failed(change: dict[str, Any], says: str, monkeypatch: Patch
         2: Stack((line_of(0, failed_dials.ONCE if case.once else "net.Dial", of=OF_GO), line_of(9)), None),
     }
     uses = {
-        5: [Use(5, 7, case.what, 1, 1, 3, 3, case.begin, case.begin), Use(5, 8, PUT, 2, 1, 1, 1, 1, 1)],
-        0: [Use(0, 7, CLOSED, 1, 1, 3, 3, 1, 1)],
+        5: [ObjectUse(5, 7, case.what, 1, 1, 3, 3, case.begin, case.begin), ObjectUse(5, 8, PUT, 2, 1, 1, 1, 1, 1)],
+        0: [ObjectUse(0, 7, CLOSED, 1, 1, 3, 3, 1, 1)],
     }
     failed = Made(context=case.context, time=8, stack=2)
     found = failed_dials.ended_says(cast(Any, Made(lines=Made(uses=uses, stacks=stacks))), cast(Any, failed))
@@ -151,7 +151,7 @@ def test_a_request_whose_context_ended_as_it_waited_for_a_connection(
     monkeypatch.setattr(ended_contexts, "open_bodies", lambda recording, ledger, waits, step: [f"since {step}"])
     monkeypatch.setattr(ended_contexts, "of_a_handler", lambda recording, goid: [])
     monkeypatch.setattr(ended_contexts, "kept_by_a_handler", lambda recording, stack: ["kept"])
-    ended = ended_contexts.EndedBefore(Use(5, 7, "ended", 1, 1, 9, 9, 9, 9))
+    ended = ended_contexts.EndedBefore(ObjectUse(5, 7, "ended", 1, 1, 9, 9, 9, 9))
     found = ended.says(cast(Any, Made(lines=Made(stacks={1: stack}))))
     waited = [
         "The request at a.go:3 in ask (goroutine 4, step 9) ended while it waited for a connection: its context had ended.",
@@ -163,7 +163,7 @@ def test_a_request_whose_context_ended_as_it_waited_for_a_connection(
 
 def test_no_lines_are_found_without_the_source(tmp_path: Path) -> None:
     recording = cast(Any, Made(lines=Made(written=float("inf"))))
-    call = Call("main.f", str(tmp_path / "none.go"), 3, OF_THE_PROGRAM)
+    call = SourceCall("main.f", str(tmp_path / "none.go"), 3, OF_THE_PROGRAM)
     assert source_functions.found_in(recording, call, re.compile("x")) == []
     assert source_functions.function_of(recording, call) == ((), range(0))
 
@@ -239,8 +239,8 @@ def test_the_goroutine_that_took_a_request(change: dict[str, Any], taker: int | 
         "answer_line",
         lambda recording, wait, file, taker: case.lines.get(taker, 0) * (file == "a.go"),
     )
-    put = Use(5, 1, PUT, 1, case.puts, 1, 1, 1, 1)
-    uses = [put, *(Use(5, goid, TOOK, 1, 1, 2, 2, goid, goid) for goid in (7, 8))]
+    put = ObjectUse(5, 1, PUT, 1, case.puts, 1, 1, 1, 1)
+    uses = [put, *(ObjectUse(5, goid, TOOK, 1, 1, 2, 2, goid, goid) for goid in (7, 8))]
     wait = Made(stack=Stack((line_of(3),) if case.own else (), None))
     waiters = {Name(goid): goid for goid in case.waiters}
     found = dropped_requests.taker_of(
@@ -278,7 +278,7 @@ def test_a_goroutine_that_ended_or_waits_for_the_next_request(
     monkeypatch.setattr(dropped_requests, "name_of_goid", lambda lines, goid: Name(goid))
     lines = Made(goroutines={} if last is None else {7: Made(last=last)})
     waiter = Made(wait=None if waits_on is None else Made(objects=[Made(object=waits_on)]))
-    use = Use(5, 7, TOOK, 1, 1, 2, 2, 7, 7)
+    use = ObjectUse(5, 7, TOOK, 1, 1, 2, 2, 7, 7)
     found = dropped_requests.is_free(cast(Any, Made(lines=lines)), use, 5, cast(Any, {Name(7): waiter}))
     assert found is is_free
 

@@ -16,21 +16,21 @@ from netrev.findings.pools.senders import Giving
 
 from netrev.findings.streams import unpassed_ends  # fmt: skip
 from netrev.recording.call import CLOSE, Outcome
-from netrev.recording.goroutines import CLOSED, FOR_ROOM, FOR_VALUE, PUT, TOOK, At, Use
-from netrev.recording.waits import Name, Waiting
+from netrev.recording.goroutines import CLOSED, FOR_ROOM, FOR_VALUE, PUT, TOOK, At, ObjectUse
+from netrev.recording.waits import Name, ObjectWait
 from netrev.recording.where import OF_A_LIBRARY, OF_THE_PROGRAM, Stack
 from tests.failed_calls.test_cause_boundaries import line_of
 
 Patch = pytest.MonkeyPatch
 
 
-def use_of(number: int, what: str, stack: int, often: int = 1, end: int = 9, goid: int = 7) -> Use:
-    return Use(number, goid, what, stack, often, 1, 1, end, end)
+def use_of(number: int, what: str, stack: int, often: int = 1, end: int = 9, goid: int = 7) -> ObjectUse:
+    return ObjectUse(number, goid, what, stack, often, 1, 1, end, end)
 
 
-def waiting(objects: list[tuple[int, str]], line: int = 3, reason: str = "a receiver") -> Waiting:
+def waiting(objects: list[tuple[int, str]], line: int = 3, reason: str = "a receiver") -> ObjectWait:
     at = tuple(At(number, use) for number, use in objects)
-    return Waiting(Name(1), 5, None, reason, Stack((line_of(line),), None), None, at)
+    return ObjectWait(Name(1), 5, None, reason, Stack((line_of(line),), None), None, at)
 
 
 @pytest.mark.parametrize(
@@ -108,7 +108,7 @@ def test_what_was_done_with_channels_of_the_same_line(
     objects: list[tuple[int, str]], uses: str, found: list[str]
 ) -> None:
     kinds = {"put": PUT, "took": TOOK, "closed": CLOSED}
-    of: dict[int, list[Use]] = {}
+    of: dict[int, list[ObjectUse]] = {}
     for end, one in enumerate(uses.split(), 1):
         of.setdefault(int(one[-1]), []).append(use_of(int(one[-1]), kinds[one[:-1]], 1, end=end))
     stacks = {1: Stack((line_of(4),), None), 2: Stack((line_of(4), line_of(9)), None), 3: Stack((line_of(5),), None)}

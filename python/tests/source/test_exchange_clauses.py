@@ -9,7 +9,7 @@ import pytest
 from netrev.findings.causes import leftovers
 from netrev.findings.evidence import deadlines_ahead, words
 from netrev.findings.streams import exchanges, flushes, gone_readers
-from netrev.recording.where import OF_GO, Call, Stack
+from netrev.recording.where import OF_GO, SourceCall, Stack
 
 Patch = pytest.MonkeyPatch
 
@@ -30,7 +30,7 @@ def test_the_call_whose_deadline_ends_a_wait(place: str, says: str, monkeypatch:
     [(("net.(*netFD).connect",), True), (("net.Dial", "net.(*netFD).connect", "main.ask"), True), (("net.Dial", "main.ask"), False), ((), False)],
 )  # fmt: skip
 def test_a_wait_in_a_connect(functions: tuple[str, ...], is_connecting: bool) -> None:
-    stack = Stack(tuple(Call(function, "a.go", 3, OF_GO) for function in functions), None)
+    stack = Stack(tuple(SourceCall(function, "a.go", 3, OF_GO) for function in functions), None)
     assert words.is_connecting(stack) is is_connecting
 
 

@@ -12,10 +12,10 @@ from netrev.findings.pools.unclosed import closings_of
 from netrev.findings.source.functions import is_inside
 from netrev.findings.source.package import place_of_variable
 from netrev.findings.streams.left_in_buffers import names_of, unflushed_in
-from netrev.recording.goroutines import FOR_ROOM, FOR_VALUE, PUT, At, Use
+from netrev.recording.goroutines import FOR_ROOM, FOR_VALUE, PUT, At, ObjectUse
 from netrev.recording.recording import Recording
-from netrev.recording.waits import Name, Waiting, waits_of
-from netrev.recording.where import OF_THE_PROGRAM, Call, Stack
+from netrev.recording.waits import Name, ObjectWait, waits_of
+from netrev.recording.where import OF_THE_PROGRAM, SourceCall, Stack
 from tests.hangs.test_needs import stored
 
 NODE = """\
@@ -154,11 +154,11 @@ def recording(tmp_path: Path) -> Recording:
     return found
 
 
-def call(folder: Path, file: str, function: str, text: str, nth: int = 1) -> Call:
+def call(folder: Path, file: str, function: str, text: str, nth: int = 1) -> SourceCall:
     """The nth call in the line of a file that contains this text."""
     lines = (folder / f"{file}.go").read_text(encoding="utf-8").splitlines()
     number = [at for at, line in enumerate(lines, 1) if text in line][nth - 1]
-    return Call(f"main.{function}", str(folder / f"{file}.go"), number, OF_THE_PROGRAM)
+    return SourceCall(f"main.{function}", str(folder / f"{file}.go"), number, OF_THE_PROGRAM)
 
 
 @pytest.mark.parametrize(
@@ -190,13 +190,13 @@ def test_a_write_that_nothing_flushes(recording: Recording, tmp_path: Path, func
     assert unflushed_in(recording, frame) == place
 
 
-def waiting(at: Call, use: str = FOR_VALUE) -> Waiting:
+def waiting(at: SourceCall, use: str = FOR_VALUE) -> ObjectWait:
     """A wait in the line of a call."""
     wait = next(wait for some in stored_waits().values() for wait in some)
     return wait._replace(name=Name(0), stack=Stack((at,), None), objects=(At(1, use),))
 
 
-def stored_waits() -> dict[Name, list[Waiting]]:
+def stored_waits() -> dict[Name, list[ObjectWait]]:
     return waits_of(stored("counted-bad")).of
 
 
@@ -205,7 +205,7 @@ def test_values_that_are_lost_if_nobody_waits(recording: Recording, tmp_path: Pa
     at = call(tmp_path, "alarm", "(*alarm).deliver", text)
     assert not dropped_notices(recording, waiting(at))  # no value was put there
     recording.lines.stacks[99] = Stack((at._replace(line=7),), None)
-    recording.lines.uses[1] = [Use(1, 9, PUT, 99, 1, 1, 1, 1, 1)]
+    recording.lines.uses[1] = [ObjectUse(1, 9, PUT, 99, 1, 1, 1, 1, 1)]
     says = dropped_notices(recording, waiting(at))
     assert [f"{at.file}:{line} puts a value there only if somebody waits" in one for one in says] == [True] * bool(line)
     for_both, for_room = (At(1, FOR_VALUE), At(2, FOR_ROOM)), (At(1, FOR_ROOM),)
@@ -230,9 +230,9 @@ def test_a_way_that_returns_an_error_and_keeps_a_seat(
 
 def test_who_only_starts_a_goroutine_is_not_inside() -> None:
     source = ("package main", "", "func run() {", "\tgo func() {", "\t\twork()", "\t}()", "\tclose(quit)", "}")
-    (closing,) = closings_of(source, Call("main.run", "a.go", 5, OF_THE_PROGRAM), "quit")
+    (closing,) = closings_of(source, SourceCall("main.run", "a.go", 5, OF_THE_PROGRAM), "quit")
     inside = {
-        name: is_inside(source, Call(f"main.run{name}", "a.go", line, OF_THE_PROGRAM), closing.within)
+        name: is_inside(source, SourceCall(f"main.run{name}", "a.go", line, OF_THE_PROGRAM), closing.within)
         for name, line in (("", 4), (".func1", 5), (".gowrap1", 4))
     }
     assert inside == {"": True, ".func1": False, ".gowrap1": False}

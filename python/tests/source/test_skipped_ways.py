@@ -16,8 +16,8 @@ from netrev.findings.streams.flushes import ways_round_a_flush, ways_without_an_
 from netrev.findings.streams.unfinished_replies import loops_of
 from netrev.recording.goroutines import DONE, TOOK
 from netrev.recording.recording import Recording
-from netrev.recording.waits import Name, Waiting
-from netrev.recording.where import OF_THE_PROGRAM, Call, Stack
+from netrev.recording.waits import Name, ObjectWait
+from netrev.recording.where import OF_THE_PROGRAM, SourceCall, Stack
 from tests.failed_calls.test_causes import in_the_folder_of_the_source
 from tests.hangs.test_needs import stored
 from tests.trials.go_caused import NAMES, SKIPS, bug_line
@@ -247,8 +247,8 @@ def test_bytes_that_came_since_were_not_lost() -> None:
     assert "are lost" not in first_cause(recording)
 
 
-def call_at(number: int, function: str, file: str) -> Call:
-    return Call(f"main.{function}", file, number, OF_THE_PROGRAM)
+def call_at(number: int, function: str, file: str) -> SourceCall:
+    return SourceCall(f"main.{function}", file, number, OF_THE_PROGRAM)
 
 
 MENU = """\
@@ -330,7 +330,7 @@ def test_ways_past_a_reset(tmp_path: Path, source: str, number: int, expected: s
     Path(file).write_text(source, encoding="utf-8")
     recording.lines.written = float("inf")
     stack = Stack((call_at(number, "save", file),), None)
-    found = ways_past_reset(recording, Waiting(Name(1), 0, None, "a select", stack)).replace(file, "a.go")
+    found = ways_past_reset(recording, ObjectWait(Name(1), 0, None, "a select", stack)).replace(file, "a.go")
     assert expected in found and bool(expected) is bool(found)
 
 

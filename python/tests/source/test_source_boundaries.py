@@ -14,8 +14,8 @@ from netrev.findings.locks import conditions  # fmt: skip
 from netrev.findings.pools import kept_ways, senders, uncancelled  # fmt: skip
 from netrev.findings.source import package as package_source  # fmt: skip
 from netrev.recording.goroutines import GoGoroutine
-from netrev.recording.waits import Name, Waiting
-from netrev.recording.where import OF_A_LIBRARY, OF_THE_PROGRAM, Call, Stack
+from netrev.recording.waits import Name, ObjectWait
+from netrev.recording.where import OF_A_LIBRARY, OF_THE_PROGRAM, SourceCall, Stack
 
 Patch = pytest.MonkeyPatch
 
@@ -58,12 +58,12 @@ def later(says: list[str], lines: int) -> list[str]:
     return [re.sub(r":(\d+)", lambda found: f":{int(found[1]) + lines}", one) for one in says]
 
 
-def at(folder: Path, source: str, number: int, function: str = "(*queue).pop") -> tuple[Any, Waiting]:
+def at(folder: Path, source: str, number: int, function: str = "(*queue).pop") -> tuple[Any, ObjectWait]:
     """A recording of a program with this source, and a wait at a line of it."""
     file = folder / "a.go"
     file.write_text(source, encoding="utf-8")
-    stack = Stack((Call(f"main.{function}", str(file), number, OF_THE_PROGRAM),), None)
-    return Made(lines=Made(written=float("inf"))), Waiting(Name(1), 5, None, "a condition", stack)
+    stack = Stack((SourceCall(f"main.{function}", str(file), number, OF_THE_PROGRAM),), None)
+    return Made(lines=Made(written=float("inf"))), ObjectWait(Name(1), 5, None, "a condition", stack)
 
 
 def in_short(folder: Path, says: list[str]) -> list[str]:
@@ -129,9 +129,9 @@ def test_the_name_of_a_function_that_wakes_nobody(tmp_path: Path, head: str, nam
     assert says == [f"a.go:21 in {name} should have woken it: it changes closed"]
 
 
-@pytest.mark.parametrize("stack", [Stack((), None), Stack((Call("main.f", "none.go", 5, OF_THE_PROGRAM),), None)])
+@pytest.mark.parametrize("stack", [Stack((), None), Stack((SourceCall("main.f", "none.go", 5, OF_THE_PROGRAM),), None)])
 def test_nobody_is_named_without_the_source(stack: Stack) -> None:
-    recording, wait = cast(Any, Made(lines=Made(written=float("inf")))), Waiting(Name(1), 5, None, "", stack)
+    recording, wait = cast(Any, Made(lines=Made(written=float("inf")))), ObjectWait(Name(1), 5, None, "", stack)
     assert conditions.unsignalled(recording, wait) == conditions.single_signal(recording, wait, 2) == []
 
 
@@ -170,7 +170,7 @@ def test_a_signal_that_woke_another_goroutine(
     tmp_path: Path, old: str, new: str, waits: str, expected: list[str], monkeypatch: Patch
 ) -> None:
     recording, wait = at(tmp_path, TABLE.replace(old, new, 1) if old else TABLE, 5, "(*table).get")
-    every: dict[str, list[Waiting]] = {}
+    every: dict[str, list[ObjectWait]] = {}
     for goroutine, _, number in (one.partition(":") for one in waits.split()):
         calls = (wait.stack.calls[0]._replace(line=int(number)),) if number else ()
         one = wait._replace(name=Name(int(goroutine)), stack=Stack(calls, None))
@@ -242,10 +242,10 @@ def test_a_literal_isnt_the_function_that_starts_it(tmp_path: Path) -> None:
 def test_goroutines_that_ended_before_a_line(goroutines: str, expected: list[int], monkeypatch: Patch) -> None:
     recording, known, passed = cast(Any, Made(lines=Made(goroutines={}))), {}, {}
     for one in goroutines.split():
-        made = None if "unknown" in one else Call("main.main", "a.go", 4, OF_THE_PROGRAM)
+        made = None if "unknown" in one else SourceCall("main.main", "a.go", 4, OF_THE_PROGRAM)
         goid, last = int(one[0]), -1 if "alive" in one else 0
         known[goid] = GoGoroutine(goid, goid, made, 3 if "mine" in one else 1, 0, last, goid, 0)
-        at_line = Call(
+        at_line = SourceCall(
             "main.f", "b.go" if "other" in one else "a.go", 7 if "passed" in one or "other" in one else 8, ""
         )
         passed[goid] = {at_line}
@@ -285,7 +285,7 @@ def test_the_line_that_answers(tmp_path: Path, file: str, line: int, of: str, an
     recording, wait = at(tmp_path, ANSWER, 4)
     (tmp_path / "b.go").write_text(ANSWER, encoding="utf-8")
     monkeypatch.setattr(dropped_requests, "givings_at", lambda recording, wait: [Made(number=8), Made(number=13)])
-    taker = Made(stack=Stack((Call("main.serve", str(tmp_path / file), line, of),), None))
+    taker = Made(stack=Stack((SourceCall("main.serve", str(tmp_path / file), line, of),), None))
     assert dropped_requests.answer_line(recording, wait, str(tmp_path / "a.go"), cast(Any, taker)) == answers
 
 
@@ -327,7 +327,7 @@ func oneLine() {
 )  # fmt: skip
 def test_the_lines_that_cancel_a_context(line: int, context: str, expected: list[tuple[int, bool]]) -> None:
     lines = tuple(CONTEXT.split("\n"))
-    found = uncancelled.cancels_of(lines, Call("main.f", "a.go", line, OF_THE_PROGRAM), context)
+    found = uncancelled.cancels_of(lines, SourceCall("main.f", "a.go", line, OF_THE_PROGRAM), context)
     assert [(one.number, one.is_deferred) for one in found] == expected
 
 
@@ -397,11 +397,11 @@ def test_calls_that_fail_in_a_loop(
 
 def test_a_variable_s_type_is_unknown_without_the_source() -> None:
     recording = cast(Any, Made(lines=Made(written=float("inf"))))
-    place = package_source.place_of_variable(recording, Call("main.f", "none.go", 3, OF_THE_PROGRAM), "s.mu")
+    place = package_source.place_of_variable(recording, SourceCall("main.f", "none.go", 3, OF_THE_PROGRAM), "s.mu")
     assert place is None
 
 
 def test_the_types_of_a_function_without_a_receiver() -> None:
     lines = ("package main", "", "func run(c net.Conn) {", "\tuse(c)", "}")
-    found = package_source.variables_of(cast(Any, None), lines, Call("main.run", "a.go", 4, OF_THE_PROGRAM))
+    found = package_source.variables_of(cast(Any, None), lines, SourceCall("main.run", "a.go", 4, OF_THE_PROGRAM))
     assert found == {"c": "net.Conn"}

@@ -14,9 +14,9 @@ from netrev.findings.http import cancels
 from netrev.findings.locks import skipped_done
 from netrev.findings.pools import kept_ways, uncancelled
 from netrev.recording.call import Outcome
-from netrev.recording.goroutines import CLOSED, DONE, PUT, TOOK, At, Park, Use
+from netrev.recording.goroutines import CLOSED, DONE, PUT, TOOK, At, Park, ObjectUse
 from netrev.recording.waits import Name
-from netrev.recording.where import OF_A_LIBRARY, OF_GO, OF_THE_PROGRAM, Call, Stack
+from netrev.recording.where import OF_A_LIBRARY, OF_GO, OF_THE_PROGRAM, SourceCall, Stack
 from tests.failed_calls.test_cause_boundaries import line_of
 
 Patch = pytest.MonkeyPatch
@@ -71,7 +71,7 @@ def test_loops_share_variables_before_a_language_version(
     (tmp_path / "go.mod").write_text(module or "module none", encoding="utf-8")
     for name in ("a.go", "b.go"):
         (folder / name).write_text(STARTS, encoding="utf-8")
-    calls = [Call("main.run", str(folder / made), line, of) for line in (6, 5)]
+    calls = [SourceCall("main.run", str(folder / made), line, of) for line in (6, 5)]
     known = {goid: Made(made=call) for goid, call in enumerate([*calls, calls[0], None], 1)}
     recording = cast(Any, Made(lines=Made(goroutines=known, written=float("inf"))))
     found = loop_variables.shared_variables(recording, str(folder / file))
@@ -138,7 +138,7 @@ class NoLooks:
 def test_a_close_that_woke_a_goroutine(change: dict[str, Any], says: bool) -> None:
     case = Made(**({"last": 4, "by": 2, "closer": 2, "what": CLOSED, "object": 5, "goid": 7, "at": (5,)} | change))
     park = Park(case.goid, 1, case.last, 10, 20, "select", 4, case.by, tuple(At(one, "for a value") for one in case.at))
-    uses = {5: [], 6: [], case.object: [Use(case.object, case.closer, case.what, 4, 1, 4, 4, 15, 15)]}
+    uses = {5: [], 6: [], case.object: [ObjectUse(case.object, case.closer, case.what, 4, 1, 4, 4, 15, 15)]}
     stack = Stack((line_of(0, "runtime.selectgo", of=OF_GO), line_of(0, "context.wait"), line_of(3, "main.look")), None)
     lines = Made(uses=uses, parks={case.goid: [park]}, stacks={4: stack})
     found = list(cancels.found_closed(cast(Any, NoLooks(lines)), 7, 3, 6))
@@ -254,8 +254,8 @@ def test_a_loop_took_more_values_than_it_called_done(change: dict[str, Any], say
     monkeypatch.setattr(skipped_done, "words_of_ways", lambda recording, every, left: "left" if left else "stays")
     monkeypatch.setattr(skipped_done, "name_of_goid", lambda lines, goid: Name(goid))
 
-    def use(what: str, often: int, stack: int, goid: int = 7) -> Use:
-        return Use(5, goid, what, stack, often, 1, 1, 1, 1)
+    def use(what: str, often: int, stack: int, goid: int = 7) -> ObjectUse:
+        return ObjectUse(5, goid, what, stack, often, 1, 1, 1, 1)
 
     done = [use(DONE, often, stack) for often, stack in ((case.more, 4), (case.done, 1), (case.other, 2)) if often]
     uses = {
@@ -285,9 +285,9 @@ def test_each_loop_that_calls_done_has_its_own_rounds(monkeypatch: Patch) -> Non
         skipped_done, "rounds_of",
         lambda recording, stack: skipped_done.Rounds(stack.calls[0], stack.calls[0].line // 10 * 10 + 3, stack.calls[0].line // 10 * 10 + 4, stack.calls[0]),
     )  # fmt: skip
-    uses = {5: [Use(5, 7, TOOK, 3, 2, 1, 1, 1, 1)], 6: [Use(6, 7, TOOK, 4, 3, 1, 1, 1, 1)]}
+    uses = {5: [ObjectUse(5, 7, TOOK, 3, 2, 1, 1, 1, 1)], 6: [ObjectUse(6, 7, TOOK, 4, 3, 1, 1, 1, 1)]}
     recording = Made(lines=Made(stacks=stacks, uses=uses, goroutines={7: Made(last=0)}))
-    done = [Use(9, 7, DONE, stack, 2, 1, 1, 1, 1) for stack in (1, 2)]
+    done = [ObjectUse(9, 7, DONE, stack, 2, 1, 1, 1, 1) for stack in (1, 2)]
     waits = cast(Any, Made(at=lambda name, position: None))
     found = skipped_done.skipped_done(cast(Any, recording), waits, cast(Any, Made(done=done, missing=1)), 20)
     assert found == ["count", "The loop at a.go:13 took 3 values from a channel and called Done at a.go:19 2 times."]
@@ -339,7 +339,7 @@ def test_the_function_that_leaves_a_body_open(
         made.append(
             Stack(
                 tuple(
-                    Call(f"main.{name}", str(file), int(line), OF_A_LIBRARY if ".lib" in name else OF_THE_PROGRAM)
+                    SourceCall(f"main.{name}", str(file), int(line), OF_A_LIBRARY if ".lib" in name else OF_THE_PROGRAM)
                     for name, _, line in parts
                 ),
                 None,
@@ -353,7 +353,7 @@ def test_two_functions_that_leave_bodies_open_are_named(tmp_path: Path) -> None:
     file, source = tmp_path / "a.go", GETS.partition("\n\nfunc get")[0]
     function = source.partition("package main\n\n")[2]
     file.write_text(f"{source}\n{function}\n{function}\n", encoding="utf-8")
-    stacks = [Stack((Call("main.fetch", str(file), line, OF_THE_PROGRAM),), None) for line in (4, 14, 24)]
+    stacks = [Stack((SourceCall("main.fetch", str(file), line, OF_THE_PROGRAM),), None) for line in (4, 14, 24)]
     recording = cast(Any, Made(lines=Made(written=float("inf"))))
     found = kept_ways.ways_past_close(recording, stacks)
     assert found == [OPEN.format(f"{tmp_path}/", number) for number in (9, 19)]

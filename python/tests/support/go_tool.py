@@ -14,7 +14,7 @@ from typing import Callable
 from unittest import mock
 
 from dev.recorder.fetching import here
-from netrev.recording.where import Lines
+from netrev.recording.where import SourceLines
 from netrev.system.built import netrev_program
 from netrev_go.go_command import calls_of_go
 from netrev_go.go_command.toolchain import (
@@ -238,10 +238,10 @@ class Programs(Tool):
 
 
 class Orders(Tool):
-    def lines(self, name: str) -> tuple[list[list[object]], Lines]:
+    def lines(self, name: str) -> tuple[list[list[object]], SourceLines]:
         """The steps of a recording, and the lines beside it."""
         steps = [json.loads(line) for line in (self.folder / f"{name}.jsonl").read_text().splitlines()[1:]]
-        return steps, Lines.beside(str(self.folder / f"{name}.jsonl"), len(steps))
+        return steps, SourceLines.beside(str(self.folder / f"{name}.jsonl"), len(steps))
 
     def test_what_the_program_orders_is_recorded(self) -> None:
         for made, tells, awaits, imports in TELLS:

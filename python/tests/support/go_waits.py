@@ -6,8 +6,8 @@ import os
 
 from dev.recorder.fetching import SUITES, here
 from netrev.recording import goroutines as where
-from netrev.recording.goroutines import GoGoroutine, Park, Timer, Use
-from netrev.recording.where import Lines
+from netrev.recording.goroutines import GoGoroutine, Park, Timer, ObjectUse
+from netrev.recording.where import SourceLines
 
 from .go_tool import Tool, program
 
@@ -123,7 +123,7 @@ TWICE = ("locks", "awaits", "waits", "receives")  # with one object each
 
 
 class Waits(Tool):
-    lines: Lines
+    lines: SourceLines
 
     def test_each_release_has_all_waits_and_their_objects(self) -> None:
         self.written(PROGRAM)
@@ -133,7 +133,7 @@ class Waits(Tool):
                 status, said = self.called("run", "main.go", PATH=f"{folder}:{os.environ['PATH']}", GOTOOLCHAIN="local")
                 self.assertEqual(status, 0, said)
                 steps = len((self.folder / "recording.jsonl").read_text().splitlines()) - 1
-                self.lines = Lines.beside(str(self.folder / "recording.jsonl"), steps)
+                self.lines = SourceLines.beside(str(self.folder / "recording.jsonl"), steps)
                 self.look_at_waits()
                 self.look_at_timers()
                 self.look_at_channels()
@@ -187,7 +187,7 @@ class Waits(Tool):
             self.assertEqual(timer.goid, park.goid)
 
     def look_at_channels(self) -> None:
-        uses: dict[tuple[str, str], list[Use]] = {}
+        uses: dict[tuple[str, str], list[ObjectUse]] = {}
         for several in self.lines.uses.values():
             for use in several:
                 uses.setdefault((self.function_of(use.stack), use.what), []).append(use)

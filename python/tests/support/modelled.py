@@ -5,18 +5,18 @@ from pathlib import Path
 from typing import Callable, Optional
 
 from netrev.connection.netrev import Netrev
-from netrev.machine.debugger import Recording
+from netrev.machine.debugger import DebuggedRecording
 from netrev.machine.observer import Observer
 from netrev.model.changes import changes
 from netrev.model.program import replay
-from netrev.model.session import Session, recording_of
+from netrev.model.session import ModelSession, recording_of
 from netrev.recording.changes import RecordedChanges
 from netrev.system.interrupts import Interrupts
 
 Happens = Callable[["Modelled"], None]
 
 
-def recording_at(path: Path) -> Recording:
+def recording_at(path: Path) -> DebuggedRecording:
     """The recording in the form that the model's debugger uses."""
     replayed = replay(path.read_bytes(), Observer())
     return recording_of(replayed.text.steps, replayed.worlds)
@@ -36,9 +36,9 @@ def changes_in(recording: bytes) -> RecordedChanges:
 class Modelled(Netrev):
     """Answers as netrev would. `happens` is called before lines are sent, and before each line that is read."""
 
-    def __init__(self, recording: Recording, interrupts: Interrupts, happens: Happens):
+    def __init__(self, recording: DebuggedRecording, interrupts: Interrupts, happens: Happens):
         super().__init__(interrupts)
-        self._session = Session(recording, Observer())
+        self._session = ModelSession(recording, Observer())
         self._happens = happens
         self._said: deque[str] = deque()
         self.has_ended = False

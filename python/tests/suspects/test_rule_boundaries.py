@@ -13,16 +13,16 @@ from netrev.explore.failures import _of_socket
 from netrev.explore.schedules import _late_delays
 from netrev.explore.scripts import arrivals
 from netrev.explore.scripts.actors import Others
-from netrev.explore.scripts.control import Place, is_about
+from netrev.explore.scripts.control import ScriptPlace, is_about
 from netrev.explore.scripts.operations import TakenApart
 from netrev.explore.scripts.runs import Delay
 from netrev.explore.scripts.scripts import Operation
-from netrev.findings.suspects.keeping import Kept
+from netrev.findings.suspects.keeping import KeptReference
 from netrev.recording.notes import By, Hold
 from netrev.reduce import reduced
 from netrev.reduce.reduced import Wanted, wanted_by
-from netrev.reduce.units import Needs
-from netrev.run.flow import BY_STATUS, Sort
+from netrev.reduce.units import Dependencies
+from netrev.run.flow import BY_STATUS, OperationType
 from netrev.session.commands import parts_of, whole_words
 from netrev.session.line_hints import hint
 from netrev.session.session import UsageError, Session
@@ -160,7 +160,7 @@ def test_why_a_move_of_an_editor_stops(
 
 @pytest.mark.parametrize("status", [*BY_STATUS, "idle", "queued", "parked"])
 def test_the_object_whose_number_the_next_step_needs(status: str) -> None:
-    operation, place = Operation(Sort.READ, 3, 8, "r"), Place()
+    operation, place = Operation(OperationType.READ, 3, 8, "r"), ScriptPlace()
     found = is_about((status, 3, "r"), place, operation)
     assert found == (None if status in BY_STATUS else (True, 3))
     assert status in BY_STATUS or is_about((status, 3, "r"), place._replace(is_waiting=True), operation) == (False, 8)
@@ -171,10 +171,13 @@ def script(*goroutines: list[Operation], length: int = 20) -> Any:
 
 
 def test_operations_of_a_sort_by_socket_in_the_order_of_their_first_steps() -> None:
-    first, second, other = (Operation(Sort.READ, 1, steps=steps) for steps in ([5, 9], [3, 12], [4]))
+    first, second, other = (Operation(OperationType.READ, 1, steps=steps) for steps in ([5, 9], [3, 12], [4]))
     other.socket = 2
     found = _of_socket(
-        script([first, Operation(Sort.READ, 1), Operation(Sort.WRITE, 1, steps=[1])], [second, other]), Sort.READ
+        script(
+            [first, Operation(OperationType.READ, 1), Operation(OperationType.WRITE, 1, steps=[1])], [second, other]
+        ),
+        OperationType.READ,
     )
     assert found == {1: [(1, second), (0, first)], 2: [(1, other)]}
 
@@ -194,8 +197,12 @@ SET_BOTH, MOVED, RESET = (3, "rw", 50), (6, "r", 900), 9
 def test_a_deadline_of_both_sides_may_pass_after_the_other_one_was_moved(
     sets: list[tuple[int, str, int]], reset: int, is_late: bool
 ) -> None:
-    settings = [Operation(Sort.SET, 0, 4, mode, (value,), steps=[number, number + 1]) for number, mode, value in sets]
-    resets = [Operation(Sort.RESET, 0, use, "w", steps=[number]) for use, number in ((4, reset), (5, reset + 1))]
+    settings = [
+        Operation(OperationType.SET, 0, 4, mode, (value,), steps=[number, number + 1]) for number, mode, value in sets
+    ]
+    resets = [
+        Operation(OperationType.RESET, 0, use, "w", steps=[number]) for use, number in ((4, reset), (5, reset + 1))
+    ]
     assert list(_late_delays(script(settings, resets))) == ([Delay(reset, 21)] if is_late else [])
 
 
@@ -218,17 +225,17 @@ def test_bytes_that_no_event_has_reported(is_open: bool, tag: int, sides: str, f
 @pytest.mark.parametrize(
     "kind, answer, sort, told, is_brief, cause, ends_unread",
     [
-        ("blockarm", ("code", 0), Sort.WAIT, None, True, None, False), ("blockarm", ("code", 0), Sort.WAIT, 4, True, None, False),
-        ("blockarm", ("code", 0), Sort.WAIT, 5, False, 5, False), ("blockarm", ("wait",), Sort.WAIT, 5, False, None, False),
-        ("waitcheck", ("code", 0), Sort.WAIT, 5, False, None, False), ("blockswap", ("yes",), Sort.WAIT, 4, False, 4, False),
-        ("blockswap", ("no",), Sort.WAIT, 4, False, None, False), ("blockarm", ("code", 0), Sort.READ, 5, False, None, True),
-        ("blockarm", ("code", 0), Sort.WRITE, 5, False, None, True), ("blockarm", ("wait",), Sort.READ, 5, False, None, False),
+        ("blockarm", ("code", 0), OperationType.WAIT, None, True, None, False), ("blockarm", ("code", 0), OperationType.WAIT, 4, True, None, False),
+        ("blockarm", ("code", 0), OperationType.WAIT, 5, False, 5, False), ("blockarm", ("wait",), OperationType.WAIT, 5, False, None, False),
+        ("waitcheck", ("code", 0), OperationType.WAIT, 5, False, None, False), ("blockswap", ("yes",), OperationType.WAIT, 4, False, 4, False),
+        ("blockswap", ("no",), OperationType.WAIT, 4, False, None, False), ("blockarm", ("code", 0), OperationType.READ, 5, False, None, True),
+        ("blockarm", ("code", 0), OperationType.WRITE, 5, False, None, True), ("blockarm", ("wait",), OperationType.READ, 5, False, None, False),
     ],
 )  # fmt: skip
 def test_what_ended_a_wait(
     kind: str,
     answer: tuple[Any, ...],
-    sort: Sort,
+    sort: OperationType,
     told: Optional[int],
     is_brief: bool,
     cause: Optional[int],
@@ -265,7 +272,7 @@ def test_what_a_lock_that_failed_would_have_led_to(asked: dict[int, int], is_ope
 )  # fmt: skip
 def test_a_call_that_went_well(steps: tuple[list[int], ...], answers: str, is_well: bool) -> None:
     kinds = ("rwlock", "sysread", "rwunlock")
-    call = [Operation(Sort.LOCK, 3, steps=some, kinds=[kind] * len(some)) for kind, some in zip(kinds, steps)]
+    call = [Operation(OperationType.LOCK, 3, steps=some, kinds=[kind] * len(some)) for kind, some in zip(kinds, steps)]
     script = cast(Any, Made(answers=[(word,) for word in answers.split()]))
     assert failing.went_well(script, call) is is_well
 
@@ -284,7 +291,7 @@ def test_units_need_those_that_make_their_objects() -> None:
     ]
     events = Made(all=[Made(kind=kind, named=named.get, timer=None) for kind, named in kinds])
     events.all.append(Made(kind="fire", named={}.get, timer=(0, "r")))
-    needs = Needs(cast(Any, events), [cast(Any, Made(events=[place])) for place in range(len(events.all))])
+    needs = Dependencies(cast(Any, events), [cast(Any, Made(events=[place])) for place in range(len(events.all))])
     assert needs.of == [set(), set(), {0}, set(), {1, 3}, {0, 2}, {4}]
     assert needs.by == [{2, 5}, {4}, {5}, {4}, {6}, set(), set()]
 
@@ -327,7 +334,7 @@ def test_words_that_are_no_target(words: str) -> None:
 def test_a_held_reference_of_a_socket_that_another_step_closed(closer: Optional[By], is_told: bool) -> None:
     notes = Made(closer={3: closer} if closer else {}, is_closed=lambda s: True, now={"gor 1": "idle", "lock 3": "9"})
     run = Made(notes=notes, facts=Made(held_references={}), end=9)
-    found = Kept(3, Hold(1, 5, "increfclose", ""), False, "", "").suspect(
+    found = KeptReference(3, Hold(1, 5, "increfclose", ""), False, "", "").suspect(
         cast(Any, run), "and is idle", cast(Any, (1, 2))
     )
     assert found.weight == 2 and any("can't be freed" in says for says in found.says) is is_told

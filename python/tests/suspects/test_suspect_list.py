@@ -15,7 +15,7 @@ from netrev.machine.observer import Observer
 from netrev.model.suspects import HUNTS, suspects
 from netrev.recording.notes import By
 from netrev.recording.recording import Recording
-from netrev.recording.suspect_list import HeldReference, Listed, LostWakeUp, OfDeadline, SuspectList
+from netrev.recording.suspect_list import HeldReference, SuspectEntries, LostWakeUp, OfDeadline, SuspectList
 from netrev.run.notes import Notes
 from netrev.system.interrupts import SearchInterruptedError, Interrupts
 from netrev.text.writing import write_plain
@@ -141,8 +141,8 @@ class Reading(SuspectList):
     def prepare(self) -> None:
         pass
 
-    def of(self, length: int) -> Listed:
-        return Listed(self.lines)
+    def of(self, length: int) -> SuspectEntries:
+        return SuspectEntries(self.lines)
 
 
 def found(recording: Recording, is_listed: bool = True) -> list[Suspect]:

@@ -6,7 +6,7 @@ import json
 import unittest
 from typing import Any, NamedTuple
 
-from dev.fuzz.generators.injections import Bug, Count, counted
+from dev.fuzz.generators.injections import Bug, BugCount, counted
 from netrev.findings.suspects.found import Suspect
 from netrev.findings.suspects.loading import RULES, RULES_OF_CALLS
 from netrev.findings.suspects.ranking import suspects_of
@@ -160,8 +160,8 @@ class Rules(unittest.TestCase):
                     self.assertEqual(found[:1], [example.suspect] if example.suspect else [])
 
     def test_planted_bugs_are_named_first_and_good_traffic_has_no_suspect(self) -> None:
-        self.assertEqual(counted(None, range(100, 106)), Count())
-        total = Count()
+        self.assertEqual(counted(None, range(100, 106)), BugCount())
+        total = BugCount()
         for bug in Bug:
             with self.subTest(bug.value):
                 count = counted(bug, range(100, 103))

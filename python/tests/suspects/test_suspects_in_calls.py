@@ -6,7 +6,7 @@ import unittest
 from typing import Any, Optional
 
 from netrev.findings.suspects.ranking import suspects_of
-from netrev.recording.where import Lines
+from netrev.recording.where import SourceLines
 
 from .test_suspects import COMES, OPEN, PARK, READ, WHILE, Steps, recording_of
 
@@ -27,7 +27,7 @@ def found(steps: Steps, functions: Optional[list[str]], others: str = "main.main
     return [one.rule for one in suspects_of(recording).suspects if one.is_shown]
 
 
-def lines_of(steps: Steps, functions: list[str], others: str) -> Lines:
+def lines_of(steps: Steps, functions: list[str], others: str) -> SourceLines:
     names = [others, *(POLL + name for name in functions)]
     told: list[Any] = [{"where": 1, "steps": len(steps)}]
     for number, name in enumerate(names, 1):
@@ -38,7 +38,7 @@ def lines_of(steps: Steps, functions: list[str], others: str) -> Lines:
     for place, at in enumerate(own):
         stacks[at] = 2 + min(place, len(functions) - 1)
     told.append({"step": 1, "stacks": stacks})
-    lines = Lines("\n".join(map(json.dumps, told)), len(steps))
+    lines = SourceLines("\n".join(map(json.dumps, told)), len(steps))
     assert lines and not lines.fault, lines.fault
     return lines
 

@@ -12,7 +12,7 @@ import pytest
 from netrev.findings.evidence.index import index_of
 from netrev.findings.evidence.waiters import is_waiting
 from netrev.recording.recording import Recording
-from netrev.recording.where import Call, Stack
+from netrev.recording.where import SourceCall, Stack
 from netrev.run.calls import book_of
 from netrev.timeline.calls import FAILED, HANGS
 from netrev.timeline.drawing import CLASS, EDGE, LEFT, LETTER, WIDE, drawing, fitted
@@ -34,7 +34,7 @@ def with_lines_of(text: str) -> Recording:
     recording = read("lost")
     stacks = recording.lines.stacks
     for number, stack in stacks.items():
-        stacks[number] = Stack(tuple(Call(text, text, 7, "program") for _ in stack.calls), stack.made)
+        stacks[number] = Stack(tuple(SourceCall(text, text, 7, "program") for _ in stack.calls), stack.made)
     return recording
 
 

@@ -17,7 +17,7 @@ from netrev.findings.suspects.ranking import all_suspects_of
 from netrev.recording.recording import Recording
 from netrev_go.go_command.line_reader import line_reader
 from netrev_go.go_command.toolchain import Go, find_go
-from netrev_go.log.lines import Roots, lines_of
+from netrev_go.log.lines import SourceRoots, lines_of
 from netrev_go.log.logfile import read_log
 from netrev_go.steps.converting import everybody_of, program_of
 from netrev_go.steps.making import make, write
@@ -94,7 +94,7 @@ def recorded(go: Go, program: pathlib.Path, words: list[str], name: pathlib.Path
         log = next(path for path in pathlib.Path(folder).iterdir() if ".program" not in path.name)
         read = read_log(log)
         made = make(read, all_bytes=False)
-        roots = Roots(go.sources(), pathlib.Path.cwd())
+        roots = SourceRoots(go.sources(), pathlib.Path.cwd())
         used = set(made.stacks) | made.everybody.stacks()
         calls = lines_of(read, used, program_of(log, read.program), line_reader(go), roots)
     write(made, name)

@@ -28,7 +28,7 @@ from netrev_go.go_command.toolchain import Go, overlay, quiet_go
 from netrev_go.log.logfile import NotALogError, copy_of, log_of
 from netrev_go.steps.analysis import check
 from netrev_go.steps.compare import by_the_model, differing
-from netrev_go.steps.making import NothingRecordedError, Recording, UnconvertibleError, make, write, write_words
+from netrev_go.steps.making import NothingRecordedError, NewRecording, UnconvertibleError, make, write, write_words
 
 from .go_untouched import go_of
 
@@ -54,7 +54,7 @@ class Came:
     left_out: Counter[str] = field(default_factory=Counter)
     wrong: list[str] = field(default_factory=list)
 
-    def add(self, recording: Recording, wrong: str) -> None:
+    def add(self, recording: NewRecording, wrong: str) -> None:
         self.made += 1
         self.steps += len(recording.lines)
         self.words += len(recording.words)
@@ -111,7 +111,7 @@ def copies(log: Path, count: int, points: int, chance: random.Random) -> Iterato
         assert time.monotonic() < end or passed > 2 * points, "too few points were passed"
 
 
-def compared(copy: bytes, name: Path, netrev: str) -> tuple[Recording | None, str]:
+def compared(copy: bytes, name: Path, netrev: str) -> tuple[NewRecording | None, str]:
     """The recording of a copy, and its fault if it has one."""
     with (name.parent / "copy").open("w+b") as file:
         file.write(copy)

@@ -19,7 +19,7 @@ from pathlib import Path
 
 from dev.recorder.fetching import SUITES, commands_of, is_here
 from netrev_go.go_command.run_folders import claim
-from netrev_go.go_command.running import Limits, environment, logs_in
+from netrev_go.go_command.running import RunLimits, environment, logs_in
 from netrev_go.go_command.toolchain import Go, overlay, quiet_go
 
 SOURCE = Path(__file__).with_suffix(".go")
@@ -61,7 +61,7 @@ class Programs:
         """A run without recording, a run with it, and the folder of the second run's logs."""
         self._runs += 1
         logs = claim(Path(tempfile.mkdtemp(dir=self._folder)))
-        settings = environment(logs, Limits(points=2**16))
+        settings = environment(logs, RunLimits(points=2**16))
         return self._run("plain", name, dict(os.environ)), self._run("recording", name, settings), logs
 
     def _run(self, program: str, name: str, settings: dict[str, str]) -> Run:

@@ -21,7 +21,7 @@ from nrdb.prompt.answers import ANSWERS
 from nrdb.web.painting import MOST_WAITING as MOST_PICTURES, Painter
 from nrdb.web.running import MOST_WAITING, Running
 from nrdb.web.serving import UnavailableError
-from nrdb.web.shared import Saying, Shared
+from nrdb.web.shared import OutputSender, Shared
 from tests.support.folders import folder_of
 from tests.support.modelled import Modelled, changes_at, recording_at
 
@@ -60,7 +60,9 @@ class Played(unittest.TestCase):
         self.streams, self.interrupts = Streams(), Interrupts()
         self.netrev = self.modelled()
         scout = Scout(self.modelled)
-        session = Session(self.netrev, TEXT, scout, Saying(self.streams), self.interrupts, ANSWERS, recorded=CHANGES)
+        session = Session(
+            self.netrev, TEXT, scout, OutputSender(self.streams), self.interrupts, ANSWERS, recorded=CHANGES
+        )
         session.begin(session.ask("info position"))
         self.opened: Callable[[Printer], Netrev] = self.refused
         self.running = Running(Shared.over(session, self.streams), lambda p: self.opened(p), self.streams, None)  # type: ignore

@@ -14,7 +14,7 @@ from netrev.findings.suspects.ranking import suspects_of
 from netrev.recording.recording import Recording
 from netrev.text.contents import Limits
 
-from .little_go import Program, Turns
+from .little_go import LittleProgram, Turns
 
 LIMITS = Limits(gor=1500, sock=120, desc=10, buf=64)
 LETTERS = range(ord("a"), ord("z") + 1)
@@ -69,7 +69,7 @@ class Planted(NamedTuple):
         return all(None in pair or pair[0] == pair[1] for pair in pairs)
 
 
-class Traffic(Program):
+class Traffic(LittleProgram):
     """Connections with goroutines that read, write, control and close them."""
 
     def __init__(self, seed: int, bug: Optional[Bug], length: int = 3_000):
@@ -325,7 +325,7 @@ class Traffic(Program):
         yield from self.decref(g, s)
 
 
-class Count(NamedTuple):
+class BugCount(NamedTuple):
     """The counts of a bug: how often it was planted and had a symptom, how often it was listed first, how often it was
     listed at all, and the number of other suspects."""
 
@@ -334,11 +334,11 @@ class Count(NamedTuple):
     named: int = 0
     besides: int = 0
 
-    def __add__(self, other: tuple[Any, ...]) -> "Count":
-        return Count(*(count + more for count, more in zip(self, other)))
+    def __add__(self, other: tuple[Any, ...]) -> "BugCount":
+        return BugCount(*(count + more for count, more in zip(self, other)))
 
 
-def judged(traffic: Traffic) -> Count:
+def judged(traffic: Traffic) -> BugCount:
     """What the rules find in a recording."""
     shown = [suspect for suspect in suspects_of(Recording(traffic.text())).suspects if suspect.is_shown]
     right = [
@@ -347,12 +347,12 @@ def judged(traffic: Traffic) -> Count:
         and any(planted.is_of(suspect) for planted in traffic.planted)
         for suspect in shown
     ]
-    return Count(int(traffic.symptom()), int(right[:1] == [True]), int(any(right)), right.count(False))
+    return BugCount(int(traffic.symptom()), int(right[:1] == [True]), int(any(right)), right.count(False))
 
 
-def counted(bug: Optional[Bug], seeds: range) -> Count:
+def counted(bug: Optional[Bug], seeds: range) -> BugCount:
     """The counts of a bug over these seeds: for recordings in which it is visible, or for recordings without a bug."""
-    total = Count()
+    total = BugCount()
     for seed in seeds:
         traffic = Traffic(seed, bug).run()
         if bug is None or traffic.symptom():

@@ -15,7 +15,7 @@ Turns = Generator[None, None, Any]  # a call: it yields after each of its steps,
 CLOSED, EOF = -1, 0  # in place of a count, a read may return one of these, or a negated code of the poller
 
 
-class Program:
+class LittleProgram:
     """A running program: the machine's state, the steps so far, and the goroutines with their remaining work."""
 
     def __init__(self, seed: int, limits: Limits):

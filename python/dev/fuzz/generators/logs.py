@@ -6,7 +6,7 @@ import struct
 from typing import Iterable, NamedTuple, Optional, Sequence
 
 from netrev_go.log.logfile import HEADER_BYTES, HOLDER_BYTES, HOLDER_CALL, MAGIC
-from netrev_go.log.points import Log, Point, Stack
+from netrev_go.log.points import Log, Point, PointStack
 
 STACKS = 256
 FULL = 2**64 - 1
@@ -26,7 +26,7 @@ class HolderRow(NamedTuple):
 
 def binary(
     points: Iterable[Point],
-    stacks: Optional[dict[int, Stack]] = None,
+    stacks: Optional[dict[int, PointStack]] = None,
     begin: int = 0,
     room: int = 0,
     passed: Optional[int] = None,
@@ -82,7 +82,7 @@ def from_text(text: str) -> tuple[bytes, Symbols]:
         if isinstance(line, list):
             points.append(Point(*line))
         elif "stack" in line:
-            stacks[line["stack"]] = Stack(line["made"], line["started"], tuple(line["calls"]))
+            stacks[line["stack"]] = PointStack(line["made"], line["started"], tuple(line["calls"]))
         elif "address" in line:
             symbols[line["address"]] = (line["function"], line["file"], line["line"])
         else:

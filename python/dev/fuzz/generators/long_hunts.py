@@ -16,12 +16,12 @@ from typing import Optional, Type
 
 from netrev.text.contents import Limits
 
-from .little_go import Program, Turns
+from .little_go import LittleProgram, Turns
 
 SEEDS = {"keeper": 17, "refused": 29}
 
 
-class Hunt(Program):
+class Hunt(LittleProgram):
     """A program that opens connections until it has made this many steps."""
 
     limits_of = Limits(gor=4000, sock=250, desc=24, buf=64)

@@ -16,8 +16,8 @@ from typing import Any
 from netrev.machine.in_place import Machine
 from netrev.text.contents import Limits, Step
 from netrev.text.reading import read_text
-from netrev_go.log.points import Kind, Log, Point
-from netrev_go.steps.making import NothingRecordedError, Recording, make
+from netrev_go.log.points import PointKind, Log, Point
+from netrev_go.steps.making import NothingRecordedError, NewRecording, make
 
 from .small_runtime import AGAIN, BROKEN_PIPE, MODES, NIL, NO_ERROR, OTHER, READY, WAIT, Descriptor, Runtime, Turns
 
@@ -31,7 +31,7 @@ PLACES = ("entering", "armed", "parking", "parked", "swapping", "checking")
 THEMES = ("reads", "writes", "deadlines", "closes", "locks", "")
 
 
-Check = Callable[[Recording], str]
+Check = Callable[[NewRecording], str]
 
 
 @dataclass(eq=False)
@@ -67,7 +67,7 @@ def choices_of(dice: random.Random) -> Choices:
     )  # fmt: skip
 
 
-class Program:
+class RandomProgram:
     """A program with a few goroutines that use a few sockets, together with the network and the poller."""
 
     def __init__(self, dice: random.Random) -> None:
@@ -187,7 +187,7 @@ class Program:
                 fd.input -= got
             elif not fd.peer_closed:
                 error = AGAIN
-            runtime.log(Kind.READ, g, fd.address, size, got, error)
+            runtime.log(PointKind.READ, g, fd.address, size, got, error)
             called.moved += max(got, 0)
             called.is_in_doubt |= fd.reset
             yield
@@ -219,7 +219,7 @@ class Program:
                 error = AGAIN
             if dice.random() < 0.1:
                 yield  # the point comes after the system call
-            runtime.log(Kind.WRITE, g, fd.address, size + max(put, 0), put, error)
+            runtime.log(PointKind.WRITE, g, fd.address, size + max(put, 0), put, error)
             called.moved += max(put, 0)
             called.is_in_doubt |= fd.reset or fd.shut
             yield
@@ -263,7 +263,7 @@ class Program:
             if self.dice.random() < 0.5:
                 yield  # another goroutine may log its point first
             fd.was_shut, called.name = True, "CloseWrite"
-            self.runtime.log(Kind.CLOSE_WRITE, g, fd.address)
+            self.runtime.log(PointKind.CLOSE_WRITE, g, fd.address)
             yield
             yield from self.runtime.decref(g, fd)
 
@@ -322,28 +322,28 @@ class Program:
     def notes(self) -> Iterator[None]:
         runtime = self.runtime
         self.noted_from = len(runtime.points)
-        runtime.log(Kind.NOTES_BEGIN, 0, 0, 1)
+        runtime.log(PointKind.NOTES_BEGIN, 0, 0, 1)
         for fd in [fd for fd in self.all if fd.pd and not fd.is_gone]:
             yield
             if not fd.is_gone:
                 self.note(fd)
-        runtime.log(Kind.NOTES_END, 0, 0, 1, 1)
+        runtime.log(PointKind.NOTES_END, 0, 0, 1, 1)
 
     def note(self, fd: Descriptor) -> None:
         log, pd = self.runtime.log, fd.pd
         assert pd
         fd.notes.append(len(self.runtime.points))
         fd.was_shut = fd.shut
-        log(Kind.NOTED, 0, fd.address, fd.word, pd.address, fd.counts["r"] | fd.counts["w"] << 32)
-        log(Kind.NOTED_POLL, 0, pd.address, fd.tag, pd.rseq, pd.wseq)
+        log(PointKind.NOTED, 0, fd.address, fd.word, pd.address, fd.counts["r"] | fd.counts["w"] << 32)
+        log(PointKind.NOTED_POLL, 0, pd.address, fd.tag, pd.rseq, pd.wseq)
         flags = pd.closing | pd.error << 1 | pd.rrun << 2 | pd.wrun << 3 | fd.shut << 4
         words = [WORDS.get(pd.words[side], 3) for side in "rw"]
-        log(Kind.NOTED_DEADLINES, 0, pd.address, pd.rd, pd.wd, flags | words[0] << 8 | words[1] << 10)
+        log(PointKind.NOTED_DEADLINES, 0, pd.address, pd.rd, pd.wd, flags | words[0] << 8 | words[1] << 10)
         for side, (g, place) in pd.places.items():
-            log(Kind.NOTED_INSIDE, g, pd.address, MODES[side], 1 + PLACES.index(place))
+            log(PointKind.NOTED_INSIDE, g, pd.address, MODES[side], 1 + PLACES.index(place))
         for side, queue in fd.queues.items():
             for g in queue:
-                log(Kind.NOTED_QUEUED, g, fd.address, MODES[side])
+                log(PointKind.NOTED_QUEUED, g, fd.address, MODES[side])
 
     def kept(self) -> list[Point]:
         """The points that are in the ring at the end."""
@@ -355,14 +355,14 @@ class Program:
         return points[self.dice.randrange(len(points) // 2) :]
 
 
-def program_of(seed: str) -> Program:
+def program_of(seed: str) -> RandomProgram:
     """The program of a seed, after its run."""
-    program = Program(random.Random(seed))
+    program = RandomProgram(random.Random(seed))
     program.run()
     return program
 
 
-def log_of(program: Program) -> Log:
+def log_of(program: RandomProgram) -> Log:
     points = program.kept()
     is_whole = not points or points[0].number == 0
     return Log(points, begin=program.runtime.begin, from_the_start=is_whole)
@@ -373,7 +373,7 @@ def wrong(seed: str) -> str:
     return wrong_with(program_of(seed))
 
 
-def wrong_with(program: Program, check: Check = lambda _: "") -> str:
+def wrong_with(program: RandomProgram, check: Check = lambda _: "") -> str:
     """The fault that the model finds, or, if it finds none, the fault that `check` finds."""
     log = log_of(program)
     try:
@@ -388,7 +388,7 @@ def wrong_by(seed: str, folder: Path, netrev: str) -> str:
     """The fault in the recording made from a seed's log; empty if the recording is right. The model checks it. For some seeds, netrev
     checks it too."""
 
-    def check(recording: Recording) -> str:
+    def check(recording: NewRecording) -> str:
         path = folder / "made.jsonl"
         path.write_bytes(text_of(recording))
         ran = subprocess.run([netrev, "check", path], stdout=subprocess.PIPE, check=False)
@@ -398,11 +398,11 @@ def wrong_by(seed: str, folder: Path, netrev: str) -> str:
     return wrong_with(program_of(seed), check) if is_asked else wrong_with(program_of(seed))
 
 
-def text_of(recording: Recording) -> bytes:
+def text_of(recording: NewRecording) -> bytes:
     return "".join(f"{line}\n" for line in (recording.header, *recording.lines)).encode()
 
 
-def replayed(recording: Recording) -> tuple[Machine, list[tuple[Step, Any]], str]:
+def replayed(recording: NewRecording) -> tuple[Machine, list[tuple[Step, Any]], str]:
     """The machine after the recording, its steps with their answers, and the first wrong answer."""
     text = read_text(text_of(recording))
     machine = Machine(Limits(*text.limits))
@@ -417,7 +417,9 @@ def replayed(recording: Recording) -> tuple[Machine, list[tuple[Step, Any]], str
     return machine, steps, ""
 
 
-def differs(program: Program, log: Log, recording: Recording, machine: Machine, steps: list[tuple[Step, Any]]) -> str:
+def differs(
+    program: RandomProgram, log: Log, recording: NewRecording, machine: Machine, steps: list[tuple[Step, Any]]
+) -> str:
     """What the recording lacks from the log: the final state of sockets and descriptors, the bytes, and each goroutine's steps."""
     sockets = sockets_of(program, log, recording)
     if not log.points or log.points[0].number == 0:
@@ -426,7 +428,7 @@ def differs(program: Program, log: Log, recording: Recording, machine: Machine, 
     for number, fd in sockets.items():
         if fault := socket_differs(program, recording, machine, number, fd):
             return f"socket {number}: {fault}"
-    since = max((point.number for point in log.points if point.kind == Kind.NOTES_END), default=-1)
+    since = max((point.number for point in log.points if point.kind == PointKind.NOTES_END), default=-1)
     points = [
         (point, socket.number) for point, socket in recording.points if not recording.prelude or point.number > since
     ]
@@ -434,22 +436,24 @@ def differs(program: Program, log: Log, recording: Recording, machine: Machine, 
     return bytes_differ(points, later) or order_differs(recording, points, later)
 
 
-def sockets_of(program: Program, log: Log, recording: Recording) -> dict[int, Descriptor]:
+def sockets_of(program: RandomProgram, log: Log, recording: NewRecording) -> dict[int, Descriptor]:
     """The sockets of a recording, by number, found by their first points."""
     by_first = {fd.first: fd for fd in program.all}
     found: dict[int, Descriptor] = {}
     for point, socket in recording.points:
         if socket.number not in found and socket.number >= 0:
-            found[socket.number] = by_first[point.number] if point.kind == Kind.INIT else noted(program, point)
+            found[socket.number] = by_first[point.number] if point.kind == PointKind.INIT else noted(program, point)
     return found
 
 
-def noted(program: Program, point: Point) -> Descriptor:
+def noted(program: RandomProgram, point: Point) -> Descriptor:
     """The socket whose state this point notes."""
     return next(fd for fd in program.all if fd.address == point.at and point.number in fd.notes)
 
 
-def socket_differs(program: Program, recording: Recording, machine: Machine, number: int, fd: Descriptor) -> str:
+def socket_differs(
+    program: RandomProgram, recording: NewRecording, machine: Machine, number: int, fd: Descriptor
+) -> str:
     runtime, socket, names = program.runtime, machine.sockets[number], recording.numbers
     state: dict[str, tuple[object, object]] = {
         "lock word": (socket.lock.number, fd.word),
@@ -485,19 +489,21 @@ def bytes_differ(points: list[tuple[Point, int]], steps: list[tuple[Step, Any]])
     """A message if a socket moved different numbers of bytes in the recording and in the log."""
     moved, had = Counter[tuple[int, str]](), Counter[tuple[int, str]]()
     for point, socket in points:
-        if point.kind in (Kind.READ, Kind.WRITE) and point.b > 0:
-            moved[socket, "put" if point.kind == Kind.WRITE else "got"] += point.b
+        if point.kind in (PointKind.READ, PointKind.WRITE) and point.b > 0:
+            moved[socket, "put" if point.kind == PointKind.WRITE else "got"] += point.b
     for step, answer in steps:
         if answer[0] in ("got", "put"):
             had[step[2], answer[0]] += answer[1]
     return "" if had == moved else f"by socket {dict(had)} bytes, and the log has {dict(moved)}"
 
 
-def order_differs(recording: Recording, points: list[tuple[Point, int]], steps: list[tuple[Step, Any]]) -> str:
+def order_differs(recording: NewRecording, points: list[tuple[Point, int]], steps: list[tuple[Step, Any]]) -> str:
     """The first step of a goroutine that differs from the log. Reads and writes aren't compared, because they may be split."""
     names = {number: name for name, number in recording.numbers.items()}
     expected = [
-        (SPELLED[Kind(point.kind)], point.goroutine, answer_of(point)) for point, _ in points if point.kind in SPELLED
+        (SPELLED[PointKind(point.kind)], point.goroutine, answer_of(point))
+        for point, _ in points
+        if point.kind in SPELLED
     ]
     found = [
         (step[0], names.get(step[1]), answer[0] if len(answer) == 1 else answer[1])
@@ -511,13 +517,13 @@ def order_differs(recording: Recording, points: list[tuple[Point, int]], steps: 
 
 
 SPELLED = {
-    Kind.INCREF: "incref", Kind.INCREF_CLOSE: "increfclose", Kind.DECREF: "decref", Kind.RW_LOCK: "rwlock",
-    Kind.RW_UNLOCK: "rwunlock", Kind.ACQUIRE: "acquire", Kind.RELEASE: "release", Kind.RESET: "pollreset",
-    Kind.WAIT_BEGIN: "waitbegin", Kind.ARM: "blockarm", Kind.CHECK: "blockcheck", Kind.PARK: "parkcommit",
-    Kind.SWAP: "blockswap", Kind.WAIT_CHECK: "waitcheck", Kind.EVICT: "evict", Kind.CLOSE: "pollclose",
-    Kind.SET_DEADLINE: "setdeadline",
+    PointKind.INCREF: "incref", PointKind.INCREF_CLOSE: "increfclose", PointKind.DECREF: "decref", PointKind.RW_LOCK: "rwlock",
+    PointKind.RW_UNLOCK: "rwunlock", PointKind.ACQUIRE: "acquire", PointKind.RELEASE: "release", PointKind.RESET: "pollreset",
+    PointKind.WAIT_BEGIN: "waitbegin", PointKind.ARM: "blockarm", PointKind.CHECK: "blockcheck", PointKind.PARK: "parkcommit",
+    PointKind.SWAP: "blockswap", PointKind.WAIT_CHECK: "waitcheck", PointKind.EVICT: "evict", PointKind.CLOSE: "pollclose",
+    PointKind.SET_DEADLINE: "setdeadline",
 }  # fmt: skip
-CODES = (Kind.RESET, Kind.WAIT_BEGIN, Kind.CHECK, Kind.WAIT_CHECK)
+CODES = (PointKind.RESET, PointKind.WAIT_BEGIN, PointKind.CHECK, PointKind.WAIT_CHECK)
 
 
 def answer_of(point: Point) -> object:
@@ -525,14 +531,14 @@ def answer_of(point: Point) -> object:
     kind, yes = point.kind, point.c & 2
     if kind in CODES:
         return point.b
-    if kind in (Kind.DECREF, Kind.RW_UNLOCK):
+    if kind in (PointKind.DECREF, PointKind.RW_UNLOCK):
         return "last" if yes else "notlast"
-    if kind in (Kind.INCREF, Kind.INCREF_CLOSE, Kind.RW_LOCK):
+    if kind in (PointKind.INCREF, PointKind.INCREF_CLOSE, PointKind.RW_LOCK):
         return "yes" if yes else "no" if point.a == point.b else "wait"
-    if kind == Kind.ACQUIRE:
+    if kind == PointKind.ACQUIRE:
         return "yes" if point.a else "wait"
-    if kind in (Kind.PARK, Kind.SWAP):
+    if kind in (PointKind.PARK, PointKind.SWAP):
         return "yes" if point.b else "no"
-    if kind == Kind.ARM:
+    if kind == PointKind.ARM:
         return 0 if point.b else "wait"
     return "done"

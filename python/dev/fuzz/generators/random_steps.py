@@ -8,7 +8,7 @@ from typing import Iterator, Optional, Sequence
 from netrev.machine.machine import IDLE, StepRefusedError, World
 from netrev.machine.steps import apply
 from netrev.run.flow import ASLEEP, step_by_status
-from netrev.text.contents import GREATEST_TIME, Answer, Limits, Recording, Step
+from netrev.text.contents import GREATEST_TIME, Answer, Limits, Contents, Step
 from netrev.text.reading import ARGUMENTS, KINDS, RANGES
 from netrev.text.vocabulary import COUNTED_ANSWERS, KINDS as OF_NRDB, PLAIN_ANSWERS, VERSIONS
 
@@ -102,7 +102,7 @@ class Author:
     def weight(self, of_theme: bool, weight: float) -> float:
         return weight * self.dice.random() ** 2 * (TIMES_AS_OFTEN if of_theme else 1) + 0.01
 
-    def recording(self, length: int) -> tuple[Recording, list[World]]:
+    def recording(self, length: int) -> tuple[Contents, list[World]]:
         """A Recording whose steps all apply, with their answers in version 2, and the states at all positions."""
         worlds = [World(self.limits)]
         steps: list[Step] = []
@@ -118,7 +118,7 @@ class Author:
             worlds.append(world)
             steps.append(step)
             answers.append(answer if self.version == 2 else None)
-        return Recording(self.version, self.limits, steps, answers), worlds
+        return Contents(self.version, self.limits, steps, answers), worlds
 
     def any_answer(self, kind: str) -> Optional[Answer]:
         """A recorded answer for a step that doesn't apply; netrev never compares it."""

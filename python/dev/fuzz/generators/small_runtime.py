@@ -8,7 +8,7 @@ from collections.abc import Generator
 from dataclasses import dataclass, field
 from typing import Any, Optional
 
-from netrev_go.log.points import Kind, Point
+from netrev_go.log.points import PointKind, Point
 
 Turns = Generator[None, None, Any]
 CLOSED, READ_BIT, WRITE_BIT, REFERENCE = 1, 2, 4, 8
@@ -23,7 +23,7 @@ NEVER = 2**63 - 1
 
 
 @dataclass(eq=False)
-class Timer:
+class RuntimeTimer:
     """A timer of a descriptor: `read` and `write` say whose deadline it is."""
 
     pd: PollDescriptor
@@ -93,12 +93,12 @@ class Runtime:
     newest: dict[int, int] = field(default_factory=dict)  # the number of each goroutine's last point
     free: list[PollDescriptor] = field(default_factory=list)
     descriptors: list[PollDescriptor] = field(default_factory=list)
-    heap: list[Timer] = field(default_factory=list)
-    popped: list[Timer] = field(default_factory=list)
+    heap: list[RuntimeTimer] = field(default_factory=list)
+    popped: list[RuntimeTimer] = field(default_factory=list)
     asleep: set[int] = field(default_factory=set)
     first_sequences: tuple[int, int] = (0, 0)
 
-    def log(self, kind: Kind, g: int, at: int, a: int = 0, b: int = 0, c: int = 0, time: int = 0) -> None:
+    def log(self, kind: PointKind, g: int, at: int, a: int = 0, b: int = 0, c: int = 0, time: int = 0) -> None:
         self.newest[g] = len(self.points)
         self.points.append(Point(len(self.points), int(kind), g, at, a, b, c, time, 0))
 
@@ -107,22 +107,22 @@ class Runtime:
     def incref(self, g: int, fd: Descriptor) -> Turns:
         old = fd.word
         if old & CLOSED:
-            self.log(Kind.INCREF, g, fd.address, old, old, 0)
+            self.log(PointKind.INCREF, g, fd.address, old, old, 0)
             yield
             return False
         fd.word = old + REFERENCE
-        self.log(Kind.INCREF, g, fd.address, old, fd.word, 2)
+        self.log(PointKind.INCREF, g, fd.address, old, fd.word, 2)
         yield
         return True
 
     def incref_and_close(self, g: int, fd: Descriptor) -> Turns:
         old = fd.word
         if old & CLOSED:
-            self.log(Kind.INCREF_CLOSE, g, fd.address, old, old, 0)
+            self.log(PointKind.INCREF_CLOSE, g, fd.address, old, old, 0)
             yield
             return False
         fd.word = ((old | CLOSED) + REFERENCE) & ~(MASKS["r"] | MASKS["w"])
-        self.log(Kind.INCREF_CLOSE, g, fd.address, old, fd.word, 2)
+        self.log(PointKind.INCREF_CLOSE, g, fd.address, old, fd.word, 2)
         yield
         for side in "rw":
             for _ in range((old & MASKS[side]) // WAITS[side]):
@@ -133,7 +133,7 @@ class Runtime:
         old = fd.word
         fd.word = old - REFERENCE
         is_last = fd.word & (CLOSED | REFERENCES) == CLOSED
-        self.log(Kind.DECREF, g, fd.address, old, fd.word, 2 * is_last)
+        self.log(PointKind.DECREF, g, fd.address, old, fd.word, 2 * is_last)
         yield
         if is_last:
             yield from self.destroy(g, fd)
@@ -143,12 +143,12 @@ class Runtime:
         while True:
             old = fd.word
             if old & CLOSED:
-                self.log(Kind.RW_LOCK, g, fd.address, old, old, is_read)
+                self.log(PointKind.RW_LOCK, g, fd.address, old, old, is_read)
                 yield
                 return False
             is_free = not old & LOCKED[side]
             fd.word = (old | LOCKED[side]) + REFERENCE if is_free else old + WAITS[side]
-            self.log(Kind.RW_LOCK, g, fd.address, old, fd.word, is_read + 2 * is_free)
+            self.log(PointKind.RW_LOCK, g, fd.address, old, fd.word, is_read + 2 * is_free)
             yield
             if is_free:
                 return True
@@ -161,7 +161,7 @@ class Runtime:
             new -= WAITS[side]
         fd.word = new
         is_last = new & (CLOSED | REFERENCES) == CLOSED
-        self.log(Kind.RW_UNLOCK, g, fd.address, old, new, int(side == "r") + 2 * is_last)
+        self.log(PointKind.RW_UNLOCK, g, fd.address, old, new, int(side == "r") + 2 * is_last)
         yield
         if old & MASKS[side]:
             yield from self.semrelease(g, fd, side)
@@ -176,7 +176,7 @@ class Runtime:
             else:
                 fd.queues[side].append(g)
                 self.asleep.add(g)
-            self.log(Kind.ACQUIRE, g, fd.address, int(has_one), int(side == "r"))
+            self.log(PointKind.ACQUIRE, g, fd.address, int(has_one), int(side == "r"))
             yield
             if has_one:
                 return
@@ -185,14 +185,14 @@ class Runtime:
         fd.counts[side] += 1
         if fd.queues[side]:
             self.asleep.discard(fd.queues[side].pop(0))
-        self.log(Kind.RELEASE, g, fd.address, 0, int(side == "r"))
+        self.log(PointKind.RELEASE, g, fd.address, 0, int(side == "r"))
         yield
 
     # runtime/netpoll.go
 
     def open(self, g: int, fd: Descriptor) -> Turns:
         fd.first = len(self.points)
-        self.log(Kind.INIT, g, fd.address, fd.number)
+        self.log(PointKind.INIT, g, fd.address, fd.number)
         yield
         if self.free:
             pd = self.free.pop()
@@ -205,7 +205,7 @@ class Runtime:
         pd.words = {"r": NIL, "w": NIL}
         pd.rd = pd.wd = 0
         fd.pd, fd.tag = pd, pd.fdseq if self.has_tags else 0
-        self.log(Kind.OPEN, g, pd.address, fd.number | fd.tag << 32, pd.rseq, pd.wseq)
+        self.log(PointKind.OPEN, g, pd.address, fd.number | fd.tag << 32, pd.rseq, pd.wseq)
         yield
 
     def destroy(self, g: int, fd: Descriptor) -> Turns:
@@ -215,20 +215,20 @@ class Runtime:
         pd.is_free = True
         pd.fdseq += 1
         self.free.append(pd)
-        self.log(Kind.CLOSE, g, pd.address)
+        self.log(PointKind.CLOSE, g, pd.address)
         yield
 
     def poll_reset(self, g: int, pd: PollDescriptor, side: str) -> Turns:
         code = pd.check(side)
         if code == 0:
             pd.words[side] = NIL
-        self.log(Kind.RESET, g, pd.address, MODES[side], code)
+        self.log(PointKind.RESET, g, pd.address, MODES[side], code)
         yield
         return code
 
     def poll_wait(self, g: int, pd: PollDescriptor, side: str) -> Turns:
         code = pd.check(side)
-        self.log(Kind.WAIT_BEGIN, g, pd.address, MODES[side], code)
+        self.log(PointKind.WAIT_BEGIN, g, pd.address, MODES[side], code)
         if code:
             yield
             return code
@@ -241,7 +241,7 @@ class Runtime:
                 yield
                 return 0
             code = pd.check(side)
-            self.log(Kind.WAIT_CHECK, g, pd.address, MODES[side], code)
+            self.log(PointKind.WAIT_CHECK, g, pd.address, MODES[side], code)
             if code:
                 pd.places.pop(side)
                 yield
@@ -252,13 +252,13 @@ class Runtime:
     def block(self, g: int, pd: PollDescriptor, side: str) -> Turns:
         was_ready = pd.words[side] == READY
         pd.words[side] = NIL if was_ready else WAIT
-        self.log(Kind.ARM, g, pd.address, MODES[side], int(was_ready))
+        self.log(PointKind.ARM, g, pd.address, MODES[side], int(was_ready))
         if was_ready:
             return True
         pd.places[side] = g, "armed"
         yield
         code = pd.check(side)
-        self.log(Kind.CHECK, g, pd.address, MODES[side], code)
+        self.log(PointKind.CHECK, g, pd.address, MODES[side], code)
         pd.places[side] = g, "swapping" if code else "parking"
         yield
         if code == 0:
@@ -266,12 +266,12 @@ class Runtime:
             if parks:
                 pd.words[side] = g
                 self.asleep.add(g)
-            self.log(Kind.PARK, g, pd.address, MODES[side], int(parks))
+            self.log(PointKind.PARK, g, pd.address, MODES[side], int(parks))
             pd.places[side] = g, "parked" if parks else "swapping"
             yield
         was_ready = pd.words[side] == READY
         pd.words[side] = NIL
-        self.log(Kind.SWAP, g, pd.address, MODES[side], int(was_ready))
+        self.log(PointKind.SWAP, g, pd.address, MODES[side], int(was_ready))
         pd.places[side] = g, "checking"
         if not was_ready:
             yield
@@ -293,13 +293,13 @@ class Runtime:
             self.unblock(pd, side, False)
         self.heap = [timer for timer in self.heap if timer.pd is not pd]
         pd.rrun = pd.wrun = False
-        self.log(Kind.EVICT, g, pd.address)
+        self.log(PointKind.EVICT, g, pd.address)
         yield
 
     def set_deadline(self, g: int, pd: PollDescriptor, mode: str, d: int, now: int) -> Turns:
         """Sets a deadline. `now` is the time that the goroutine reads from the clock. If d is 0, the deadline is
         removed; if d is negative, the deadline is in the past."""
-        self.log(Kind.SET_DEADLINE, g, pd.address, MODES[mode], d, 0, self.begin + now)
+        self.log(PointKind.SET_DEADLINE, g, pd.address, MODES[mode], d, 0, self.begin + now)
         if not pd.closing:
             rd, wd = pd.rd, pd.wd
             was_combo = rd > 0 and rd == wd
@@ -331,10 +331,10 @@ class Runtime:
     def arm(self, pd: PollDescriptor, read: bool, write: bool) -> None:
         if read:
             pd.rrun = True
-            self.heap.append(Timer(pd, pd.rd, pd.rseq, True, write))
+            self.heap.append(RuntimeTimer(pd, pd.rd, pd.rseq, True, write))
         else:
             pd.wrun = True
-            self.heap.append(Timer(pd, pd.wd, pd.wseq, False, True))
+            self.heap.append(RuntimeTimer(pd, pd.wd, pd.wseq, False, True))
 
     def stop(self, pd: PollDescriptor, read: bool) -> None:
         self.heap = [timer for timer in self.heap if timer.pd is not pd or timer.read != read]
@@ -343,21 +343,21 @@ class Runtime:
         else:
             pd.wrun = False
 
-    def due(self) -> list[Timer]:
+    def due(self) -> list[RuntimeTimer]:
         return [timer for timer in self.heap if timer.when <= self.begin + self.clock]
 
-    def pop(self, timer: Timer) -> None:
+    def pop(self, timer: RuntimeTimer) -> None:
         """A processor takes a due timer from its heap; it will run the timer's function."""
         self.heap.remove(timer)
         self.popped.append(timer)
 
-    def fire(self, timer: Timer) -> None:
+    def fire(self, timer: RuntimeTimer) -> None:
         """Runs a timer's function, netpolldeadlineimpl."""
         self.popped.remove(timer)
         pd = timer.pd
         is_stale = timer.seq != (pd.rseq if timer.read else pd.wseq)
         bits = timer.read + 2 * timer.write + 4 * is_stale
-        self.log(Kind.FIRE, 0, pd.address, timer.seq, bits, 0, self.begin + self.clock)
+        self.log(PointKind.FIRE, 0, pd.address, timer.seq, bits, 0, self.begin + self.clock)
         if is_stale:
             return
         if timer.read:
@@ -374,7 +374,7 @@ class Runtime:
         asked for events."""
         is_stale = self.has_tags and tag != pd.fdseq
         c = tag if self.has_tags else 0
-        self.log(Kind.EVENT, 0, pd.address, MODES[mode], int(is_error) + 2 * is_stale, c)
+        self.log(PointKind.EVENT, 0, pd.address, MODES[mode], int(is_error) + 2 * is_stale, c)
         if is_stale or pd.is_free:
             return
         pd.error = is_error

@@ -5,7 +5,7 @@ import random
 import re
 from itertools import chain
 
-from netrev.text.contents import Recording
+from netrev.text.contents import Contents
 from netrev.text.reading import ARGUMENTS, KINDS, MOST_DIGITS, RANGES
 from netrev.text.vocabulary import COUNTED_ANSWERS, PLAIN_ANSWERS, VERSIONS
 from netrev.text.writing import header_of, write_plain
@@ -56,7 +56,7 @@ NO_ANSWERS = [
 ]
 
 
-def write_text(dice: random.Random, recording: Recording) -> bytes:
+def write_text(dice: random.Random, recording: Contents) -> bytes:
     """The text of a recording in one of its possible forms."""
     plain = write_plain(recording)
     if dice.random() < 0.4:
@@ -78,7 +78,7 @@ def write_text(dice: random.Random, recording: Recording) -> bytes:
     return text if dice.random() < 0.3 else text + end
 
 
-def shuffled_header(dice: random.Random, recording: Recording) -> bytes:
+def shuffled_header(dice: random.Random, recording: Contents) -> bytes:
     """The header with its keys in any order, sometimes with a key twice."""
     items: list[tuple[str, object]] = list(header_of(recording).items())
     dice.shuffle(items)

@@ -8,7 +8,7 @@ from typing import Any, Callable, Iterable, Mapping, Optional, Sequence
 
 from netrev.machine.cells import look
 from netrev.machine.machine import World
-from netrev.model.session import Session
+from netrev.model.session import ModelSession
 from netrev.recording.words import LockWord, in_words
 from netrev.text.contents import Step
 from netrev.text.vocabulary import CELLS, Of, cell_of
@@ -28,7 +28,7 @@ DISTURBED = ("interrupted; the session goes on", "the netrev that looks at other
 class Judge:
     """Follows a session over a recording, with the states of the model."""
 
-    def __init__(self, steps: Sequence[Step], worlds: Sequence[World], session: Session) -> None:
+    def __init__(self, steps: Sequence[Step], worlds: Sequence[World], session: ModelSession) -> None:
         self.steps, self.worlds, self.session = steps, worlds, session
         self.position = 0
 

@@ -6,12 +6,12 @@ from dataclasses import replace
 from typing import NamedTuple, Optional
 
 from netrev.reduce.events import Event
-from netrev.run.flow import Sort
+from netrev.run.flow import OperationType
 
 from .scripts import Item, Operation, Script
 
 SIDE_OF = {"arrive": "r", "peerclose": "r", "drain": "w"}
-TRYING = {Sort.READ: ("sysread", "r"), Sort.WRITE: ("syswrite", "w")}
+TRYING = {OperationType.READ: ("sysread", "r"), OperationType.WRITE: ("syswrite", "w")}
 JUST_BEFORE = 0.4
 
 

@@ -6,7 +6,7 @@ from typing import NamedTuple, Optional
 
 from netrev.errors import NetrevError
 from netrev.machine.machine import Status
-from netrev.run.flow import BY_STATUS, NAMES, Came, Sort, came, first_step, step_by_status
+from netrev.run.flow import BY_STATUS, NAMES, Consequence, OperationType, came, first_step, step_by_status
 from netrev.text.contents import Answer, Step
 
 from .board import Board
@@ -18,7 +18,7 @@ GOROUTINE, CLOCK, UNKNOWN, NETWORK = range(4)  # the actors
 About = tuple[bool, int]  # True and a socket, or False and a use of a descriptor
 
 
-class Place(NamedTuple):
+class ScriptPlace(NamedTuple):
     """The place of a goroutine in its script. `operation` is its current operation, and `step_index` the number of that
     operation's recorded steps that it has made."""
 
@@ -30,14 +30,14 @@ class Place(NamedTuple):
     destroys: int = -1  # the use whose descriptor the goroutine has to free
 
 
-def number_of(operation: Operation, place: Place, kind: str) -> int:
+def number_of(operation: Operation, place: ScriptPlace, kind: str) -> int:
     """The number that a goroutine's next step, of this kind, has in the recording; 0 if the recording doesn't have that
     step."""
     index = place.step_index
     return operation.steps[index] if index < len(operation.kinds) and operation.kinds[index] == kind else 0
 
 
-def next_number(operations: list[Operation], place: Place) -> float:
+def next_number(operations: list[Operation], place: ScriptPlace) -> float:
     """The number of the next recorded step that a goroutine must still make."""
     index = place.step_index
     for at in range(place.operation, len(operations)):
@@ -47,7 +47,7 @@ def next_number(operations: list[Operation], place: Place) -> float:
     return NEVER
 
 
-class Stream:
+class WrittenStream:
     """The bytes of a write, and for each offset, the data of the tries that began there."""
 
     def __init__(self, operation: Operation) -> None:
@@ -141,50 +141,50 @@ class Numbers:
 
 
 def next_step(
-    board: Board, numbers: Numbers, g: int, place: Place, operation: Operation, stream: Optional[Stream]
+    board: Board, numbers: Numbers, g: int, place: ScriptPlace, operation: Operation, stream: Optional[WrittenStream]
 ) -> Step:
     """The next step of a goroutine; raises MissingObjectError if another goroutine must first make the step's object."""
     if step := step_by_status(g, board.goroutines[g]):
         return step
     if place.destroys >= 0:
-        return first_step(Sort.DESTROY, g, numbers.descriptors[place.destroys], "", ())
-    sort, values = Sort.WAIT if place.is_waiting else operation.sort, operation.values
-    if sort is Sort.READ:
+        return first_step(OperationType.DESTROY, g, numbers.descriptors[place.destroys], "", ())
+    sort, values = OperationType.WAIT if place.is_waiting else operation.sort, operation.values
+    if sort is OperationType.READ:
         values = (operation.values[place.tries],)
-    elif sort is Sort.WRITE:
+    elif sort is OperationType.WRITE:
         assert stream
         values = (stream.at(place.tries, place.waits),)
-    elif sort is Sort.WAIT:
+    elif sort is OperationType.WAIT:
         values = ()
     return first_step(sort, g, numbers.needed(_about(sort, operation)), operation.side, values)
 
 
-def _about(sort: Sort, operation: Operation) -> Optional[About]:
+def _about(sort: OperationType, operation: Operation) -> Optional[About]:
     """The object that the first step of this kind of operation names."""
     of = NAMES[sort].of
     return (True, operation.socket) if of == "s" else (False, operation.use) if of == "d" else None
 
 
-def is_about(status: Status, place: Place, operation: Operation) -> Optional[About]:
+def is_about(status: Status, place: ScriptPlace, operation: Operation) -> Optional[About]:
     """The object whose number the next step needs; None if the goroutine's status has the number, or if the step has no
     object."""
     if status[0] in BY_STATUS:
         return None
-    return _about(Sort.WAIT if place.is_waiting else operation.sort, operation)
+    return _about(OperationType.WAIT if place.is_waiting else operation.sort, operation)
 
 
 def behind(
-    place: Place, operation: Operation, kind: str, answer: Answer, status: str, stream: Optional[Stream]
-) -> Place:
+    place: ScriptPlace, operation: Operation, kind: str, answer: Answer, status: str, stream: Optional[WrittenStream]
+) -> ScriptPlace:
     """The goroutine's place after a step of this kind."""
     match came(kind, answer):
-        case Came.STAYS:
+        case Consequence.STAYS:
             return place
-        case Came.FAILS:
-            return Place(operation.on_failure)
-        case Came.WAITS:
+        case Consequence.FAILS:
+            return ScriptPlace(operation.on_failure)
+        case Consequence.WAITS:
             return place._replace(is_waiting=True, waits=place.waits + (kind == "waitbegin"))
-        case Came.READY:
+        case Consequence.READY:
             return _ready(place, operation)
     if kind == "sysread":
         return _read(place, operation, answer)
@@ -192,30 +192,30 @@ def behind(
         assert stream
         return _written(place, operation, answer, stream)
     if kind == "pollclose":
-        return Place(place.operation + 1)
+        return ScriptPlace(place.operation + 1)
     return _following(place, status)
 
 
-def _following(place: Place, status: str) -> Place:
+def _following(place: ScriptPlace, status: str) -> ScriptPlace:
     """The place after an operation has ended: at the next operation, unless the goroutine still owes a release or a
     destroy."""
-    return place if status == "owing" or place.destroys >= 0 else Place(place.operation + 1)
+    return place if status == "owing" or place.destroys >= 0 else ScriptPlace(place.operation + 1)
 
 
-def _ready(place: Place, operation: Operation) -> Place:
+def _ready(place: ScriptPlace, operation: Operation) -> ScriptPlace:
     """The place after a wait that ended because the descriptor was ready."""
-    if operation.sort is Sort.WAIT:
-        return Place(place.operation + 1)
+    if operation.sort is OperationType.WAIT:
+        return ScriptPlace(place.operation + 1)
     if operation.ends_unread and place.waits >= operation.kinds.count("waitbegin"):
-        return Place(operation.on_failure)
+        return ScriptPlace(operation.on_failure)
     return place._replace(is_waiting=False)
 
 
-def _read(place: Place, operation: Operation, answer: Answer) -> Place:
+def _read(place: ScriptPlace, operation: Operation, answer: Answer) -> ScriptPlace:
     is_more = answer[1] == operation.values[place.tries] and place.tries + 1 < len(operation.values)
-    return place._replace(tries=place.tries + 1) if is_more else Place(place.operation + 1)
+    return place._replace(tries=place.tries + 1) if is_more else ScriptPlace(place.operation + 1)
 
 
-def _written(place: Place, operation: Operation, answer: Answer, stream: Stream) -> Place:
+def _written(place: ScriptPlace, operation: Operation, answer: Answer, stream: WrittenStream) -> ScriptPlace:
     tries = place.tries + answer[1]
-    return place._replace(tries=tries, waits=0) if tries < len(stream.bytes) else Place(place.operation + 1)
+    return place._replace(tries=tries, waits=0) if tries < len(stream.bytes) else ScriptPlace(place.operation + 1)

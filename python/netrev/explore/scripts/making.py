@@ -1,9 +1,9 @@
 """Makes the script of a recording."""
 
 from netrev.recording.recording import Recording
-from netrev.recording.where import Lines
+from netrev.recording.where import SourceLines
 from netrev.reduce.events import Events
-from netrev.run.flow import Sort
+from netrev.run.flow import OperationType
 from netrev.text.contents import Limits
 
 from .operations import goroutines_of
@@ -44,10 +44,10 @@ def script_of(recording: Recording) -> Script:
     )
 
 
-def _mark_raw(goroutines: list[list[Operation]], lines: Lines) -> None:
+def _mark_raw(goroutines: list[list[Operation]], lines: SourceLines) -> None:
     """Marks the waits made through a RawConn, if the program's lines are known."""
     for operation in (operation for operations in goroutines for operation in operations):
-        if operation.sort is Sort.WAIT and operation.steps:
+        if operation.sort is OperationType.WAIT and operation.steps:
             calls = lines.of(operation.steps[0]).calls
             operation.is_raw = any(call.function in RAW for call in calls)
 

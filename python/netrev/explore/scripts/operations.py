@@ -3,7 +3,7 @@
 from typing import Any, Optional
 
 from netrev.reduce.events import Event, Events
-from netrev.run.flow import ENDS, LAST, SORTS, TRIES, Came, Sort, came
+from netrev.run.flow import ENDS, LAST, SORTS, TRIES, Consequence, OperationType, came
 from netrev.text.vocabulary import KINDS
 
 from .scripts import Operation
@@ -55,15 +55,15 @@ class TakenApart:
         """Records the end of a wait, if this step ended it."""
         last = self.last
         assert last
-        is_ready = came(event.kind, event.answer) is Came.READY
-        if is_ready and last.sort is Sort.WAIT:
+        is_ready = came(event.kind, event.answer) is Consequence.READY
+        if is_ready and last.sort is OperationType.WAIT:
             cause = self.last_events.get((last.use, last.side))
             last.is_brief = event.kind == "blockarm" and (cause is None or cause < last.steps[0])
             last.cause = None if last.is_brief else cause
-        if is_ready and last.sort in (Sort.READ, Sort.WRITE):
+        if is_ready and last.sort in (OperationType.READ, OperationType.WRITE):
             last.ends_unread = True  # until a try follows the wait
 
-    def _supposed(self, sort: Sort, socket: int, use: int = -1, side: str = "", *values: Any) -> None:
+    def _supposed(self, sort: OperationType, socket: int, use: int = -1, side: str = "", *values: Any) -> None:
         """Adds an operation that the recording doesn't show because the call ended before the operation."""
         self.operations.append(Operation(sort, socket, use, side, values))
 
@@ -71,14 +71,14 @@ class TakenApart:
         """Adds the tries that a call would have made. The recording doesn't show them, because the descriptor was
         closing or the deadline had passed."""
         if socket not in self.sizes:
-            self._supposed(Sort.WAIT, socket, use, side)
+            self._supposed(OperationType.WAIT, socket, use, side)
         elif side == "r":
-            self._supposed(Sort.READ, socket, use, side, self.sizes[socket])
+            self._supposed(OperationType.READ, socket, use, side, self.sizes[socket])
         else:
-            self._supposed(Sort.WRITE, socket, use, side, b"\0")
+            self._supposed(OperationType.WRITE, socket, use, side, b"\0")
 
     def _sockopen(self, event: Event) -> None:
-        self._adds(event, Operation(Sort.MAKE, event.arguments[2], values=event.arguments[:2]))
+        self._adds(event, Operation(OperationType.MAKE, event.arguments[2], values=event.arguments[:2]))
 
     def _pollopen(self, event: Event) -> None:
         use = next(at for at, candidate in enumerate(self.events.uses) if candidate.opened == event.number)
@@ -86,33 +86,33 @@ class TakenApart:
 
     def _rwlock(self, event: Event) -> None:
         _, s, side = event.arguments
-        if self.last and self.last.sort is Sort.LOCK and self.last.kinds[-1] == "acquire":
+        if self.last and self.last.sort is OperationType.LOCK and self.last.kinds[-1] == "acquire":
             self._goes_on(event)
         else:
             self._begins(event)
-        if came(event.kind, event.answer) is Came.FAILS:
+        if came(event.kind, event.answer) is Consequence.FAILS:
             use = self._use_of(s)
             if use is not None:
-                self._supposed(Sort.RESET, s, use, side)
+                self._supposed(OperationType.RESET, s, use, side)
                 self._supposed_try(s, use, side)
-            self._supposed(Sort.UNLOCK, s, -1, side)
+            self._supposed(OperationType.UNLOCK, s, -1, side)
 
     def _use_of(self, socket: int) -> Optional[int]:
         return next((at for at, use in enumerate(self.events.uses) if use.socket == socket), None)
 
     def _incref(self, event: Event) -> None:
         self._begins(event)
-        if came(event.kind, event.answer) is Came.FAILS:
-            self._supposed(Sort.GIVE_UP, event.arguments[1])
+        if came(event.kind, event.answer) is Consequence.FAILS:
+            self._supposed(OperationType.GIVE_UP, event.arguments[1])
 
     def _increfclose(self, event: Event) -> None:
         s = event.arguments[1]
         self._begins(event)
-        if came(event.kind, event.answer) is Came.FAILS:
+        if came(event.kind, event.answer) is Consequence.FAILS:
             use = self._use_of(s)
             if use is not None:
-                self._supposed(Sort.EVICT, s, use)
-            self._supposed(Sort.GIVE_UP, s)
+                self._supposed(OperationType.EVICT, s, use)
+            self._supposed(OperationType.GIVE_UP, s)
 
     def _socket_of(self, event: Event) -> int:
         socket = self.events.socket_of(event)
@@ -133,7 +133,7 @@ class TakenApart:
     def _pollreset(self, event: Event) -> None:
         _, use, side = event.arguments
         self._begins(event)
-        if came(event.kind, event.answer) is Came.FAILS:
+        if came(event.kind, event.answer) is Consequence.FAILS:
             self._supposed_try(self._socket_of(event), use, side)
 
     def _waitbegin(self, event: Event) -> None:
@@ -145,12 +145,12 @@ class TakenApart:
             self._begins(event)
 
     def _sysread(self, event: Event) -> None:
-        self._tries(Sort.READ, "r", event)
+        self._tries(OperationType.READ, "r", event)
 
     def _syswrite(self, event: Event) -> None:
-        self._tries(Sort.WRITE, "w", event)
+        self._tries(OperationType.WRITE, "w", event)
 
-    def _tries(self, sort: Sort, side: str, event: Event) -> None:
+    def _tries(self, sort: OperationType, side: str, event: Event) -> None:
         """Adds a try of a read or a write: the first try of a call, a try after a wait, or a further try if the call
         moves bytes in several steps."""
         last, (_, s, value) = self.last, event.arguments
@@ -158,13 +158,13 @@ class TakenApart:
         goes_on = last is not None and last.sort is sort and last.socket == s and last.steps and not is_over
         is_short = self.answer[:1] == ("got",) and last is not None and self.answer[1] < last.values[-1]
         if last is not None and goes_on and not is_short:
-            is_again = sort is Sort.READ and self.answer[:1] != ("got",)
+            is_again = sort is OperationType.READ and self.answer[:1] != ("got",)
             last.values = (*last.values[:-1], value) if is_again else (*last.values, value)
             last.ends_unread = False
             self._goes_on(event)
         else:
             last = self._adds(event, Operation(sort, s, self._use_at(s, event), side, (value,)))
-        if sort is Sort.WRITE:
+        if sort is OperationType.WRITE:
             last.moved.append(event.answer[1] if event.answer[0] == "put" else 0)
 
     def _use_at(self, socket: int, event: Event) -> int:
@@ -213,14 +213,14 @@ def _finish(operations: list[Operation], is_at_rest: bool) -> None:
     operations fails."""
     open_places: list[int] = []
     for at, operation in enumerate(operations):
-        if operation.sort in (Sort.LOCK, Sort.REFER, Sort.CLOSE):
+        if operation.sort in (OperationType.LOCK, OperationType.REFER, OperationType.CLOSE):
             open_places.append(at)
         elif operation.sort in ENDS:
             _end(operations, open_places, at)
     for at in reversed(open_places if not is_at_rest else []):
         begun = operations[at]
-        if begun.sort is Sort.LOCK:
-            operations.append(Operation(Sort.UNLOCK, begun.socket, -1, begun.side))
+        if begun.sort is OperationType.LOCK:
+            operations.append(Operation(OperationType.UNLOCK, begun.socket, -1, begun.side))
             _end(operations, [at], len(operations) - 1)
     for at, operation in enumerate(operations):
         operation.on_failure = operation.on_failure or at + 1

@@ -4,8 +4,8 @@ operations: one operation begins after another operation has ended."""
 
 from typing import NamedTuple, Optional, Sequence
 
-from .control import GOROUTINE, NETWORK, NEVER, Place
-from .scripts import Cause, Operation, Order
+from .control import GOROUTINE, NETWORK, NEVER, ScriptPlace
+from .scripts import Trigger, Operation, Order
 
 Pairs = Sequence[tuple[int, int]]
 Key = tuple[float, int]  # a due time, and the place among the actions with the same due time
@@ -42,7 +42,7 @@ def orders_of(goroutines: list[list[Operation]], pairs: Optional[Pairs]) -> Opti
     return [sorted(row) for row in orders]
 
 
-class Waiting:
+class Waiters:
     """The goroutines and sockets that wait for a goroutine. When that goroutine continues, the waiting goroutines check
     again at once. The network checks again for the waiting sockets when the network's action is due. If all of them
     would only wait again, the checks are skipped, and only their order is updated."""
@@ -54,8 +54,8 @@ class Waiting:
         self.until = NEVER  # the operation after which the first of these goroutines may continue
         self.again: Optional[Key] = None  # when the network checks again
 
-    def copy(self) -> "Waiting":
-        copy = Waiting()
+    def copy(self) -> "Waiters":
+        copy = Waiters()
         copy.__dict__.update(self.__dict__)
         copy.first, copy.network, copy.later = list(self.first), list(self.network), list(self.later)
         return copy
@@ -101,22 +101,22 @@ class Waiting:
         return [*((GOROUTINE, g) for g in self.first), *((NETWORK, s) for s in network), *self.later]
 
 
-class Passing:
+class OrderProgress:
     """For each goroutine, how many of its orders have been satisfied so far, and which goroutines and sockets wait for it."""
 
-    def __init__(self, orders: Optional[list[list[Order]]], causes: list[Cause], places: list[Place]) -> None:
+    def __init__(self, orders: Optional[list[list[Order]]], causes: list[Trigger], places: list[ScriptPlace]) -> None:
         self.orders, self.causes, self.places = orders, causes, places
         self.passed = [0] * len(places)  # for each goroutine, how many of its orders have been satisfied
         self.caused = 0  # the number of causes that have been made
-        self.waiting: dict[int, Waiting] = {}
+        self.waiting: dict[int, Waiters] = {}
 
-    def copy(self, places: list[Place]) -> "Passing":
-        copy = Passing(self.orders, self.causes, places)
+    def copy(self, places: list[ScriptPlace]) -> "OrderProgress":
+        copy = OrderProgress(self.orders, self.causes, places)
         copy.passed, copy.caused = list(self.passed), self.caused
         copy.waiting = {g: waiting.copy() for g, waiting in self.waiting.items()}
         return copy
 
-    def is_as(self, other: "Passing") -> bool:
+    def is_as(self, other: "OrderProgress") -> bool:
         """Whether, in both runs, the same goroutines and sockets wait for the same goroutines."""
         rows, its_rows = ({g: waiting.row() for g, waiting in each.waiting.items()} for each in (self, other))
         return rows == its_rows
@@ -152,13 +152,13 @@ class Passing:
         """Records that an actor waits for a goroutine to continue."""
         waiting = self.waiting.get(g)
         if waiting is None:
-            waiting = self.waiting[g] = Waiting()
+            waiting = self.waiting[g] = Waiters()
         waiting.settle(now)
         waiting.add(actor, which)
         if actor == GOROUTINE:
             waiting.until = min(waiting.until, self.waits_until(which))
 
-    def is_still_awaited(self, g: int, waiting: Waiting) -> bool:
+    def is_still_awaited(self, g: int, waiting: Waiters) -> bool:
         """Whether all waiters for a goroutine must keep waiting although the goroutine has continued."""
         place = self.places[g]
         if place.operation > waiting.until:
@@ -185,10 +185,10 @@ class Passing:
             waiting.settle((NEVER, 0))
 
 
-def causes_of(goroutines: list[list[Operation]], kinds: Sequence[str]) -> list[Cause]:
+def causes_of(goroutines: list[list[Operation]], kinds: Sequence[str]) -> list[Trigger]:
     """The steps to which another actor may react, in order."""
     return sorted(
-        Cause(number, g, at, place)
+        Trigger(number, g, at, place)
         for g, operations in enumerate(goroutines)
         for at, operation in enumerate(operations)
         for place, (number, kind) in enumerate(zip(operation.steps, operation.kinds))

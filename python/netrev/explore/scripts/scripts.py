@@ -6,7 +6,7 @@ from dataclasses import dataclass, field
 from typing import Any, NamedTuple, Optional
 
 from netrev.reduce.events import Event, Timer
-from netrev.run.flow import Sort
+from netrev.run.flow import OperationType
 from netrev.text.contents import Limits
 
 
@@ -15,7 +15,7 @@ class Operation:
     """A part of a call: its object, its recorded steps, and the operation with which its goroutine continues if this
     one fails."""
 
-    sort: Sort
+    sort: OperationType
     socket: int
     use: int = -1  # the use of a descriptor
     side: str = ""
@@ -47,7 +47,7 @@ class Order(NamedTuple):
     until: int
 
 
-class Cause(NamedTuple):
+class Trigger(NamedTuple):
     """A recorded step to which another actor may react: its number, its goroutine, its operation, and its index in the
     operation."""
 
@@ -71,7 +71,7 @@ class Script:
     creations: list[Item]
     sockets: list[int]  # the socket of each use
     ordinals: list[int]  # for each use, its ordinal among the uses of its descriptor, from 0
-    causes: list[Cause]
+    causes: list[Trigger]
     answers: list[tuple[Any, ...]]
     # for each goroutine, the orders that the recorder saw the program impose; None if the recording has no orders
     orders: Optional[list[list[Order]]] = None

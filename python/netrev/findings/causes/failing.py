@@ -145,7 +145,7 @@ def of_close(index: Index, call: Call, begins: str, deep: int) -> Cause:
     if others:
         says.append(f"{text_of_call(recording, others[0])} was inside too.")
     says += [] if ended else given_up_says(index, call, by)
-    before = Before([], []) if ended or after else why(index, by, deep)
+    before = EarlierFailures([], []) if ended or after else why(index, by, deep)
     looks = [f"goto {call.cause}", f"calls sock {call.socket}"]
     return Cause(call, [*says, *before.says], [call.first, call.cause], looks, 0, before.calls)
 
@@ -243,22 +243,22 @@ def is_late(index: Index, call: Call) -> bool:
     return by is not None and late_write(index, call, by) is not None
 
 
-class Before(NamedTuple):
+class EarlierFailures(NamedTuple):
     """The sentences about earlier failures, and the calls that failed."""
 
     says: list[str]
     calls: list[Call]
 
 
-def why(index: Index, by: Optional[Call], deep: int) -> Before:
+def why(index: Index, by: Optional[Call], deep: int) -> EarlierFailures:
     """The failure just before a Close, with its own cause. The end of a file isn't a failure."""
     before = index.before(by) if by else None
     if before is None or deep >= DEEP or not (before.outcome.is_error or before.outcome is Outcome.EOF):
-        return Before([], [])
+        return EarlierFailures([], [])
     if not before.last or (by and before.last > by.first) or is_of_a_file(index, before):
-        return Before([], [])
+        return EarlierFailures([], [])
     cause = cause_of(index, before, deep + 1)
-    return Before([f"Before that, {cause.says[0]}", *cause.says[1:]], [before, *cause.chain])
+    return EarlierFailures([f"Before that, {cause.says[0]}", *cause.says[1:]], [before, *cause.chain])
 
 
 def is_of_a_file(index: Index, call: Call) -> bool:

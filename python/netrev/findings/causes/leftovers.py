@@ -25,7 +25,7 @@ from .failing import cause_of
 FAREWELL = "crypto/tls.(*Conn).closeNotify"  # an alert that the other end needn't read
 
 
-class Place(NamedTuple):
+class FunctionLine(NamedTuple):
     """A function of the program, and a line of that function (0: unknown)."""
 
     function: str
@@ -176,7 +176,11 @@ def mixed_writes(index: Index) -> Iterator[Cause]:
             yield Cause(others[0], says, steps, [f"goto {others[0].first}", f"calls sock {first.socket}"])
 
 
-def place_of_function(recording: Recording, call: Call) -> Place:
+def place_of_function(recording: Recording, call: Call) -> FunctionLine:
     """The function of the program that makes a call, and the line of the call."""
     found = recording.lines.of(call.first).own()
-    return Place(found[0].function, found[0].line) if found and found[0].of == OF_THE_PROGRAM else Place("", 0)
+    return (
+        FunctionLine(found[0].function, found[0].line)
+        if found and found[0].of == OF_THE_PROGRAM
+        else FunctionLine("", 0)
+    )

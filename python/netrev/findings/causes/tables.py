@@ -8,7 +8,7 @@ from netrev.findings.evidence.index import index_of
 from netrev.findings.evidence.words import is_by_go, place_in
 from netrev.findings.hangs.hang_words import hang_looks, hang_says, tree_lines
 from netrev.findings.hangs.wait_graph import Hang, WaitGraph, graph_at
-from netrev.findings.http.requests import CancelledRequest, Request, cancelled_requests, requests_of
+from netrev.findings.http.requests import CancelledRequest, ClientRequests, cancelled_requests, requests_of
 from netrev.recording.call import Call
 from netrev.recording.recording import Recording
 from netrev.recording.waits import Name
@@ -91,7 +91,7 @@ def requests_table(recording: Recording) -> Table:
     """The requests of net/http's client whose connection is certain, grouped by line, goroutine and connection. Each
     group is followed by its requests that ended because their contexts ended."""
     index = index_of(recording)
-    alike: dict[tuple[Name, int, str], list[Request]] = defaultdict(list)
+    alike: dict[tuple[Name, int, str], list[ClientRequests]] = defaultdict(list)
     for request in requests_of(index):
         alike[request.name, request.socket, place_in(request.stack)].append(request)
     ended: dict[tuple[Name, int, str], list[CancelledRequest]] = defaultdict(list)
@@ -106,7 +106,7 @@ def requests_table(recording: Recording) -> Table:
     return Table("requests", rows, rest)
 
 
-def request_rows(recording: Recording, some: list[Request], ended: list[CancelledRequest]) -> list[Row]:
+def request_rows(recording: Recording, some: list[ClientRequests], ended: list[CancelledRequest]) -> list[Row]:
     """The row for a group of requests, followed by sentences about what ended them."""
     last, many = some[-1], sum(request.often for request in some)
     place = place_in(last.stack).strip()

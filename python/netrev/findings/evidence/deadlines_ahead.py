@@ -12,7 +12,7 @@ from .index import READING, Index
 from .words import name_of, place_of_step
 
 
-class Setting(NamedTuple):
+class DeadlineSetting(NamedTuple):
     """A `setdeadline` of a descriptor: its step, its goroutine, its sides, and the time until the deadline (0: no
     deadline, negative: in the past)."""
 
@@ -23,17 +23,17 @@ class Setting(NamedTuple):
 
 
 @lru_cache(maxsize=2)
-def settings_of(recording: Recording) -> dict[int, list[Setting]]:
+def settings_of(recording: Recording) -> dict[int, list[DeadlineSetting]]:
     """The calls that set each descriptor's deadlines, in order."""
-    found: dict[int, list[Setting]] = defaultdict(list)
+    found: dict[int, list[DeadlineSetting]] = defaultdict(list)
     for step in recording.steps_of(("setdeadline",), recording.length):
         named = (step.argument(name) for name in ("d", "g", "mode", "time"))
         descriptor, goroutine, sides, time = named
-        found[descriptor].append(Setting(step.number, goroutine, sides, time))
+        found[descriptor].append(DeadlineSetting(step.number, goroutine, sides, time))
     return found
 
 
-def deadline_ahead(index: Index, call: Call, position: int) -> Optional[Setting]:
+def deadline_ahead(index: Index, call: Call, position: int) -> Optional[DeadlineSetting]:
     """The deadline of a call that waits at a position; None if the call has no deadline."""
     side, begin = "r" if call.name in READING else "w", index.by_socket[call.socket][0].first
     settings = (
@@ -52,7 +52,7 @@ def until_words(index: Index, call: Call) -> str:
     return f"until the deadline of the {name_of(index.recording, call)}{at} passes"
 
 
-def setting_says(index: Index, setting: Setting) -> str:
+def setting_says(index: Index, setting: DeadlineSetting) -> str:
     """A sentence that names the line that set a deadline, and the time until the deadline."""
     at = place_of_step(index.recording, setting.step, setting.goroutine)
     return f"Its deadline was set{at}, {duration(setting.time)} ahead, and hasn't passed."

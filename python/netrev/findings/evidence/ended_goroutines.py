@@ -9,7 +9,7 @@ from netrev.findings.source.functions import Lines, function_of, indent_of
 from netrev.recording.call import Call as OneCall
 from netrev.recording.recording import Recording
 from netrev.recording.waits import Name
-from netrev.recording.where import OF_THE_PROGRAM, Call, Stack
+from netrev.recording.where import OF_THE_PROGRAM, SourceCall, Stack
 
 from .index import Index
 from .words import place_in, short
@@ -86,7 +86,7 @@ def loop_words(recording: Recording, stack: Stack) -> str:
     return ways_out(recording, own[0]) if len(own) > 1 else ""
 
 
-def ways_out(recording: Recording, call: Call) -> str:
+def ways_out(recording: Recording, call: SourceCall) -> str:
     """The lines that leave the loop around a line, as text, such as `, from whose loop only a.go:18 leads`; empty if no
     line or too many lines leave it."""
     leaves, over = leaves_of(recording, call), ranged_over(recording, call)
@@ -116,20 +116,20 @@ def left_by(index: Index, call: OneCall) -> str:
     return f", from whose loop {ways} lead{'' if found[1:] else 's'}" if len(found) <= MOST_LEAVES else ""
 
 
-def ranged_over(recording: Recording, call: Call) -> str:
+def ranged_over(recording: Recording, call: SourceCall) -> str:
     """What the innermost loop around a line ranges over; empty if the loop has no end of its own."""
     lines, head = loop_at(recording, call)
     found = re.search(r"\brange ([\w.]+) \{", lines[head - 1]) if head else None
     return found[1] if found else ""
 
 
-def leaves_of(recording: Recording, call: Call) -> list[int]:
+def leaves_of(recording: Recording, call: SourceCall) -> list[int]:
     """The lines that leave the innermost loop around a line of a function; none if there are many."""
     found = every_leave(recording, call)
     return found if len(found) <= MOST_LEAVES else []
 
 
-def every_leave(recording: Recording, call: Call) -> list[int]:
+def every_leave(recording: Recording, call: SourceCall) -> list[int]:
     """The lines that leave the innermost loop around a line of a function, if the loop is over a channel or has no
     condition."""
     lines, head = loop_at(recording, call)
@@ -139,7 +139,7 @@ def every_leave(recording: Recording, call: Call) -> list[int]:
     return [number for number in found if not is_inner_break(lines, head, number)]
 
 
-def loop_at(recording: Recording, call: Call) -> tuple[Lines, int]:
+def loop_at(recording: Recording, call: SourceCall) -> tuple[Lines, int]:
     """The lines of a call's file, and the line at which the innermost loop around the call begins; 0 if no loop
     surrounds it."""
     lines, within = function_of(recording, call)

@@ -4,10 +4,10 @@ from collections import defaultdict
 from operator import attrgetter
 from typing import Iterator, NamedTuple, Optional
 
-from netrev.recording.goroutines import FOR_ROOM, FOR_VALUE, PUT, TOOK, At, Use
+from netrev.recording.goroutines import FOR_ROOM, FOR_VALUE, PUT, TOOK, At, ObjectUse
 from netrev.recording.recording import Recording
-from netrev.recording.waits import Name, Waiting, Waits, name_of_goid
-from netrev.recording.where import Call, Stack
+from netrev.recording.waits import Name, ObjectWait, Waits, name_of_goid
+from netrev.recording.where import SourceCall, Stack
 
 GIVES = {FOR_VALUE: PUT, FOR_ROOM: TOOK}  # uses that end a wait on a channel
 GIVES_WORDS = {PUT: "put the last value there", TOOK: "took the last value there"}
@@ -29,7 +29,7 @@ class Ledger:
 
     def __init__(self, recording: Recording, waits: Waits) -> None:
         self._lines = recording.lines
-        self._locked: dict[int, list[Waiting]] = defaultdict(
+        self._locked: dict[int, list[ObjectWait]] = defaultdict(
             list
         )  # the waits at each object that isn't a channel, ordered by their ends
         for some in waits.of.values():
@@ -45,14 +45,14 @@ class Ledger:
         for use in sorted(uses, key=END, reverse=True):
             yield self._operation(use)
 
-    def _operation(self, use: Use) -> Operation:
+    def _operation(self, use: ObjectUse) -> Operation:
         return Operation(name_of_goid(self._lines, use.goid), use.what, self._lines.stacks[use.stack], use.last)
 
-    def lines_of(self, number: int) -> set[Call]:
+    def lines_of(self, number: int) -> set[SourceCall]:
         """The calls of the program in which goroutines have waited for a mutex. Each of these calls locks the mutex."""
         return {found[0] for wait in self._locked[number] if (found := wait.stack.own())}
 
-    def last_holder(self, number: int) -> Optional[Waiting]:
+    def last_holder(self, number: int) -> Optional[ObjectWait]:
         """Of a mutex's waits, the one that ended last; its goroutine then got the mutex. None if no wait has ended."""
         ended = [wait for wait in self._locked[number] if wait.last is not None]
         last = max(ended, key=attrgetter("last", "begin"), default=None)

@@ -8,7 +8,7 @@ from typing import Iterator
 
 from netrev.findings.source.functions import LITERAL, Lines, begin_of_literal, indent_of, range_of, source_of
 from netrev.recording.recording import Recording
-from netrev.recording.where import OF_THE_PROGRAM, Call
+from netrev.recording.where import OF_THE_PROGRAM, SourceCall
 
 from .ended_goroutines import loop_round
 
@@ -40,7 +40,7 @@ def shared_variables(recording: Recording, file: str) -> list[str]:
     return list(says)
 
 
-def shared_at(lines: Lines, statement: Call) -> Iterator[tuple[int, str]]:
+def shared_at(lines: Lines, statement: SourceCall) -> Iterator[tuple[int, str]]:
     """The loop around a `go` statement, and the loop's variables that the statement's function literal uses."""
     text = lines[statement.line - 1]
     within = range_of(lines, statement._replace(function=LITERAL.sub("", statement.function)))

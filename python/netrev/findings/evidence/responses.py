@@ -5,7 +5,7 @@ from typing import Optional
 
 from netrev.recording.call import Call
 from netrev.recording.goroutines import PUT, TOOK
-from netrev.recording.waits import Name, Waiting
+from netrev.recording.waits import Name, ObjectWait
 from netrev.recording.where import Stack
 
 from .index import MOVING, Index, back
@@ -13,7 +13,7 @@ from .index import MOVING, Index, back
 WRITE_LOOP, SERVE = "net/http.(*persistConn).writeLoop", "net/http.(*conn).serve"
 
 
-def socket_of(index: Index, wait: Waiting, position: int) -> Optional[int]:
+def socket_of(index: Index, wait: ObjectWait, position: int) -> Optional[int]:
     """The socket to which the waiter's request was written. The socket belongs to the connection whose goroutine last
     took a request from the waiter. That goroutine may have taken requests from other goroutines since."""
     lines = index.recording.lines

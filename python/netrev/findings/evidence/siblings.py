@@ -8,7 +8,7 @@ from typing import Collection, Iterable, NamedTuple, Optional
 from netrev.findings.source.functions import text_at
 from netrev.recording.recording import Recording
 from netrev.recording.waits import Name, name_of_goid, of_names
-from netrev.recording.where import OF_THE_PROGRAM, Call, Stack
+from netrev.recording.where import OF_THE_PROGRAM, SourceCall, Stack
 from netrev.run.calls import book_of
 from netrev.text.plurals import counted
 
@@ -22,13 +22,13 @@ class Kind(NamedTuple):
     """The goroutines that one `go` statement started: those that did something, those that ended without doing it, and
     those that may still do it."""
 
-    statement: Call
+    statement: SourceCall
     did: list[int]
     ended: list[int]
     alive: list[int]
 
 
-class Lines:
+class PassedLines:
     """The lines of the program that each goroutine is known to have passed, without the lines of deferred functions."""
 
     def __init__(self, recording: Recording) -> None:
@@ -47,27 +47,27 @@ class Lines:
                 found[name_of_goid(lines, use.goid)].add(use.stack)
         return found
 
-    def of(self, goid: int) -> set[Call]:
+    def of(self, goid: int) -> set[SourceCall]:
         """The lines of a goroutine."""
         stacks = self._recording.lines.stacks
         numbers = self._stacks.get(name_of_goid(self._recording.lines, goid), ())
         return {line for number in numbers for line in lines_in(stacks[number])}
 
 
-def lines_in(stack: Stack) -> set[Call]:
+def lines_in(stack: Stack) -> set[SourceCall]:
     return {call for call in stack.calls if call.of == OF_THE_PROGRAM and DEFERRED not in call.function}
 
 
 @lru_cache(maxsize=2)
-def lines_of(recording: Recording) -> Lines:
+def lines_of(recording: Recording) -> PassedLines:
     """The lines that the goroutines of a recording have passed."""
-    return Lines(recording)
+    return PassedLines(recording)
 
 
 def kinds_of(recording: Recording, did: Collection[int]) -> list[Kind]:
     """The `go` statements whose goroutines differ: some are in `did`, and others aren't. The statement with the most
     goroutines in `did` comes first."""
-    found: dict[Call, Kind] = {}
+    found: dict[SourceCall, Kind] = {}
     for goid, known in recording.lines.goroutines.items():
         if known.made and known.made.of == OF_THE_PROGRAM:
             kind = found.setdefault(known.made, Kind(known.made, [], [], []))
@@ -76,7 +76,7 @@ def kinds_of(recording: Recording, did: Collection[int]) -> list[Kind]:
     return sorted(kinds, key=lambda kind: -len(kind.did))
 
 
-def odd_goroutines(recording: Recording, goids: list[int]) -> Optional[tuple[list[int], Call]]:
+def odd_goroutines(recording: Recording, goids: list[int]) -> Optional[tuple[list[int], SourceCall]]:
     """The goroutines in `goids` that didn't pass a line, and the line. At least half of `goids` passed it."""
     passed = lines_of(recording)
     often = Counter(line for goid in goids for line in passed.of(goid))
@@ -88,7 +88,7 @@ def odd_goroutines(recording: Recording, goids: list[int]) -> Optional[tuple[lis
 
 
 def lines_words(
-    recording: Recording, odd: Iterable[int], others: Iterable[int], known: Collection[Call] = frozenset()
+    recording: Recording, odd: Iterable[int], others: Iterable[int], known: Collection[SourceCall] = frozenset()
 ) -> str:
     """Text for the lines that only goroutines in `odd` passed, and for the lines that only those in `others` passed: `;
     only they passed a.go:3 in ask`. Lines in `known` are left out. The result is empty if no such line exists."""
@@ -107,16 +107,16 @@ def lines_words(
     return "".join(f"; {some}" for some in words)
 
 
-def union(some: list[set[Call]]) -> set[Call]:
-    return set[Call]().union(*some)
+def union(some: list[set[SourceCall]]) -> set[SourceCall]:
+    return set[SourceCall]().union(*some)
 
 
-def is_end(recording: Recording, line: Call) -> bool:
+def is_end(recording: Recording, line: SourceCall) -> bool:
     """Whether a line is known to be nothing but the end of a function."""
     return text_at(recording, line).strip() == "}"
 
 
-def places(lines: set[Call]) -> str:
+def places(lines: set[SourceCall]) -> str:
     """The first few of these lines as text, ordered by file and line."""
     shown = sorted(lines, key=lambda line: (line.file, line.line))[:MOST_LINES]
     return " and ".join(f"{line.place()} in {short(line.function)}" for line in shown)

@@ -6,7 +6,7 @@ from typing import NamedTuple, Optional
 
 from netrev.recording.call import Call
 from netrev.recording.recording import Recording
-from netrev.recording.waits import ALL_REQUESTS, Name, Waiting, waits_of
+from netrev.recording.waits import ALL_REQUESTS, Name, ObjectWait, waits_of
 from netrev.recording.where import OF_THE_PROGRAM, Stack
 
 from .index import READING, WRITING, Index
@@ -23,7 +23,7 @@ class Waiter(NamedTuple):
     since: int
     stack: Stack
     call: Optional[Call] = None
-    wait: Optional[Waiting] = None
+    wait: Optional[ObjectWait] = None
 
     @property
     def is_of_go(self) -> bool:
@@ -70,7 +70,7 @@ def waiters_during(index: Index, position: int) -> dict[Name, Waiter]:
     return found
 
 
-def is_timed(recording: Recording, wait: Waiting) -> bool:
+def is_timed(recording: Recording, wait: ObjectWait) -> bool:
     """Whether a wait ends by itself: it is on the channel of a ticker, or of a timer that goes off after the end of the
     recording."""
     lines = recording.lines

@@ -5,8 +5,8 @@ from typing import Optional
 from netrev.connection.beginnings import begins_at
 from netrev.recording.call import Call, Outcome
 from netrev.recording.recording import Recording
-from netrev.recording.waits import Waiting
-from netrev.recording.where import OF_GO, OF_THE_PROGRAM, Call as LineCall, Stack
+from netrev.recording.waits import ObjectWait
+from netrev.recording.where import OF_GO, OF_THE_PROGRAM, SourceCall as LineCall, Stack
 from netrev.recording.words import duration as duration
 from netrev.text.plurals import counted
 
@@ -85,7 +85,7 @@ def is_of_a_lock(stack: Stack) -> bool:
     return any(call.function == "internal/poll.(*fdMutex).rwlock" for call in stack.calls)
 
 
-def waits_words(wait: Waiting) -> str:
+def waits_words(wait: ObjectWait) -> str:
     """What a goroutine that waits outside the poller does: `waits at main.go:44 in take for a value from a channel`."""
     does, what = wait.does.partition(" for ")[::2]
     return f"{does}{place_in(wait.stack)}" + (f" for {what}" if what else "")

@@ -6,11 +6,11 @@ from netrev.findings.evidence.waiters import Waiter
 from netrev.findings.evidence.words import text_of_call
 from netrev.recording.goroutines import PUT
 from netrev.recording.recording import Recording
-from netrev.recording.waits import Name, Waiting
+from netrev.recording.waits import Name, ObjectWait
 from netrev.text.plurals import counted
 
 
-def perhaps_dropped(recording: Recording, wait: Waiting, by: Waiter) -> list[str]:
+def perhaps_dropped(recording: Recording, wait: ObjectWait, by: Waiter) -> list[str]:
     """Sentences about a goroutine that wrote a request and waits for another goroutine to pass the answer on. That
     other goroutine has since got bytes and passed none of them on."""
     reader = by.call

@@ -16,8 +16,8 @@ from netrev.findings.source.lost_entries import entry_says
 from netrev.recording.call import Call
 from netrev.recording.goroutines import FOR_VALUE, PUT, TOOK
 from netrev.recording.recording import Recording
-from netrev.recording.waits import Name, Waiting, name_of_goid
-from netrev.recording.where import OF_THE_PROGRAM, Call as LineCall, Stack
+from netrev.recording.waits import Name, ObjectWait, name_of_goid
+from netrev.recording.where import OF_THE_PROGRAM, SourceCall as LineCall, Stack
 from netrev.text.plurals import counted
 
 from .handed_over import sockets_of_request, written_for
@@ -36,12 +36,12 @@ class Hand(NamedTuple):
     line: LineCall
 
 
-def is_for_values(wait: Waiting) -> bool:
+def is_for_values(wait: ObjectWait) -> bool:
     """Whether a goroutine waits only for values from channels."""
     return bool(wait.objects) and all(at.use == FOR_VALUE for at in wait.objects)
 
 
-def dropped_answer(index: Index, wait: Waiting, hands: Mapping[int, list[Hand]]) -> Optional[Need]:
+def dropped_answer(index: Index, wait: ObjectWait, hands: Mapping[int, list[Hand]]) -> Optional[Need]:
     """What a waiting goroutine needs: an answer that a goroutine in `hands` (keyed by socket) read and passed to no
     other goroutine. None if unknown."""
     sockets = sockets_of_request(index, wait) if hands else set()
@@ -53,7 +53,7 @@ def dropped_answer(index: Index, wait: Waiting, hands: Mapping[int, list[Hand]])
     return None
 
 
-def hands_of(recording: Recording, wait: Waiting, waiters: Mapping[Name, Waiter]) -> list[Hand]:
+def hands_of(recording: Recording, wait: ObjectWait, waiters: Mapping[Name, Waiter]) -> list[Hand]:
     """The goroutines that wait to read and that pass on what they read. Each has put a value into a channel, and the
     waiter's line received from that channel. A goroutine that is in a function which put such a value counts too. If no
     goroutine has put such a value, these are the goroutines in functions with a line that can put one."""
@@ -90,7 +90,7 @@ def hand_of(reader: Waiter, line: LineCall) -> Hand:
     return Hand(reader, reader.call, line)
 
 
-def by_source(recording: Recording, wait: Waiting, readers: Mapping[Name, Waiter]) -> list[Hand]:
+def by_source(recording: Recording, wait: ObjectWait, readers: Mapping[Name, Waiter]) -> list[Hand]:
     """The goroutines that read in a function and have not yet reached the line at which it puts a value into a channel.
     The waiter's line uses the same name for the channel."""
     own = wait.stack.own()
@@ -107,7 +107,7 @@ def by_source(recording: Recording, wait: Waiting, readers: Mapping[Name, Waiter
     return found
 
 
-def request_of(index: Index, wait: Waiting, socket: int) -> Optional[Call]:
+def request_of(index: Index, wait: ObjectWait, socket: int) -> Optional[Call]:
     """The last Write of a goroutine to a socket before it waits. If the waiter made no Write, the result is the first
     Write of a goroutine that got the request from the waiter."""
     calls = [] if wait.name.is_goid else index.by_goroutine.get(wait.name.number, [])
@@ -124,7 +124,7 @@ def read_since(index: Index, hand: Hand, request: Call) -> Optional[Call]:
     return next((read for read in reversed(reads) if request.first < read.last < hand.call.first), None)
 
 
-def has_put(recording: Recording, wait: Waiting, read: Call) -> bool:
+def has_put(recording: Recording, wait: ObjectWait, read: Call) -> bool:
     """Whether a goroutine put a value into one of a wait's channels after a Read."""
     uses = (use for at in wait.objects for use in recording.lines.uses.get(at.object, ()))
     return any(use.what == PUT and use.last >= read.last for use in uses)
@@ -153,7 +153,7 @@ def reads_on(index: Index, goroutine: int, socket: int) -> bool:
     return now is not None and now.name == "Read" and now.socket == socket
 
 
-def says_of(index: Index, wait: Waiting, hand: Hand, request: Call, read: Call) -> list[str]:
+def says_of(index: Index, wait: ObjectWait, hand: Hand, request: Call, read: Call) -> list[str]:
     """The sentences about the request, the goroutine that read the answer, and the lines at which that goroutine
     continues without passing the answer on."""
     recording, name = index.recording, hand.reader.name

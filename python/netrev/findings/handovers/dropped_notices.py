@@ -10,15 +10,15 @@ from netrev.findings.source.functions import Lines, indent_of, range_of, text_at
 from netrev.findings.source.package import files_of, place_of_variable
 from netrev.recording.goroutines import FOR_VALUE, PUT
 from netrev.recording.recording import Recording
-from netrev.recording.waits import Waiting
-from netrev.recording.where import OF_THE_PROGRAM, Call
+from netrev.recording.waits import ObjectWait
+from netrev.recording.where import OF_THE_PROGRAM, SourceCall
 
 SENDS = re.compile(r"\s*case ([\w.]+)(?:\[[^\]]*\])? <- ")
 DEFAULT = re.compile(r"\s*default:")
 MOST, MOST_FRAMES, NEAR = 2, 6, 8
 
 
-def dropped_notices(recording: Recording, wait: Waiting) -> list[str]:
+def dropped_notices(recording: Recording, wait: ObjectWait) -> list[str]:
     """Sentences about the lines that may drop a value; none if the source has no such line."""
     own = wait.stack.own()
     if not own or own[0].of != OF_THE_PROGRAM or not any(at.use == FOR_VALUE for at in wait.objects):
@@ -35,7 +35,7 @@ def dropped_notices(recording: Recording, wait: Waiting) -> list[str]:
         for name in names_at(recording, own[0])
         for file, lines in files_of(recording, own[0].file)
         for number in range(1, len(lines) + 1)
-        if is_dropping(recording, own[0], name, Call("", file, number, OF_THE_PROGRAM), lines)
+        if is_dropping(recording, own[0], name, SourceCall("", file, number, OF_THE_PROGRAM), lines)
     ]  # fmt: skip
     found = [place for place in found if any(is_near(place, line) for line in passed)]
     if not found:
@@ -54,7 +54,7 @@ def is_near(place: str, other: str) -> bool:
     return file == other_file and 0 <= int(number) - int(other_number) <= NEAR
 
 
-def names_at(recording: Recording, call: Call) -> list[str]:
+def names_at(recording: Recording, call: SourceCall) -> list[str]:
     """The channels from which the line of a call takes values; for a select, the channels of all its cases."""
     taken = TAKES.search(text_at(recording, call))
     if taken:
@@ -63,7 +63,7 @@ def names_at(recording: Recording, call: Call) -> list[str]:
     return [name for name in channels_of(lines, call.line) if not name.endswith(".Done")] if lines else []
 
 
-def is_dropping(recording: Recording, own: Call, name: str, line: Call, lines: Lines) -> bool:
+def is_dropping(recording: Recording, own: SourceCall, name: str, line: SourceCall, lines: Lines) -> bool:
     """Whether a line is a case of a select with a `default`, and puts a value into the channel that `own` uses under
     this name. If the name has no dot, the line must be in the same function as `own`."""
     sends = SENDS.match(lines[line.line - 1].partition("//")[0])

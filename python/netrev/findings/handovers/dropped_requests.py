@@ -9,9 +9,9 @@ from netrev.findings.evidence.words import place_in
 from netrev.findings.pools.senders import givings_at
 from netrev.findings.pools.stopped_timers import timers_of_select, ways_past_reset
 from netrev.findings.source.functions import range_of, source_of
-from netrev.recording.goroutines import FOR_VALUE, PUT, TOOK, Use
+from netrev.recording.goroutines import FOR_VALUE, PUT, TOOK, ObjectUse
 from netrev.recording.recording import Recording
-from netrev.recording.waits import Name, Waiting, name_of_goid, waits_of
+from netrev.recording.waits import Name, ObjectWait, name_of_goid, waits_of
 from netrev.recording.where import OF_THE_PROGRAM
 
 from .dropped_answers import ways_past, ways_words
@@ -22,12 +22,12 @@ class Taken(NamedTuple):
     """A goroutine that took a request and waits for the next request, and the line at which it would send an answer."""
 
     taker: Waiter
-    use: Use
+    use: ObjectUse
     file: str
     line: int
 
 
-def dropped_request(recording: Recording, wait: Waiting, waiters: Mapping[Name, Waiter]) -> Optional[Need]:
+def dropped_request(recording: Recording, wait: ObjectWait, waiters: Mapping[Name, Waiter]) -> Optional[Need]:
     """What a waiting goroutine needs: an answer to a request that another goroutine took but didn't answer. None if
     unknown."""
     if not wait.objects or any(at.use != FOR_VALUE for at in wait.objects):
@@ -51,7 +51,7 @@ def dropped_request(recording: Recording, wait: Waiting, waiters: Mapping[Name, 
     return Need([says, f"Perhaps {name} left it without an answer: {goes}."], is_odd=True)
 
 
-def answered_before(recording: Recording, wait: Waiting) -> int:
+def answered_before(recording: Recording, wait: ObjectWait) -> int:
     """The step after which a goroutine's last wait at the same line ended; 0 if no wait there has ended."""
     earlier = (
         past_wait
@@ -72,13 +72,15 @@ def left_to_a_timer(recording: Recording, taker: Waiter) -> str:
     return f"Perhaps {taker.name} keeps it until a timer goes off. {says[0]}" if is_skipped else ""
 
 
-def has_answer(recording: Recording, wait: Waiting, request: Use) -> bool:
+def has_answer(recording: Recording, wait: ObjectWait, request: ObjectUse) -> bool:
     """Whether a goroutine put a value into one of a wait's channels after a request."""
     uses = (use for at in wait.objects for use in recording.lines.uses.get(at.object, ()))
     return any(use.what == PUT and use.end >= request.end for use in uses)
 
 
-def taker_of(recording: Recording, wait: Waiting, request: Use, waiters: Mapping[Name, Waiter]) -> Optional[Taken]:
+def taker_of(
+    recording: Recording, wait: ObjectWait, request: ObjectUse, waiters: Mapping[Name, Waiter]
+) -> Optional[Taken]:
     """The goroutine that took a request. The result is None unless all requests were taken, and each goroutine that
     took a request has ended or waits for the next request."""
     lines, number = recording.lines, request.object
@@ -96,7 +98,7 @@ def taker_of(recording: Recording, wait: Waiting, request: Use, waiters: Mapping
     return None
 
 
-def is_free(recording: Recording, use: Use, number: int, waiters: Mapping[Name, Waiter]) -> bool:
+def is_free(recording: Recording, use: ObjectUse, number: int, waiters: Mapping[Name, Waiter]) -> bool:
     """Whether a goroutine has ended, or waits on a channel."""
     known = recording.lines.goroutines.get(use.goid)
     waiter = waiters.get(name_of_goid(recording.lines, use.goid))
@@ -104,7 +106,7 @@ def is_free(recording: Recording, use: Use, number: int, waiters: Mapping[Name, 
     return waits or known is not None and known.last >= 0
 
 
-def answer_line(recording: Recording, wait: Waiting, file: str, taker: Waiter) -> int:
+def answer_line(recording: Recording, wait: ObjectWait, file: str, taker: Waiter) -> int:
     """The line that puts a value into the channel on which the other goroutine waits, found by the channel's name. The
     line comes after the taker's wait, in a function that the taker is in or in one of its function literals. The result
     is 0 if no such line exists in the file."""

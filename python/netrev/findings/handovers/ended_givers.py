@@ -13,15 +13,15 @@ from netrev.findings.pools.senders import PUTS, WORDS, Giving, givings_at, givin
 from netrev.findings.source.functions import source_of, text_at
 from netrev.recording.goroutines import A_SELECT, FOR_VALUE
 from netrev.recording.recording import Recording
-from netrev.recording.waits import Waiting, name_of_goid, of_names
-from netrev.recording.where import OF_THE_PROGRAM, Call
+from netrev.recording.waits import ObjectWait, name_of_goid, of_names
+from netrev.recording.where import OF_THE_PROGRAM, SourceCall
 
 STARTS = re.compile(r"\bgo (?:[\w.]+\.)?(\w+)\(")
 FUNCTION = re.compile(r"func (?:\([^)]*\) )?(\w+)[(\[]")
 MOST = 50  # the most goroutines to examine
 
 
-def ended_giver(index: Index, wait: Waiting) -> Optional[Need]:
+def ended_giver(index: Index, wait: ObjectWait) -> Optional[Need]:
     """What a waiting goroutine needs: a value, or room for one. Other goroutines ended before they provided it, and
     perhaps should have. None if no such goroutine is found."""
     own, recording = wait.stack.own(), index.recording
@@ -42,14 +42,14 @@ def ended_giver(index: Index, wait: Waiting) -> Optional[Need]:
     return need_of(index, wait, found[first], own[0], first) if first else None
 
 
-def givings_of_select(recording: Recording, call: Call) -> list[Giving]:
+def givings_of_select(recording: Recording, call: SourceCall) -> list[Giving]:
     """The lines that put values into channels for which a select has a case."""
     lines = source_of(recording, call.file)
     names = [name for name in channels_of(lines, call.line) if not name.endswith(DONE)] if lines else []
     return [giving for name in names for giving in givings_of(lines, call, name, PUTS)] if lines else []
 
 
-def need_of(index: Index, wait: Waiting, found: list[int], own: Call, number: int) -> Need:
+def need_of(index: Index, wait: ObjectWait, found: list[int], own: SourceCall, number: int) -> Need:
     """What a waiting goroutine needs. The goroutines in `found` ended before they reached the line that would have
     ended the wait."""
     lines, names = index.recording.lines, [name_of_goid(index.recording.lines, goid) for goid in found]
@@ -64,7 +64,9 @@ def need_of(index: Index, wait: Waiting, found: list[int], own: Call, number: in
     return Need([says], gone=names[0] if len(names) == 1 else None, is_odd=True, ended=tuple(names))
 
 
-def ended_before(recording: Recording, wait: Waiting, file: str, givings: list[Giving]) -> Iterator[tuple[int, Call]]:
+def ended_before(
+    recording: Recording, wait: ObjectWait, file: str, givings: list[Giving]
+) -> Iterator[tuple[int, SourceCall]]:
     """The goroutines that ended without passing one of these lines, latest first, each with the `go` statement that
     started it. If the waiter started some of these goroutines, the result has only those."""
     waiter, passed, numbers = goid_of(recording, wait.name), lines_of(recording), {giving.number for giving in givings}
@@ -76,7 +78,7 @@ def ended_before(recording: Recording, wait: Waiting, file: str, givings: list[G
             yield goid, statement
 
 
-def upcoming(recording: Recording, goid: int, statement: Call, file: str, givings: list[Giving]) -> int:
+def upcoming(recording: Recording, goid: int, statement: SourceCall, file: str, givings: list[Giving]) -> int:
     """The line at which a goroutine would next have given or taken a value; 0 if unknown. The goroutine passed earlier
     lines of that function, or it started in the function and passed no known line of it."""
     passed = lines_of(recording).of(goid)
@@ -87,7 +89,7 @@ def upcoming(recording: Recording, goid: int, statement: Call, file: str, giving
     return 0
 
 
-def starts(recording: Recording, statement: Call, file: str, giving: Giving) -> bool:
+def starts(recording: Recording, statement: SourceCall, file: str, giving: Giving) -> bool:
     """Whether a `go` statement starts the function of a line."""
     if statement.file != file:
         return False

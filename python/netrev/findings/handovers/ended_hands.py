@@ -13,9 +13,9 @@ from netrev.findings.evidence.words import ENDED, text_of_call
 from netrev.findings.pools.balances import has_ended
 from netrev.findings.pools.new_channels import channel_since
 from netrev.recording.call import Call as OneCall
-from netrev.recording.goroutines import FOR_VALUE, PUT, TOOK, Use
-from netrev.recording.waits import Name, Waiting, name_of_goid, of_names
-from netrev.recording.where import OF_THE_PROGRAM, Call
+from netrev.recording.goroutines import FOR_VALUE, PUT, TOOK, ObjectUse
+from netrev.recording.waits import Name, ObjectWait, name_of_goid, of_names
+from netrev.recording.where import OF_THE_PROGRAM, SourceCall
 
 MOST_NAMED = 4
 
@@ -25,11 +25,11 @@ class EndedHand(NamedTuple):
     so."""
 
     name: Name
-    use: Use
-    line: Call
+    use: ObjectUse
+    line: SourceCall
 
 
-def ended_hand(index: Index, wait: Waiting) -> Optional[Need]:
+def ended_hand(index: Index, wait: ObjectWait) -> Optional[Need]:
     """What a goroutine needs if it waits for a value, and all goroutines that provided values for its line have ended.
     The result is None if one of these goroutines hasn't ended, or if no goroutine provided values."""
     lines, own = index.recording.lines, wait.stack.own()
@@ -46,7 +46,7 @@ def ended_hand(index: Index, wait: Waiting) -> Optional[Need]:
 
 
 @lru_cache(maxsize=256)
-def hands_at(index: Index, line: Call) -> tuple[EndedHand, ...]:
+def hands_at(index: Index, line: SourceCall) -> tuple[EndedHand, ...]:
     """The goroutines that put values into the channels from which a line received, in the order of their last puts."""
     lines, found = index.recording.lines, dict[Name, EndedHand]()
     taken = [

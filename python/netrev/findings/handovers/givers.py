@@ -5,13 +5,13 @@ from netrev.findings.evidence.ledger import GIVES
 from netrev.findings.evidence.words import place_in, since_begin
 from netrev.recording.goroutines import CLOSED, FOR_ROOM, FOR_VALUE, TOOK
 from netrev.recording.recording import Recording
-from netrev.recording.waits import Waiting, name_of_goid
-from netrev.recording.where import Call, Stack
+from netrev.recording.waits import ObjectWait, name_of_goid
+from netrev.recording.where import SourceCall, Stack
 
 MOST_GIVEN = 50  # the most uses to examine
 
 
-def untouched(recording: Recording, wait: Waiting) -> list[str]:
+def untouched(recording: Recording, wait: ObjectWait) -> list[str]:
     """A sentence which says that no goroutine has yet done the awaited operation on a channel."""
     uses = recording.lines.uses.get(wait.objects[0].object, ()) if len(wait.objects) == 1 else ()
     if wait.objects[0].use != FOR_ROOM or any(use.what == TOOK for use in uses):
@@ -19,7 +19,7 @@ def untouched(recording: Recording, wait: Waiting) -> list[str]:
     return [f"Nobody has taken a value from that channel{since_begin(recording) or ' so far'}."]
 
 
-def have_ended(recording: Recording, wait: Waiting) -> list[str]:
+def have_ended(recording: Recording, wait: ObjectWait) -> list[str]:
     """A sentence about a channel that no goroutine closed, if all goroutines that did the awaited operation on it have
     ended."""
     at, lines = wait.objects[0], recording.lines
@@ -37,7 +37,7 @@ def have_ended(recording: Recording, wait: Waiting) -> list[str]:
     return [f"{many} values there{since} ha{'ve' if len(goids) > 1 else 's'} ended{unclosed_too}."]
 
 
-def only_itself(recording: Recording, wait: Waiting) -> str:
+def only_itself(recording: Recording, wait: ObjectWait) -> str:
     """A sentence which says that so far only the waiting goroutine itself did the awaited operation; else empty."""
     at, lines = wait.objects[0], recording.lines
     uses = [use for use in lines.uses.get(at.object, ())[:MOST_GIVEN] if use.what == GIVES.get(at.use, "")]
@@ -48,7 +48,7 @@ def only_itself(recording: Recording, wait: Waiting) -> str:
     return f"Only {wait.name} itself has {did} values there{since},{place_in(lines.stacks[uses[-1].stack])}."
 
 
-def is_in(stack: Stack, call: Call) -> bool:
+def is_in(stack: Stack, call: SourceCall) -> bool:
     """Whether a goroutine is in the function that contains a call, at a later line."""
     return any(frame.function == call.function and frame.line > call.line for frame in stack.calls)
 

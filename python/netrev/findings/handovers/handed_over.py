@@ -9,13 +9,13 @@ from netrev.findings.evidence.ended_goroutines import goid_of
 from netrev.findings.evidence.index import Index
 from netrev.findings.evidence.ledger import END
 from netrev.recording.call import Call
-from netrev.recording.goroutines import PUT, TOOK, Use
+from netrev.recording.goroutines import PUT, TOOK, ObjectUse
 from netrev.recording.recording import Recording
-from netrev.recording.waits import Waiting
+from netrev.recording.waits import ObjectWait
 from netrev.recording.where import OF_THE_PROGRAM, Stack
 
 
-def put_before(recording: Recording, wait: Waiting) -> Optional[Use]:
+def put_before(recording: Recording, wait: ObjectWait) -> Optional[ObjectUse]:
     """The last value that a goroutine put into another channel before it waited, in a function that the goroutine is
     still in."""
     objects, inside = {at.object for at in wait.objects}, functions_of(wait.stack)
@@ -28,9 +28,9 @@ def put_before(recording: Recording, wait: Waiting) -> Optional[Use]:
 
 
 @lru_cache(maxsize=2)
-def puts_of(recording: Recording) -> dict[int, list[Use]]:
+def puts_of(recording: Recording) -> dict[int, list[ObjectUse]]:
     """The values that each goroutine put into channels, keyed by Go's own numbers."""
-    found: dict[int, list[Use]] = defaultdict(list)
+    found: dict[int, list[ObjectUse]] = defaultdict(list)
     for uses in recording.lines.uses.values():
         for use in uses:
             if use.what == PUT:
@@ -38,7 +38,7 @@ def puts_of(recording: Recording) -> dict[int, list[Use]]:
     return found
 
 
-def sockets_of_request(index: Index, wait: Waiting) -> set[int]:
+def sockets_of_request(index: Index, wait: ObjectWait) -> set[int]:
     """The sockets to which a goroutine wrote, and the sockets to which other goroutines wrote after they took its
     request from a channel."""
     lines, put = index.recording.lines, put_before(index.recording, wait)
@@ -52,7 +52,7 @@ def functions_of(stack: Stack) -> set[str]:
     return {call.function for call in stack.calls if call.of == OF_THE_PROGRAM}
 
 
-def written_for(index: Index, wait: Waiting, socket: int) -> Optional[Call]:
+def written_for(index: Index, wait: ObjectWait, socket: int) -> Optional[Call]:
     """The first Write on a socket by a goroutine that had taken what the waiter put into a channel."""
     put = put_before(index.recording, wait)
     if put is None:

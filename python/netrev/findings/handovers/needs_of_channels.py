@@ -26,7 +26,7 @@ from netrev.findings.pools.uncancelled import uncancelled
 from netrev.findings.pools.unclosed import unclosed
 from netrev.recording.goroutines import FOR_ROOM, FOR_VALUE, PUT, TOOK, At
 from netrev.recording.recording import Recording
-from netrev.recording.waits import Name, Waiting, Waits, name_of_goid
+from netrev.recording.waits import Name, ObjectWait, Waits, name_of_goid
 from netrev.recording.where import OF_THE_PROGRAM, Stack
 
 from .dispatchers import perhaps_dropped
@@ -38,7 +38,7 @@ DID = {PUT: "putting a value there", TOOK: "taking one there"}
 MOST_GIVEN = 50  # the most goroutines to examine for each waiter
 NOBODY = Name(-1)
 Found = TypeVar("Found")
-Rule = Callable[[Recording, Waiting, Iterable[tuple[Name, Stack]]], Optional[Need]]
+Rule = Callable[[Recording, ObjectWait, Iterable[tuple[Name, Stack]]], Optional[Need]]
 
 
 class NeedsOfChannels:
@@ -68,7 +68,7 @@ class NeedsOfChannels:
 
         return self._once(("balances", number), find)
 
-    def besides(self, wait: Waiting) -> list[str]:
+    def besides(self, wait: ObjectWait) -> list[str]:
         """Further sentences about a channel: values that were lost or kept, or loop variables that goroutines share."""
 
         def find() -> list[str]:
@@ -80,7 +80,7 @@ class NeedsOfChannels:
 
         return self._once((wait.stack.own(), wait.objects, "besides"), find)
 
-    def of_balance(self, wait: Waiting) -> Optional[Need]:
+    def of_balance(self, wait: ObjectWait) -> Optional[Need]:
         """What a goroutine needs from a channel that is used like a pool. The sentences name calls that kept a value or
         gave it back twice. `by` is a waiting goroutine that has a value. None if the channel isn't used this way."""
         at, wanted = wait.objects[0], GIVES.get(wait.objects[0].use, "")
@@ -103,7 +103,7 @@ class NeedsOfChannels:
             Certainty.LIKELY,
         )
 
-    def _of_slots(self, wait: Waiting) -> Optional[Need]:
+    def _of_slots(self, wait: ObjectWait) -> Optional[Need]:
         """What a goroutine needs while it waits for a slot of a semaphore. The need names a goroutine that holds a slot."""
         key = "slots", wait.stack.own(), wait.objects
         need = self._once(
@@ -113,7 +113,7 @@ class NeedsOfChannels:
             return of_slots(self._recording, wait, self._stacks, self._waiters)
         return need
 
-    def _of_nested(self, wait: Waiting) -> Optional[Need]:
+    def _of_nested(self, wait: ObjectWait) -> Optional[Need]:
         """What a goroutine needs while it waits on a channel that was filled only once. Another goroutine took a value
         and, still in the same call, waits for a second value."""
         at = wait.objects[0]
@@ -149,11 +149,11 @@ class NeedsOfChannels:
         known = self._recording.lines.objects.get(at.object)
         return known is not None and known.room > 0
 
-    def _is_holder(self, balance: Balance, wait: Waiting) -> bool:
+    def _is_holder(self, balance: Balance, wait: ObjectWait) -> bool:
         """Whether the balance's goroutine has a value and waits, and isn't the goroutine of `wait`."""
         return balance.name in self._waiters and balance.name != wait.name and balance.has_value
 
-    def is_new(self, wait: Waiting) -> bool:
+    def is_new(self, wait: ObjectWait) -> bool:
         """Whether no goroutine has yet done what a goroutine waits for on its channels."""
         since = self._channel_since(wait)
         operations = (operation for at in wait.objects for operation in self._operations(at))
@@ -163,12 +163,12 @@ class NeedsOfChannels:
             and not any(operation.last >= since for operation in operations)
         )
 
-    def _channel_since(self, wait: Waiting) -> int:
+    def _channel_since(self, wait: ObjectWait) -> int:
         """A step before which a goroutine's channel was made; 0 if unknown. The results of `channel_since` are
         cached here."""
         return self._once((wait.name, wait.objects, "made"), lambda: channel_since(self._recording, wait))
 
-    def of(self, wait: Waiting) -> Need:
+    def of(self, wait: ObjectWait) -> Need:
         """What a goroutine needs from its channels, if possible from the last goroutine that did the awaited operation."""
         is_one = len(wait.objects) == 1
         since = self._channel_since(wait)
@@ -205,7 +205,7 @@ class NeedsOfChannels:
             return Need(says, is_odd=True, ended=self._ended_siblings(wait))
         return self._of_the_past(wait, operations[:1], closing)
 
-    def _of_ended_takers(self, wait: Waiting) -> Need:
+    def _of_ended_takers(self, wait: ObjectWait) -> Need:
         """What a goroutine in a select needs: room in a channel from which only ended goroutines took values."""
         for at in wait.objects:
             operations = self._operations(at) if at.use == FOR_ROOM else []
@@ -218,7 +218,7 @@ class NeedsOfChannels:
                 return Need([f"{did}; it {self._does(latest.name, stack)}.", *ended], is_odd=True)
         return ended_giver(index_of(self._recording), wait) or Need([])
 
-    def _of_the_past(self, wait: Waiting, operations: list[Operation], closing: Optional[Need]) -> Need:
+    def _of_the_past(self, wait: ObjectWait, operations: list[Operation], closing: Optional[Need]) -> Need:
         """What a goroutine needs if no waiting goroutine did the awaited operation. The need says which other goroutine did it last, if any."""
         for operation in operations:
             loop = loop_words(self._recording, operation.stack) if has_ended(self._recording, operation.name) else ""
@@ -252,11 +252,11 @@ class NeedsOfChannels:
 
         return self._once(("given", at), find)
 
-    def _closing(self, wait: Waiting) -> Optional[Need]:
+    def _closing(self, wait: ObjectWait) -> Optional[Need]:
         """What a goroutine needs while it waits for a channel to be closed, found from the source."""
         return self._by_source("closing", unclosed, wait)
 
-    def _by_source(self, key: str, rule: Rule, wait: Waiting) -> Optional[Need]:
+    def _by_source(self, key: str, rule: Rule, wait: ObjectWait) -> Optional[Need]:
         """The result of a rule that reads the source. The result is computed once for all waits at a line. If it names
         the waiting goroutine itself, it is computed again for that wait."""
         nobody = wait._replace(name=NOBODY)
@@ -264,21 +264,21 @@ class NeedsOfChannels:
         need = self._once(place, lambda: rule(self._recording, nobody, self._stacks.items()))
         return rule(self._recording, wait, self._stacks.items()) if need and need.by == wait.name else need
 
-    def more_of(self, wait: Waiting, by: Name) -> list[str]:
+    def more_of(self, wait: ObjectWait, by: Name) -> list[str]:
         """Further sentences about a wait: a channel isn't closed, or an answer wasn't passed on."""
         closing = self._closing(wait)
         return [*(closing.more if closing else []), *perhaps_dropped(self._recording, wait, self._waiters[by])]
 
-    def _of_siblings(self, wait: Waiting) -> list[str]:
+    def _of_siblings(self, wait: ObjectWait) -> list[str]:
         """Sentences about goroutines that ended without doing what others from the same `go` statement did."""
         what = GIVES.get(wait.objects[0].use, "")
         return [ended_words(self._recording, kind, DID[what]) for kind in self._kinds_of(wait)]
 
-    def _ended_siblings(self, wait: Waiting) -> tuple[Name, ...]:
+    def _ended_siblings(self, wait: ObjectWait) -> tuple[Name, ...]:
         """The goroutines that ended without the awaited operation, unlike others from the same `go` statement."""
         return tuple(name_of_goid(self._recording.lines, goid) for kind in self._kinds_of(wait) for goid in kind.ended)
 
-    def _kinds_of(self, wait: Waiting) -> list[Kind]:
+    def _kinds_of(self, wait: ObjectWait) -> list[Kind]:
         """The first `go` statement in a function of the waiter, if some of its goroutines did the awaited operation
         and others ended without it."""
         what = GIVES.get(wait.objects[0].use, "")
@@ -292,13 +292,13 @@ class NeedsOfChannels:
         did = {use.goid for use in self._recording.lines.uses.get(at.object, ()) if use.what == what}
         return kinds_of(self._recording, did)
 
-    def left_without(self, wait: Waiting) -> list[str]:
+    def left_without(self, wait: ObjectWait) -> list[str]:
         """A sentence about a goroutine that waited for a value from a channel, and went on without it."""
         if len(wait.objects) != 1 or not self.is_new(wait):
             return []
         return self._once(("gone", wait.objects), lambda: self._gone(wait))
 
-    def _gone(self, wait: Waiting) -> list[str]:
+    def _gone(self, wait: ObjectWait) -> list[str]:
         """A sentence about the goroutine that last waited for a value and went on without it."""
         at = wait.objects[0]
         if at.use != FOR_ROOM:

@@ -18,7 +18,7 @@ from netrev.recording.words import SIDES
 from netrev.text.plurals import counted
 
 from .missing_cases import missing_case_says
-from .wait_graph import Branch, Certainty, Hang, WaitGraph, kind_of, waiters_of
+from .wait_graph import WaitBranch, Certainty, Hang, WaitGraph, kind_of, waiters_of
 
 NUMBERS = {2: "two", 3: "three", 4: "four"}
 VERBS = {
@@ -252,13 +252,13 @@ def tree_lines(graph: WaitGraph, hang: Hang) -> list[str]:
     return [*lines[:MOST_LINES], *([f"{INDENT}and {counted(left, 'line')} more"] if left > 0 else [])]
 
 
-def branch_lines(recording: Recording, branch: Branch, depth: int) -> list[str]:
+def branch_lines(recording: Recording, branch: WaitBranch, depth: int) -> list[str]:
     """A branch and the branches below it."""
     lines = [f"{INDENT * depth}- {branch_words(recording, branch)}"]
     return lines + [line for inner in branch.branches for line in branch_lines(recording, inner, depth + 1)]
 
 
-def branch_words(recording: Recording, branch: Branch) -> str:
+def branch_words(recording: Recording, branch: WaitBranch) -> str:
     """The text for a branch: its goroutines, what they wait for, and the goroutines that they wait for."""
     first = branch.waiters[0]
     names = of_names(waiter.name for waiter in branch.waiters)
@@ -271,7 +271,7 @@ def branch_words(recording: Recording, branch: Branch) -> str:
     return f"{what}; {how_words(branch)}"
 
 
-def how_words(branch: Branch) -> str:
+def how_words(branch: WaitBranch) -> str:
     """Sentences about the goroutines that a branch waits for."""
     words = branch.need.how
     if len(set(branch.on)) > 1:

@@ -8,19 +8,19 @@ from typing import NamedTuple, Optional
 from netrev.findings.evidence.responses import SERVE, contains
 from netrev.findings.evidence.words import place_in
 from netrev.findings.source.locks import owner
-from netrev.recording.goroutines import A_SELECT, A_WAIT_GROUP, CLOSED, FOR_VALUE, PUT, Use
+from netrev.recording.goroutines import A_SELECT, A_WAIT_GROUP, CLOSED, FOR_VALUE, PUT, ObjectUse
 from netrev.recording.recording import Recording
-from netrev.recording.waits import ALL_REQUESTS, Name, Waiting, name_of_goid, waits_of
-from netrev.recording.where import OF_THE_PROGRAM, Call, Stack
+from netrev.recording.waits import ALL_REQUESTS, Name, ObjectWait, name_of_goid, waits_of
+from netrev.recording.where import OF_THE_PROGRAM, SourceCall, Stack
 
-from .wait_graph import Branch, Hang
+from .wait_graph import WaitBranch, Hang
 
 
 class Lacking(NamedTuple):
     """A closed channel on which another goroutine waited: the use that closed the channel, and that wait."""
 
-    closed: Use
-    wait: Waiting
+    closed: ObjectUse
+    wait: ObjectWait
 
 
 def missing_case_says(recording: Recording, hang: Hang) -> list[str]:
@@ -37,19 +37,19 @@ def missing_case_says(recording: Recording, hang: Hang) -> list[str]:
     return [*([shutdown_says(shutdown)] if shutdown else []), *([lacking_says(recording, lacking)] if lacking else [])]
 
 
-def own_of(stack: Stack) -> Optional[Call]:
+def own_of(stack: Stack) -> Optional[SourceCall]:
     """The line of the program in a stack."""
     own = stack.own()
     return own[0] if own and own[0].of == OF_THE_PROGRAM else None
 
 
-def group_wait_of(branch: Branch) -> Optional[Waiting]:
+def group_wait_of(branch: WaitBranch) -> Optional[ObjectWait]:
     """The wait of a branch's goroutine on a WaitGroup."""
     first = branch.waiters[0].wait
     return first if first and first.kind == A_WAIT_GROUP else None
 
 
-def shutdown_of(recording: Recording, wait: Waiting) -> Optional[Waiting]:
+def shutdown_of(recording: Recording, wait: ObjectWait) -> Optional[ObjectWait]:
     """The first wait of a Shutdown, if a goroutine serves a request of net/http. A wait that doesn't end is preferred,
     because Shutdown polls."""
     if not contains(wait.stack, SERVE):
@@ -62,12 +62,12 @@ def shutdown_of(recording: Recording, wait: Waiting) -> Optional[Waiting]:
     return min(yet or others, key=attrgetter("first", "begin"), default=None)
 
 
-def shutdown_says(shutdown: Waiting) -> str:
+def shutdown_says(shutdown: ObjectWait) -> str:
     waits = "waits" if shutdown.last is None else "waited"
     return f"Shutdown{place_in(shutdown.stack)} ({shutdown.name}) {waits} for the ends of all requests, and cancels none of their contexts."
 
 
-def lacking_of(recording: Recording, wait: Waiting, ends: Waiting) -> Optional[Lacking]:
+def lacking_of(recording: Recording, wait: ObjectWait, ends: ObjectWait) -> Optional[Lacking]:
     """A channel that never had a value, and that was closed by the goroutine that now waits for other goroutines to
     end. Another function of the same type, or package, has waited on that channel."""
     own, closed = own_of(wait.stack), closed_by(recording, ends.name)
@@ -90,7 +90,7 @@ def lacking_of(recording: Recording, wait: Waiting, ends: Waiting) -> Optional[L
     return None
 
 
-def closed_by(recording: Recording, name: Name) -> dict[int, Use]:
+def closed_by(recording: Recording, name: Name) -> dict[int, ObjectUse]:
     """The channels that a goroutine closed at a line of the program and into which no goroutine put a value."""
     lines = recording.lines
     return {

@@ -28,7 +28,7 @@ from netrev.findings.pools.stopped_timers import of_timers, timers_of_select
 from netrev.findings.source.contextless import contextless_says
 from netrev.findings.streams.unaccepted import is_dialed
 from netrev.recording.goroutines import A_CONDITION, A_SELECT, A_WAIT_GROUP, MUTEXES
-from netrev.recording.waits import ALL_REQUESTS, A_CONNECTION, A_RESPONSE, LAST_USE, Name, Waiting, Waits
+from netrev.recording.waits import ALL_REQUESTS, A_CONNECTION, A_RESPONSE, LAST_USE, Name, ObjectWait, Waits
 from netrev.recording.where import OF_THE_PROGRAM, Stack
 
 
@@ -55,7 +55,7 @@ class NeedsElsewhere:
             if wait.is_asleep and wait.name not in self._waiters:
                 yield wait.name, wait.stack
 
-    def of(self, waiter: Waiter, wait: Waiting) -> Need:
+    def of(self, waiter: Waiter, wait: ObjectWait) -> Need:
         """What a waiting goroutine needs."""
         need = self._of(waiter, wait)
         if need.certainty == Certainty.PERHAPS or not (need.by or need.says):
@@ -65,7 +65,7 @@ class NeedsElsewhere:
         beside = dropped_by_rpc(self._recording, wait)
         return need._replace(more=[*need.more, *more], beside=(*need.beside, *beside))
 
-    def _of(self, waiter: Waiter, wait: Waiting) -> Need:
+    def _of(self, waiter: Waiter, wait: ObjectWait) -> Need:
         kind = wait.kind
         if kind == LAST_USE:
             return self._of_close(waiter)
@@ -109,7 +109,7 @@ class NeedsElsewhere:
             return Need([], by, how, Certainty.PERHAPS, more=self._channels.more_of(wait, by))
         return need
 
-    def _reader_for(self, wait: Waiting) -> Optional[Name]:
+    def _reader_for(self, wait: ObjectWait) -> Optional[Name]:
         """The goroutine that could give a value to a waiter, if the waiter wrote a request and no value has been put
         into its channel yet. The result is the goroutine that waits to read from the waiter's connection, as a client's
         reader does."""
@@ -128,7 +128,7 @@ class NeedsElsewhere:
         )
         return next(readers, None)
 
-    def _of_answer(self, wait: Waiting) -> Optional[Need]:
+    def _of_answer(self, wait: ObjectWait) -> Optional[Need]:
         """What a goroutine needs while it waits for an answer. Another goroutine read the answer but didn't pass it on,
         took the request but didn't answer it, or has ended."""
         if not is_for_values(wait):
@@ -139,7 +139,7 @@ class NeedsElsewhere:
         found = dropped_answer(self._index, wait, self._hands[own])
         return found or dropped_request(self._recording, wait, self._waiters) or ended_hand(self._index, wait)
 
-    def _closed_later(self, wait: Waiting) -> Optional[Need]:
+    def _closed_later(self, wait: ObjectWait) -> Optional[Need]:
         """What a goroutine needs while it waits in a select: another goroutine that will later close a channel or
         cancel a context. The result is computed once for all selects of a line."""
         key = "later", wait.stack.own()
@@ -167,7 +167,7 @@ class NeedsElsewhere:
         says = f"{text_of_call(self._recording, users[-1])} uses socket {closes.socket} since step {users[-1].first}."
         return Need([says], Name(users[-1].goroutine), "{by} uses the descriptor")
 
-    def _of_condition(self, wait: Waiting) -> list[str]:
+    def _of_condition(self, wait: ObjectWait) -> list[str]:
         """Sentences about a goroutine's wait on a sync.Cond. They name the function that should have woken this
         goroutine, or that should have woken all waiters."""
         key = wait.stack.own(), wait.objects
@@ -205,7 +205,7 @@ class NeedsElsewhere:
         ]
         return Need(says)
 
-    def _of_response(self, wait: Waiting) -> Optional[Need]:
+    def _of_response(self, wait: ObjectWait) -> Optional[Need]:
         """What a goroutine needs while it waits for a net/http response: the goroutine that serves the request, if it
         is in this recording."""
         socket = socket_of(self._index, wait, self._position)
@@ -223,7 +223,7 @@ class NeedsElsewhere:
         now = self._waiters.get(server)
         return now is not None and now.is_of_go and now.call is not None and now.call.name in READING
 
-    def _ended_before(self, wait: Waiting, elsewhere: bool = False) -> Optional[Name]:
+    def _ended_before(self, wait: ObjectWait, elsewhere: bool = False) -> Optional[Name]:
         """The goroutine that ended this goroutine's last wait at the same line and now waits itself. Unless
         `elsewhere`, only waits on the same channels or mutex count."""
         earlier = (

@@ -33,14 +33,14 @@ class Edge(NamedTuple):
     certainty: Certainty
 
 
-class Branch(NamedTuple):
+class WaitBranch(NamedTuple):
     """Goroutines that wait in the same way: the goroutines, the need of the first, the goroutines for which they wait,
     and the branches that wait for them."""
 
     waiters: list[Waiter]
     need: Need
     on: list[Name]
-    branches: "list[Branch]"
+    branches: "list[WaitBranch]"
 
 
 class Hang(NamedTuple):
@@ -52,7 +52,7 @@ class Hang(NamedTuple):
 
     roots: list[Waiter]
     needs: list[Need]
-    branches: list[Branch]
+    branches: list[WaitBranch]
     waiting: int = 0
     perhaps: int = 0
     certainty: Certainty = Certainty.KNOWN
@@ -230,7 +230,7 @@ class WaitGraph:
         beside = [waiter for waiter in others if kind_of(self.recording, waiter) != kind]
         return Hang(roots, needs, branches, count, count - sure, certainty, alike, beside)
 
-    def _branches(self, names: list[Name], seen: set[Name], depth: int = 0) -> list[Branch]:
+    def _branches(self, names: list[Name], seen: set[Name], depth: int = 0) -> list[WaitBranch]:
         """The branches that wait for these goroutines, most certain first. Equal branches are merged. Below a certain
         depth, the rest form one level."""
         alike: dict[Hashable, list[Name]] = defaultdict(list)
@@ -244,10 +244,10 @@ class WaitGraph:
         branches = [self._branch(some, seen, depth) for some in alike.values()]
         return sorted(branches, key=lambda branch: -branch.need.certainty)
 
-    def _branch(self, names: list[Name], seen: set[Name], depth: int) -> Branch:
+    def _branch(self, names: list[Name], seen: set[Name], depth: int) -> WaitBranch:
         waiters, on = [self.waiters[name] for name in names], [self.edges[name].on for name in names]
         behind = self._branches(names, seen, depth + 1) if depth < DEEP else []
-        return Branch(waiters, self.needs[names[0]], on, behind)
+        return WaitBranch(waiters, self.needs[names[0]], on, behind)
 
     def _likeness(self, name: Name) -> Hashable:
         need = self.needs[name]
@@ -272,7 +272,7 @@ def mutex_of(waiter: Waiter) -> int:
     return wait.objects[0].object if wait and wait.objects and wait.kind in MUTEXES else 0
 
 
-def count_of(branches: Iterable[Branch], is_meant: Callable[[Branch], bool]) -> int:
+def count_of(branches: Iterable[WaitBranch], is_meant: Callable[[WaitBranch], bool]) -> int:
     """The number of goroutines that wait in the branches that a test accepts. Branches below a rejected branch don't
     count."""
     return sum(len(branch.waiters) + count_of(branch.branches, is_meant) for branch in branches if is_meant(branch))

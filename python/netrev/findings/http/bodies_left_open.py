@@ -10,7 +10,7 @@ from netrev.findings.evidence.words import place_in
 from netrev.findings.pools.kept_ways import ways_past_close
 from netrev.recording.goroutines import FOR_VALUE, PUT
 from netrev.recording.recording import Recording
-from netrev.recording.waits import Name, Waiting, Waits, name_of_goid, of_names
+from netrev.recording.waits import Name, ObjectWait, Waits, name_of_goid, of_names
 from netrev.recording.where import Stack
 from netrev.text.plurals import counted
 
@@ -36,14 +36,14 @@ def open_bodies(recording: Recording, ledger: Ledger, waits: Waits, position: in
     return [says, *ways_past_close(recording, stacks)]
 
 
-def is_kept(wait: Waiting) -> bool:
+def is_kept(wait: ObjectWait) -> bool:
     """Whether a connection's goroutine waits until a body is read: the goroutine is in a select without a case that
     sends."""
     in_loop = bool(wait.stack.calls) and any(call.function == READ_LOOP for call in wait.stack.calls[:3])
     return in_loop and len(wait.objects) > 1 and all(at.use == FOR_VALUE for at in wait.objects)
 
 
-def request_of(recording: Recording, wait: Waiting) -> Optional[tuple[Name, Stack]]:
+def request_of(recording: Recording, wait: ObjectWait) -> Optional[tuple[Name, Stack]]:
     """The goroutine that made the last request on a connection, and its stack when it passed the request to the
     connection's goroutine."""
     lines = recording.lines

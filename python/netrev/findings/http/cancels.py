@@ -12,7 +12,7 @@ from netrev.findings.evidence.responses import contains, server_of
 from netrev.findings.evidence.words import place_in, waits_words
 from netrev.findings.source.functions import found_in, text_at
 from netrev.recording.call import Call
-from netrev.recording.goroutines import CLOSED, ENDED, Timer, Use
+from netrev.recording.goroutines import CLOSED, ENDED, Timer, ObjectUse
 from netrev.recording.recording import Recording
 from netrev.recording.waits import name_of_goid, waits_of
 from netrev.recording.where import Stack
@@ -41,7 +41,7 @@ class Cancel(NamedTuple):
     so."""
 
     goroutine: int
-    use: Use
+    use: ObjectUse
     timers: list[Timer]
 
 
@@ -76,9 +76,9 @@ def found_closed(recording: Recording, goid: int, since: int, until: int) -> Ite
 
 
 @lru_cache(maxsize=2)
-def looks_of(recording: Recording) -> dict[int, list[Use]]:
+def looks_of(recording: Recording) -> dict[int, list[ObjectUse]]:
     """The channels that each goroutine tested and found closed."""
-    found: dict[int, list[Use]] = defaultdict(list)
+    found: dict[int, list[ObjectUse]] = defaultdict(list)
     for uses in recording.lines.uses.values():
         for use in uses:
             if use.what == ENDED:
@@ -97,7 +97,7 @@ def last_step_before(index: Index, goroutine: int, step: int) -> int:
     return max((call.last for call in calls), default=0)
 
 
-def limits_of(recording: Recording, use: Use, goid: int) -> list[Timer]:
+def limits_of(recording: Recording, use: ObjectUse, goid: int) -> list[Timer]:
     """The timers of contexts that may have closed a channel; none if something else closed the channel. A timer of the
     goroutine that found the channel closed is preferred."""
     stack = recording.lines.stacks[use.stack]

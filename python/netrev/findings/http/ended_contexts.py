@@ -10,7 +10,7 @@ from netrev.findings.evidence.responses import SERVE
 from netrev.findings.evidence.words import place_in
 from netrev.findings.source.functions import range_of, source_of
 from netrev.findings.source.package import places_with
-from netrev.recording.goroutines import ENDED, Use
+from netrev.recording.goroutines import ENDED, ObjectUse
 from netrev.recording.recording import Recording
 from netrev.recording.waits import A_CONNECTION, name_of_goid, waits_of
 from netrev.recording.where import OF_THE_PROGRAM, Stack
@@ -27,7 +27,7 @@ REQUEST = re.compile(r"\b(\w+) \*http\.Request\b")
 class EndedBefore(NamedTuple):
     """A request that its goroutine didn't send, because the request's context had already ended."""
 
-    use: Use
+    use: ObjectUse
 
     def says(self, recording: Recording) -> list[str]:
         """The sentences about the request."""

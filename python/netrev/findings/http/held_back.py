@@ -13,7 +13,7 @@ from netrev.findings.source.statements import code_at
 from netrev.recording.call import Call
 from netrev.recording.recording import Recording
 from netrev.recording.waits import Name, waits_of
-from netrev.recording.where import OF_THE_PROGRAM, Call as LineCall, Stack
+from netrev.recording.where import OF_THE_PROGRAM, SourceCall as LineCall, Stack
 from netrev.text.plurals import counted
 
 WRITER = re.compile(r"\b(\w+) http\.ResponseWriter\b")

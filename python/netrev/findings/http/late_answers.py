@@ -6,7 +6,7 @@ from typing import Iterator
 from netrev.findings.evidence.index import Cause, Index
 from netrev.findings.evidence.words import duration, is_of_go, text_of_call, waits_words
 from netrev.recording.call import Call, Outcome
-from netrev.recording.waits import Name, Waiting, waits_of
+from netrev.recording.waits import Name, ObjectWait, waits_of
 
 READS_A_REQUEST = "net/http.(*conn).readRequest"  # on return, this function sets the deadline for the answer
 
@@ -57,7 +57,7 @@ def at_work(index: Index, call: Call) -> list[str]:
     return [f"Before that Write, {server} {was(before[-1])}."] if before else []
 
 
-def was(wait: Waiting) -> str:
+def was(wait: ObjectWait) -> str:
     """A wait as text, in the past tense: `slept at a.go:3 in serve for 9 ms`."""
     words = waits_words(wait)
     return words.replace("sleeps", "slept", 1) if wait.is_asleep else words.replace("waits", "waited", 1)

@@ -9,7 +9,7 @@ from netrev.findings.evidence.index import Index
 from netrev.findings.evidence.responses import WRITE_LOOP, contains
 from netrev.findings.evidence.words import place_in
 from netrev.recording.call import Call
-from netrev.recording.goroutines import CLOSED, ENDED, PUT, TOOK, Timer, Use
+from netrev.recording.goroutines import CLOSED, ENDED, PUT, TOOK, Timer, ObjectUse
 from netrev.recording.recording import Recording
 from netrev.recording.waits import Name, name_of_goid
 from netrev.recording.where import Stack
@@ -22,7 +22,7 @@ BY_A_TIMER = "context.WithDeadlineCause.func"  # the function that a context's t
 WITH_DEADLINE, CLIENT_TIMEOUT = "context.WithDeadlineCause", "net/http.setRequestCancel"
 
 
-class Request(NamedTuple):
+class ClientRequests(NamedTuple):
     """Requests that goroutines made from one stack on a connection: their number, and the step and time at which the
     last request was handed over."""
 
@@ -40,7 +40,7 @@ class CancelledRequest(NamedTuple):
     step after which the context ended. `by` is the goroutine that ended the context, from `stack`. `timer` is the timer
     of the context's deadline, if certain."""
 
-    request: Request
+    request: ClientRequests
     closed: Call
     step: int
     by: Name
@@ -75,7 +75,7 @@ class CancelledRequest(NamedTuple):
         return [f"{begins} the deadline of its context passed (step {self.step}).", set_at]
 
 
-def requests_of(index: Index) -> list[Request]:
+def requests_of(index: Index) -> list[ClientRequests]:
     """The requests whose connection is certain. Each request was put into a channel from which only one connection's
     goroutine took values, and that goroutine wrote to only one socket."""
     lines, found = index.recording.lines, []
@@ -88,10 +88,10 @@ def requests_of(index: Index) -> list[Request]:
     return sorted(found, key=attrgetter("time"))
 
 
-def request_of(recording: Recording, use: Use, socket: int) -> Request:
+def request_of(recording: Recording, use: ObjectUse, socket: int) -> ClientRequests:
     """The requests that a goroutine put into a channel from one stack."""
     lines = recording.lines
-    return Request(
+    return ClientRequests(
         name_of_goid(lines, use.goid), use.goid, socket, lines.stacks[use.stack], use.often, use.last, use.end
     )
 
@@ -121,7 +121,9 @@ def is_by_context(stack: Stack) -> bool:
     return CAUSE_OF_END in functions and ROUND_TRIP in functions
 
 
-def cancelled(index: Index, every: list[Request], ended: Use, close: Use) -> Iterator[CancelledRequest]:
+def cancelled(
+    index: Index, every: list[ClientRequests], ended: ObjectUse, close: ObjectUse
+) -> Iterator[CancelledRequest]:
     """The request that a cancelled context ended: the last request that its goroutine wrote before the context was
     cancelled. The result is empty unless that goroutine then closed the connection."""
     lines = index.recording.lines
@@ -141,7 +143,7 @@ def cancelled(index: Index, every: list[Request], ended: Use, close: Use) -> Ite
         )
 
 
-def timer_of(recording: Recording, request: Request, close: Use) -> Optional[Timer]:
+def timer_of(recording: Recording, request: ClientRequests, close: ObjectUse) -> Optional[Timer]:
     """The timer of the deadline that ended a request's context; None if uncertain. If the client has a Timeout, the
     result is the timer of that Timeout: the last such timer that the request's goroutine made at the request's line
     before it handed the request over. Otherwise, the result is the only timer of the program's contexts that was due by

@@ -9,14 +9,14 @@ from netrev.findings.source.functions import text_at
 from netrev.findings.source.package import files_of
 from netrev.recording.goroutines import FOR_VALUE, PUT
 from netrev.recording.recording import Recording
-from netrev.recording.waits import Waiting
+from netrev.recording.waits import ObjectWait
 from netrev.recording.where import OF_THE_PROGRAM
 from netrev.text.plurals import counted
 
 DONE = "net/rpc.(*Call).done"
 
 
-def dropped_by_rpc(recording: Recording, wait: Waiting) -> list[str]:
+def dropped_by_rpc(recording: Recording, wait: ObjectWait) -> list[str]:
     """Sentences about a goroutine that waits for a net/rpc call whose channel may have been full."""
     if len(wait.objects) != 1 or wait.objects[0].use != FOR_VALUE:
         return []

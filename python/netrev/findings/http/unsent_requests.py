@@ -11,10 +11,10 @@ from netrev.findings.evidence.responses import WRITE_LOOP, contains
 from netrev.findings.evidence.words import place_in
 from netrev.findings.source.functions import found_in
 from netrev.recording.call import CLOSE, Call
-from netrev.recording.goroutines import PUT, TOOK, Use
+from netrev.recording.goroutines import PUT, TOOK, ObjectUse
 from netrev.recording.recording import Recording
 from netrev.recording.waits import Name, name_of_goid
-from netrev.recording.where import OF_THE_PROGRAM, Call as LineCall
+from netrev.recording.where import OF_THE_PROGRAM, SourceCall as LineCall
 
 from .requests import ROUND_TRIP, cancelled_requests
 
@@ -28,7 +28,7 @@ class Unsent(NamedTuple):
     """A request that wasn't written: how it was handed over, its goroutine, and the Close of its connection. `before`
     is the step after which the goroutine last handed over an earlier request from the same line (0: none)."""
 
-    use: Use
+    use: ObjectUse
     name: Name
     closed: Call
     before: int
@@ -71,28 +71,28 @@ def unsent_requests(index: Index) -> Iterator[Unsent]:
                     yield Unsent(use, name_of_goid(lines, use.goid), call, step_before(index.recording, use))
 
 
-def request_of(index: Index, closed: Call) -> Optional[Use]:
+def request_of(index: Index, closed: Call) -> Optional[ObjectUse]:
     """The last request that a goroutine took before it closed a connection."""
     lines, goid = index.recording.lines, index.recording.lines.goid_of(closed.goroutine, closed.first)
-    found = list[Use]()
+    found = list[ObjectUse]()
     for uses in lines.uses.values():
         if any(use.goid == goid and use.what == TOOK and contains(lines.stacks[use.stack], WRITE_LOOP) for use in uses):
             found += [use for use in uses if use.what == PUT and contains(lines.stacks[use.stack], ROUND_TRIP)]
     return max((use for use in found if use.last < closed.first), key=END, default=None)
 
 
-def has_written(index: Index, closed: Call, use: Use) -> bool:
+def has_written(index: Index, closed: Call, use: ObjectUse) -> bool:
     """Whether the goroutine that closed a connection had written to it since it took a request."""
     calls = index.by_goroutine[closed.goroutine]
     return any(call.name == "Write" and use.last <= call.first <= closed.first for call in calls)
 
 
-def is_of_program(recording: Recording, use: Use) -> bool:
+def is_of_program(recording: Recording, use: ObjectUse) -> bool:
     own = recording.lines.stacks[use.stack].own()
     return own is not None and own[0].of == OF_THE_PROGRAM
 
 
-def step_before(recording: Recording, last: Use) -> int:
+def step_before(recording: Recording, last: ObjectUse) -> int:
     """The step after which the same goroutine handed over its previous request from the same line; 0 if this request
     is the first."""
     lines, own = recording.lines, recording.lines.stacks[last.stack].own()

@@ -8,8 +8,8 @@ from netrev.findings.evidence.ended_goroutines import body_of, loop_round
 from netrev.findings.source.functions import Lines, indent_of, range_of, source_of
 from netrev.findings.source.locks import owner
 from netrev.recording.recording import Recording
-from netrev.recording.waits import Waiting, waits_of
-from netrev.recording.where import Call
+from netrev.recording.waits import ObjectWait, waits_of
+from netrev.recording.where import SourceCall
 
 WAIT = re.compile(r"([\w.\[\]]+)\.Wait\(\)")
 FIELD = re.compile(r"\.(\w+)\b(?!\()")
@@ -35,7 +35,7 @@ class Waking(NamedTuple):
     is_waiting: bool
 
 
-def unsignalled(recording: Recording, wait: Waiting) -> list[str]:
+def unsignalled(recording: Recording, wait: ObjectWait) -> list[str]:
     """Sentences about functions that change what a Wait's loop tests but call neither Signal nor Broadcast."""
     return [
         f"Perhaps {waking.file}:{waking.changes} in {waking.function} should have woken it: it changes {waking.field}, "
@@ -46,7 +46,7 @@ def unsignalled(recording: Recording, wait: Waiting) -> list[str]:
     ][:MOST]
 
 
-def single_signal(recording: Recording, wait: Waiting, waiting: int) -> list[str]:
+def single_signal(recording: Recording, wait: ObjectWait, waiting: int) -> list[str]:
     """Sentences about a function that sets a flag for which several goroutines wait, but wakes only one of them."""
     return [
         f"Perhaps {waking.file}:{waking.signal} in {waking.function} should wake all: Signal wakes only one goroutine, "
@@ -56,7 +56,7 @@ def single_signal(recording: Recording, wait: Waiting, waiting: int) -> list[str
     ][:MOST] or mistaken_signal(recording, wait)
 
 
-def mistaken_signal(recording: Recording, wait: Waiting) -> list[str]:
+def mistaken_signal(recording: Recording, wait: ObjectWait) -> list[str]:
     """Sentences about a Signal that perhaps woke a different goroutine, because goroutines wait there for different
     things: at several lines, or for different entries of a table."""
     source = source_at(recording, wait)
@@ -81,7 +81,7 @@ def mistaken_signal(recording: Recording, wait: Waiting) -> list[str]:
     ][:MOST]
 
 
-def source_at(recording: Recording, wait: Waiting) -> Optional[tuple[Call, Lines, range]]:
+def source_at(recording: Recording, wait: ObjectWait) -> Optional[tuple[SourceCall, Lines, range]]:
     """The line of the program at which a goroutine waits, the lines of its file, and those of its function; None if
     unknown."""
     own = wait.stack.own()
@@ -94,7 +94,7 @@ def source_at(recording: Recording, wait: Waiting) -> Optional[tuple[Call, Lines
     return (own[0], lines, within) if within else None
 
 
-def places_of_waits(recording: Recording, wait: Waiting) -> Iterator[str]:
+def places_of_waits(recording: Recording, wait: ObjectWait) -> Iterator[str]:
     """The lines at which goroutines have waited on a condition."""
     for waits in waits_of(recording).of.values():
         for past_wait in waits:
@@ -102,7 +102,7 @@ def places_of_waits(recording: Recording, wait: Waiting) -> Iterator[str]:
                 yield own[0].place()
 
 
-def have_waited(recording: Recording, wait: Waiting) -> bool:
+def have_waited(recording: Recording, wait: ObjectWait) -> bool:
     """Whether several goroutines have waited on a condition."""
     every = (
         past_wait
@@ -113,7 +113,7 @@ def have_waited(recording: Recording, wait: Waiting) -> bool:
     return len({past_wait.name for past_wait in every}) > 1
 
 
-def wakings_of(recording: Recording, wait: Waiting) -> list[Waking]:
+def wakings_of(recording: Recording, wait: ObjectWait) -> list[Waking]:
     """The functions in the waiter's file that change a field tested around the Wait. If the waiter is in a method, only
     the methods of its type count."""
     source = source_at(recording, wait)
@@ -142,7 +142,7 @@ def wakings_of(recording: Recording, wait: Waiting) -> list[Waking]:
     return found
 
 
-def fields_of(lines: Lines, call: Call, within: range) -> set[str]:
+def fields_of(lines: Lines, call: SourceCall, within: range) -> set[str]:
     """The fields in the condition of the innermost loop or `if` around a call. For a loop without a condition, they are
     the fields that its body tests. `within` has the lines of the function."""
     margin = indent_of(lines[call.line - 1])
@@ -176,7 +176,7 @@ def functions_of(lines: Lines) -> list[tuple[str, range]]:
         if named := FUNCTION.match(text):
             pointer, of_type, function = named.groups()
             name = f"({pointer}{of_type}).{function}" if pointer else f"{of_type}.{function}" if of_type else function
-            within = range_of(lines, Call(name, "", number, ""))
+            within = range_of(lines, SourceCall(name, "", number, ""))
             if within:
                 found.append((name, within))
     return found

@@ -6,10 +6,10 @@ from typing import NamedTuple, Optional
 
 from netrev.findings.evidence.siblings import DEFERRED, Kind, lines_in, lines_words
 from netrev.findings.evidence.words import place_in
-from netrev.recording.goroutines import ADDED, DONE, Use
+from netrev.recording.goroutines import ADDED, DONE, ObjectUse
 from netrev.recording.recording import Recording
 from netrev.recording.waits import Name, name_of_goid, of_names
-from netrev.recording.where import OF_THE_PROGRAM, Call
+from netrev.recording.where import OF_THE_PROGRAM, SourceCall
 
 MOST_PLACES, MOST_KINDS = 2, 2
 
@@ -17,8 +17,8 @@ MOST_PLACES, MOST_KINDS = 2, 2
 class Count(NamedTuple):
     """The uses of a WaitGroup that added to its count, and the uses that subtracted from it."""
 
-    added: list[Use]
-    done: list[Use]
+    added: list[ObjectUse]
+    done: list[ObjectUse]
 
     @property
     def missing(self) -> int:
@@ -36,7 +36,7 @@ class Count(NamedTuple):
         return total(self.done) == len(self.done_by)
 
 
-def total(uses: list[Use]) -> int:
+def total(uses: list[ObjectUse]) -> int:
     return sum(use.often for use in uses)
 
 
@@ -55,7 +55,7 @@ def count_says(recording: Recording, count: Count) -> str:
     return f"{missing} missing: {total(count.added)} {were} added{places_of(recording, count.added)}, and {done}."
 
 
-def places_of(recording: Recording, uses: list[Use]) -> str:
+def places_of(recording: Recording, uses: list[ObjectUse]) -> str:
     """The lines at which goroutines called Add or Done most often."""
     often = Counter[str]()
     for use in uses:
@@ -75,7 +75,7 @@ def started_by(recording: Recording, count: Count) -> set[int]:
 def kinds_at(recording: Recording, count: Count) -> list[Kind]:
     """The `go` statements whose goroutines should call Done, because at least one of their goroutines did. If no
     goroutine did, the result has the `go` statement after the line that called Add."""
-    found, goroutines = dict[Call, Kind](), recording.lines.goroutines
+    found, goroutines = dict[SourceCall, Kind](), recording.lines.goroutines
     for goid in sorted(started_by(recording, count)):
         statement = goroutines[goid].made
         if statement and statement.of == OF_THE_PROGRAM:

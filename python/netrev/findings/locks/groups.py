@@ -14,7 +14,7 @@ from netrev.findings.pools.made_channels import has_returned
 from netrev.findings.source.functions import found_in, indent_of, is_last_line, is_same_variable, source_of, text_at
 from netrev.findings.streams.failed_dials import failed_dial, refused, refused_words
 from netrev.recording.waits import Name, Waits, name_of_goid, of_names
-from netrev.recording.where import OF_THE_PROGRAM, Call, Stack
+from netrev.recording.where import OF_THE_PROGRAM, SourceCall, Stack
 
 from .group_counts import Count, count_of, count_says, ended_names, ended_says, started_by
 from .skipped_done import skipped_done
@@ -31,7 +31,7 @@ class Member(NamedTuple):
     that started the goroutine."""
 
     name: Name
-    line: Call
+    line: SourceCall
     number: int = 0
 
 
@@ -48,7 +48,7 @@ class Groups:
         self._index, self._recording, self._waits = index, index.recording, waits
         self._stacks, self._position = stacks, position
         self._members: dict[
-            tuple[Call, ...], list[Member]
+            tuple[SourceCall, ...], list[Member]
         ] = {}  # the members, keyed by the program's calls in which a goroutine waits
 
     def of(self, waiter: Waiter, waiters: Container[Name], does: Callable[[Name], str]) -> Optional[Need]:
@@ -113,7 +113,7 @@ class Groups:
             ]
         return []
 
-    def _are_level(self, call: Call, number: int) -> bool:
+    def _are_level(self, call: SourceCall, number: int) -> bool:
         """Whether two lines of a function are in blocks of the same depth."""
         lines = source_of(self._recording, call.file)
         return lines is not None and indent_of(lines[call.line - 1]) == indent_of(lines[number - 1])
@@ -204,7 +204,7 @@ class Groups:
         """Sentences about the goroutines that the waiter's functions started, if all of these have ended. The sentences
         say so, and name the goroutines that differed from the others."""
         inside = {call.function for call in waiter.stack.calls if call.of == OF_THE_PROGRAM}
-        started: dict[Call, list[int]] = {}
+        started: dict[SourceCall, list[int]] = {}
         lines = self._recording.lines
         for goid, known in lines.goroutines.items():
             if known.made and known.made.function in inside and 0 <= known.first <= waiter.since:
@@ -214,7 +214,7 @@ class Groups:
                 return self._ended_words(statement, goids)
         return []
 
-    def _ended_words(self, statement: Call, goids: list[int]) -> list[str]:
+    def _ended_words(self, statement: SourceCall, goids: list[int]) -> list[str]:
         lines, failed = self._recording.lines, [goid for goid in goids if self._failed_dial(goid)]
         many = "The goroutine" if len(goids) == 1 else f"All {len(goids)} goroutines"
         says = [f"{many} started at {statement.place()} ha{'s' if len(goids) == 1 else 've'} ended."]

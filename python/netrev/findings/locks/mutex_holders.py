@@ -11,10 +11,10 @@ from netrev.findings.source.copied_structs import copies_says
 from netrev.findings.source.functions import found_in, text_at
 from netrev.findings.source.left_locked import returns_locked
 from netrev.findings.source.locks import LOCK, UNLOCK
-from netrev.recording.goroutines import READ, Held
+from netrev.recording.goroutines import READ, HeldMutex
 from netrev.recording.recording import Recording
-from netrev.recording.waits import Name, Waiting, name_of_goid
-from netrev.recording.where import OF_THE_PROGRAM, Call, Stack
+from netrev.recording.waits import Name, ObjectWait, name_of_goid
+from netrev.recording.where import OF_THE_PROGRAM, SourceCall, Stack
 from netrev.text.plurals import counted
 
 MUTEX_OF_GO, READS, WRITES = "sync.(*Mutex).", "sync.(*RWMutex).RLock", "sync.(*RWMutex).Lock"
@@ -31,7 +31,7 @@ class Holder(NamedTuple):
     is_reader: bool
 
     @property
-    def call(self) -> Optional[Call]:
+    def call(self) -> Optional[SourceCall]:
         """The call of the program that locked the mutex."""
         found = self.stack.own()
         return found[0] if found and found[0].of == OF_THE_PROGRAM else None
@@ -62,7 +62,7 @@ class MutexHolders:
         end."""
         return self._recording.lines.held is not None and self._position == self._recording.length
 
-    def need(self, wait: Waiting) -> Need:
+    def need(self, wait: ObjectWait) -> Need:
         """What a goroutine needs while it waits for a mutex."""
         holders = list(self._holders(wait))
         mine = [holder for holder in holders if holder.name == wait.name]
@@ -71,7 +71,7 @@ class MutexHolders:
         others = [holder for holder in holders if holder.name != wait.name]
         return self._of_holder(wait, others[0], others[1:]) if others else self._of_nobody(wait)
 
-    def _holders(self, wait: Waiting) -> Iterator[Holder]:
+    def _holders(self, wait: ObjectWait) -> Iterator[Holder]:
         """The holders for which a goroutine waits: the writer; or the readers, if the goroutine is itself a writer that
         already has the mutex. The goroutine itself is among the holders if it also holds the mutex."""
         held = [entry for at in wait.objects for entry in (self._recording.lines.held or {}).get(at.object, ())]
@@ -84,24 +84,24 @@ class MutexHolders:
             yield from writers
             yield from (reader for reader in readers if reader.name == wait.name and not contains(wait.stack, READS))
 
-    def _holder(self, held: Held) -> Holder:
+    def _holder(self, held: HeldMutex) -> Holder:
         lines = self._recording.lines
         return Holder(name_of_goid(lines, held.goid), lines.stacks[held.stack], held.step, held.how == READ)
 
     @staticmethod
-    def _is_pending(wait: Waiting, holder: Holder) -> bool:
+    def _is_pending(wait: ObjectWait, holder: Holder) -> bool:
         """Whether a goroutine in RWMutex.Lock has the mutex already and waits only for its readers."""
         inside = [call.function for call in wait.stack.calls if call.of != OF_THE_PROGRAM]
         is_in_mutex = any(MUTEX_OF_GO in function for function in inside)
         return not holder.is_reader and not is_in_mutex and any(WRITES in function for function in inside)
 
-    def _of_itself(self, wait: Waiting, holder: Holder) -> Need:
+    def _of_itself(self, wait: ObjectWait, holder: Holder) -> Need:
         """What a waiting goroutine needs if it has already locked the mutex itself."""
         if left := self._left_locked(holder, wait.stack):
             return left
         return Need([f"It {holder.how} itself{holder.locked}: Lock waits for its own goroutine."], is_odd=True)
 
-    def _of_holder(self, wait: Waiting, holder: Holder, more: list[Holder]) -> Need:
+    def _of_holder(self, wait: ObjectWait, holder: Holder, more: list[Holder]) -> Need:
         """What a waiting goroutine needs if another goroutine holds the mutex."""
         call, does = holder.call, self._does(holder.name)
         if does.startswith("ended"):
@@ -137,7 +137,7 @@ class MutexHolders:
         says = f"{locked_words(holder)}, and returned from {short(call.function)} with it locked."
         return Need([says, *returns_locked(self._recording, call)], is_odd=True, gone=holder.name)
 
-    def _of_nobody(self, wait: Waiting) -> Need:
+    def _of_nobody(self, wait: ObjectWait) -> Need:
         """What a goroutine needs if no goroutine holds the mutex. If the waiter has waited for more than a moment, the mutex may be
         a copy of a locked mutex."""
         times = self._recording.lines.times

@@ -8,19 +8,19 @@ from netrev.findings.evidence.need import Certainty, Need
 from netrev.findings.evidence.waiters import Waiter
 from netrev.findings.source.functions import is_same_variable, source_of, text_at
 from netrev.findings.source.left_locked import left_locked
-from netrev.findings.source.locks import LOCK, Held, held_at, owner
+from netrev.findings.source.locks import LOCK, LockedMutex, held_at, owner
 from netrev.findings.source.package import place_of_variable
 from netrev.recording.goroutines import MUTEXES
 from netrev.recording.recording import Recording
-from netrev.recording.waits import Name, Waiting, of_names
-from netrev.recording.where import OF_THE_PROGRAM, Call, Stack
+from netrev.recording.waits import Name, ObjectWait, of_names
+from netrev.recording.where import OF_THE_PROGRAM, SourceCall, Stack
 
 
 DO = ("sync.(*Once).Do", "sync.(*Once).doSlow")
 MOST_HOLDERS = 50  # the most mutexes to examine
 
 
-class Holder(NamedTuple):
+class PossibleHolder(NamedTuple):
     """A goroutine that may hold a mutex, the line at which the goroutine locked it (0: unknown), and the strength of
     the evidence."""
 
@@ -56,10 +56,10 @@ class NeedsOfMutexes:
     ) -> None:  # fmt: skip
         self._recording, self._ledger, self._waiters, self._does = recording, ledger, waiters, does
         self._stacks = stacks
-        self._found: dict[tuple[Call, frozenset[int]], list[Holder]] = {}
-        self._locks: dict[tuple[Call, Call, frozenset[Call]], Optional[int]] = {}
+        self._found: dict[tuple[SourceCall, frozenset[int]], list[PossibleHolder]] = {}
+        self._locks: dict[tuple[SourceCall, SourceCall, frozenset[SourceCall]], Optional[int]] = {}
 
-    def of(self, waiter: Waiter, wait: Waiting) -> Optional[Need]:
+    def of(self, waiter: Waiter, wait: ObjectWait) -> Optional[Need]:
         """What a goroutine needs while it waits for a mutex; None if no possible holder is found."""
         found = waiter.stack.own()
         if not found or found[0].of != OF_THE_PROGRAM:
@@ -83,7 +83,7 @@ class NeedsOfMutexes:
         held = "It is held by" if is_likely else "Perhaps it is held by"
         return Need([f"{held} {first.name}, which {self._does(first.name)}."])
 
-    def _crossed(self, waiter: Waiter, wait: Waiting) -> Optional[Need]:
+    def _crossed(self, waiter: Waiter, wait: ObjectWait) -> Optional[Need]:
         """What a waiting goroutine needs if it and another goroutine are in the same function, hold a mutex there, and
         wait for different mutexes. This happens if they call the function with the same mutexes in different orders."""
         objects = {at.object for at in wait.objects}
@@ -97,12 +97,12 @@ class NeedsOfMutexes:
                     )
         return None
 
-    def _last(self, wait: Waiting) -> set[Name]:
+    def _last(self, wait: ObjectWait) -> set[Name]:
         """The last known holders of the mutexes that a goroutine waits for."""
         numbers = [at.object for at in wait.objects]
         return {holder.name for number in numbers if (holder := self._ledger.last_holder(number))}
 
-    def _of_itself(self, waiter: Waiter, lock: Call) -> str:
+    def _of_itself(self, waiter: Waiter, lock: SourceCall) -> str:
         """Says that a goroutine may have locked the mutex itself, in a call that hasn't returned; empty otherwise."""
         name = LOCK.search(text_at(self._recording, lock))
         for call in waiter.stack.calls if name else ():
@@ -111,22 +111,22 @@ class NeedsOfMutexes:
                     return f"Perhaps it holds that itself, locked at {call.file}:{held.line}."
         return ""
 
-    def _held(self, call: Call) -> list[Held]:
+    def _held(self, call: SourceCall) -> list[LockedMutex]:
         return held_at(self._recording, call) if call.of == OF_THE_PROGRAM else []
 
-    def _holders(self, waiter: Waiter, wait: Waiting, lock: Call) -> list[Holder]:
+    def _holders(self, waiter: Waiter, wait: ObjectWait, lock: SourceCall) -> list[PossibleHolder]:
         """The goroutines that may hold the mutex, strongest evidence first."""
         numbers = frozenset(at.object for at in wait.objects)
         if (lock, numbers) not in self._found:
             self._found[lock, numbers] = self._found_for(lock, numbers, self._last(wait))
         return [holder for holder in self._found[lock, numbers] if holder.name != waiter.name]
 
-    def _found_for(self, lock: Call, numbers: frozenset[int], last: set[Name]) -> list[Holder]:
+    def _found_for(self, lock: SourceCall, numbers: frozenset[int], last: set[Name]) -> list[PossibleHolder]:
         """The goroutines that may hold a mutex. Goroutines that wait for the same mutex are left out, unless they hold
         it themselves."""
         locks = {lock}.union(*map(self._ledger.lines_of, numbers))
         had = {name for number in numbers for name in self._ledger.had(number)}
-        found = list[Holder]()
+        found = list[PossibleHolder]()
         for name, stack in self._stacks:
             calls = [call for call in stack.calls if call.of == OF_THE_PROGRAM]
             lines = (at for call in calls if (at := self._lock_of(call, lock, locks)) is not None)
@@ -135,10 +135,10 @@ class NeedsOfMutexes:
             if at is not None and not (
                 numbers & self._waits_for(name) and not (other and self._of_itself(other, lock))
             ):
-                found.append(Holder(name, calls[0].file, at, 2 * (name in last) + (name in had)))
+                found.append(PossibleHolder(name, calls[0].file, at, 2 * (name in last) + (name in had)))
         return sorted(found, key=lambda holder: -holder.weight)[:MOST_HOLDERS]
 
-    def _is_same_field(self, call: Call, name: str, other: Call, other_name: str) -> bool:
+    def _is_same_field(self, call: SourceCall, name: str, other: SourceCall, other_name: str) -> bool:
         """Whether two expressions in functions of different types name the same field of a struct."""
         place = place_of_variable(self._recording, call, name)
         return place is not None and place == place_of_variable(self._recording, other, other_name)
@@ -148,7 +148,7 @@ class NeedsOfMutexes:
         waiter = self._waiters.get(name)
         return {at.object for at in waiter.wait.objects} if waiter and waiter.wait else set()
 
-    def _lock_of(self, call: Call, lock: Call, locks: set[Call]) -> Optional[int]:
+    def _lock_of(self, call: SourceCall, lock: SourceCall, locks: set[SourceCall]) -> Optional[int]:
         """The line at which a goroutine in the function of `call` locked a mutex that may be the awaited one.
         Goroutines wait for the awaited mutex in the call `lock` or in `locks`. The result is 0 if the line isn't
         certain, and None if the goroutine holds no such mutex there."""
@@ -157,7 +157,7 @@ class NeedsOfMutexes:
             self._locks[key] = self._look_for_lock(call, lock, locks)
         return self._locks[key]
 
-    def _look_for_lock(self, call: Call, lock: Call, locks: set[Call]) -> Optional[int]:
+    def _look_for_lock(self, call: SourceCall, lock: SourceCall, locks: set[SourceCall]) -> Optional[int]:
         name = LOCK.search(text_at(self._recording, lock))
         for held in self._held(call):
             is_alike = owner(call.function) == owner(lock.function)

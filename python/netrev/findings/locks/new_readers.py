@@ -8,7 +8,7 @@ from netrev.findings.evidence.index import Index, back
 from netrev.findings.evidence.words import result_words, text_of_call
 from netrev.findings.source.functions import range_of, source_of, text_at
 from netrev.recording.call import Call
-from netrev.recording.where import OF_THE_PROGRAM, Call as LineCall, Stack
+from netrev.recording.where import OF_THE_PROGRAM, SourceCall as LineCall, Stack
 
 from .groups import outermost
 

@@ -9,10 +9,10 @@ from typing import NamedTuple, Optional
 from netrev.findings.evidence.ended_goroutines import body_of, loop_round
 from netrev.findings.source.functions import Lines, range_of, source_of, text_at
 from netrev.findings.source.skipped_ways import is_match, is_text, skipped_ways, that_stay, ways_words
-from netrev.recording.goroutines import PUT, TOOK, Use
+from netrev.recording.goroutines import PUT, TOOK, ObjectUse
 from netrev.recording.recording import Recording
 from netrev.recording.waits import Waits, name_of_goid
-from netrev.recording.where import OF_THE_PROGRAM, Call, Stack
+from netrev.recording.where import OF_THE_PROGRAM, SourceCall, Stack
 from netrev.text.plurals import counted
 
 from .group_counts import Count, count_says, total
@@ -27,10 +27,10 @@ class Rounds(NamedTuple):
     """A loop that takes values from a channel at a line and calls Done at another line, directly or through a function.
     `takes` is 0 if the loop takes no values."""
 
-    line: Call
+    line: SourceCall
     head: int
     takes: int
-    done: Call
+    done: SourceCall
 
 
 def skipped_done(recording: Recording, waits: Waits, count: Count, position: int) -> list[str]:
@@ -68,7 +68,7 @@ def perhaps_skipped(recording: Recording, count: Count, loops: dict[tuple[str, i
     return []
 
 
-def unput_says(recording: Recording, count: Count, puts: list[Use]) -> list[str]:
+def unput_says(recording: Recording, count: Count, puts: list[ObjectUse]) -> list[str]:
     """Sentences for a loop that called Done for each value. Fewer values were put into the channel than were added to
     the WaitGroup, and the sentences name the paths that put no value."""
     owns = [own[0] for use in puts if (own := recording.lines.stacks[use.stack].own())]
@@ -114,31 +114,31 @@ def code(lines: Lines, number: int) -> str:
     return lines[number - 1].partition("//")[0].strip()
 
 
-def is_at(recording: Recording, use: Use, rounds: Rounds) -> bool:
+def is_at(recording: Recording, use: ObjectUse, rounds: Rounds) -> bool:
     """Whether a use takes a value for a loop: it is at the line that takes values, or at the `select` of which that
     line is a case."""
     own = recording.lines.stacks[use.stack].own()
     return own is not None and own[0].function == rounds.line.function and rounds.head <= own[0].line <= rounds.takes
 
 
-def is_by(recording: Recording, use: Use, rounds: Rounds) -> bool:
+def is_by(recording: Recording, use: ObjectUse, rounds: Rounds) -> bool:
     """Whether a use is a loop's call of Done."""
     return rounds.line in recording.lines.stacks[use.stack].calls
 
 
-def is_free(recording: Recording, waits: Waits, use: Use, position: int) -> bool:
+def is_free(recording: Recording, waits: Waits, use: ObjectUse, position: int) -> bool:
     """Whether the goroutine that took a value has ended, or waits for the next value."""
     wait = waits.at(name_of_goid(recording.lines, use.goid), position)
     waits_there = wait is not None and any(at.object == use.object for at in wait.objects)
     return waits_there or has_ended(recording, use)
 
 
-def has_ended(recording: Recording, use: Use) -> bool:
+def has_ended(recording: Recording, use: ObjectUse) -> bool:
     known = recording.lines.goroutines.get(use.goid)
     return known is not None and known.last >= 0
 
 
-def rounds_say(recording: Recording, every: list[Rounds], takes: list[Use], done: list[Use]) -> list[str]:
+def rounds_say(recording: Recording, every: list[Rounds], takes: list[ObjectUse], done: list[ObjectUse]) -> list[str]:
     """Sentences that say how often a loop took a value and how often it called Done, and name the paths that skip
     Done."""
     rounds = every[-1]

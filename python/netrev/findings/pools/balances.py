@@ -7,23 +7,23 @@ from operator import attrgetter
 from typing import NamedTuple, Optional
 
 from netrev.findings.evidence.words import short
-from netrev.recording.goroutines import PUT, TOOK, Use
+from netrev.recording.goroutines import PUT, TOOK, ObjectUse
 from netrev.recording.recording import Recording
 from netrev.recording.waits import Name, name_of_goid
-from netrev.recording.where import OF_THE_PROGRAM, Call, Stack
+from netrev.recording.where import OF_THE_PROGRAM, SourceCall, Stack
 from netrev.text.plurals import counted
 
 DEFERRED = ".deferwrap"  # in the names of functions that run when another ends
 BEGIN = attrgetter("begin")
 TAKEN_WORDS = {TOOK: ("took", "put", "back"), PUT: ("put", "took", "out again")}
-Frames = tuple[Call, ...]
-Path = tuple[Call, ...]  # the callers of the function that takes values and gives them back
+Frames = tuple[SourceCall, ...]
+Path = tuple[SourceCall, ...]  # the callers of the function that takes values and gives them back
 
 
-class Place(NamedTuple):
+class ChannelUse(NamedTuple):
     """The place at which a function uses a channel: the line in the function, and the calls around it."""
 
-    line: Call
+    line: SourceCall
     path: Path
 
 
@@ -33,10 +33,10 @@ class Form(NamedTuple):
 
     function: str
     takes: str
-    taking: set[Call]
-    giving: set[Call]
+    taking: set[SourceCall]
+    giving: set[SourceCall]
 
-    def has_at(self, line: Call) -> bool:
+    def has_at(self, line: SourceCall) -> bool:
         """Whether a call at this line has taken a value and gives it back at a later line or in a deferred function."""
         deferred = any(giving.function != self.function for giving in self.giving)
         is_behind = any(taking.line < line.line for taking in self.taking)
@@ -50,8 +50,8 @@ class Balance(NamedTuple):
 
     name: Name
     takes: str
-    taken: Counter[Call]
-    given: Counter[Call]
+    taken: Counter[SourceCall]
+    given: Counter[SourceCall]
     has_value: bool = False
     is_taking: bool = False
     is_giving: bool = False
@@ -75,7 +75,7 @@ class Balance(NamedTuple):
         return words + (f"; {now}" if now else "")
 
 
-def at_lines(often: Counter[Call]) -> str:
+def at_lines(often: Counter[SourceCall]) -> str:
     """Text for the lines of uses: ` at a.go:3 in take`, or, with the number of uses at each line, ` (9 at a.go:3 in
     give, 1 at a.go:7 in give)`."""
     places = Counter[str]()
@@ -92,7 +92,7 @@ def balances_of(recording: Recording, number: int, now: dict[Name, Stack]) -> li
     lines = recording.lines
     uses = [use for use in lines.uses.get(number, ()) if use.what in (PUT, TOOK)]
     takes, functions = takes_of(recording, uses)
-    found: dict[str, dict[tuple[Name, Path], list[Use]]] = defaultdict(lambda: defaultdict(list))
+    found: dict[str, dict[tuple[Name, Path], list[ObjectUse]]] = defaultdict(lambda: defaultdict(list))
     for use in uses:
         frames = program_frames(lines.stacks[use.stack])
         function = next((call.function for call in frames if call.function in functions), "")
@@ -113,7 +113,11 @@ def give_back(balances: list[Balance]) -> bool:
 
 
 def of_function(
-    recording: Recording, function: str, takes: str, found: dict[tuple[Name, Path], list[Use]], now: dict[Name, Stack]
+    recording: Recording,
+    function: str,
+    takes: str,
+    found: dict[tuple[Name, Path], list[ObjectUse]],
+    now: dict[Name, Stack],
 ) -> list[Balance]:
     """The balances of a function that takes values and gives them back, one for each goroutine and caller."""
     every = [use for uses in found.values() for use in uses]
@@ -131,16 +135,18 @@ def called_at(path: Path) -> str:
     return path[0].place() if path else ""
 
 
-def lines_of_form(recording: Recording, uses: list[Use], takes: str, function: str) -> tuple[set[Call], set[Call]]:
+def lines_of_form(
+    recording: Recording, uses: list[ObjectUse], takes: str, function: str
+) -> tuple[set[SourceCall], set[SourceCall]]:
     """The lines at which a function takes values, and the lines at which it gives values back."""
-    taking, giving = set[Call](), set[Call]()
+    taking, giving = set[SourceCall](), set[SourceCall]()
     for use in uses:
         if place := place_in(function, program_frames(recording.lines.stacks[use.stack])):
             (taking if use.what == takes else giving).add(place.line)
     return taking, giving
 
 
-def takes_of(recording: Recording, uses: list[Use]) -> tuple[str, set[str]]:
+def takes_of(recording: Recording, uses: list[ObjectUse]) -> tuple[str, set[str]]:
     """What goroutines take from a channel (PUT or TOOK), and the functions of the program that take it and later give
     it back. Functions that only call such a function are left out."""
     stacks, functions, outer = recording.lines.stacks, Counter[str](), set[str]()
@@ -158,7 +164,7 @@ def takes_of(recording: Recording, uses: list[Use]) -> tuple[str, set[str]]:
     return first_of(recording, uses, functions.most_common(1)[0][0]), set(functions) - outer
 
 
-def first_of(recording: Recording, uses: list[Use], function: str) -> str:
+def first_of(recording: Recording, uses: list[ObjectUse], function: str) -> str:
     """The operation, PUT or TOOK, that most goroutines did first in a function."""
     inside = [use for use in uses if place_in(function, program_frames(recording.lines.stacks[use.stack]))]
     first: dict[int, str] = {}
@@ -171,21 +177,21 @@ def program_frames(stack: Stack) -> Frames:
     return tuple(call for call in stack.calls if call.of == OF_THE_PROGRAM)
 
 
-def place_in(function: str, frames: Frames) -> Optional[Place]:
+def place_in(function: str, frames: Frames) -> Optional[ChannelUse]:
     """The innermost call of a function in a stack. If one of the function's literals or deferred calls is running, the
     result has the line in the literal or the line of the `defer` statement."""
     for at, call in enumerate(frames):
         if call.function == function:
             inner = frames[at - 1] if at and frames[at - 1].function.startswith(f"{function}.") else call
-            return Place(inner, frames[at + 1 :])
+            return ChannelUse(inner, frames[at + 1 :])
     return None
 
 
 def balance_of(
-    recording: Recording, name: Name, path: Path, uses: list[Use], form: Form, now: dict[Name, Stack]
+    recording: Recording, name: Name, path: Path, uses: list[ObjectUse], form: Form, now: dict[Name, Stack]
 ) -> Balance:
     """The values that a goroutine took and gave back in its calls of the function from one place."""
-    taken, given, stacks = Counter[Call](), Counter[Call](), recording.lines.stacks
+    taken, given, stacks = Counter[SourceCall](), Counter[SourceCall](), recording.lines.stacks
     for use in uses:
         if place := place_in(form.function, program_frames(stacks[use.stack])):
             (taken if use.what == form.takes else given)[place.line] += use.often
@@ -208,7 +214,7 @@ def has_ended(recording: Recording, name: Name) -> bool:
     return known is not None and known.last >= 0
 
 
-def current_in(function: str, path: Path, stack: Optional[Stack]) -> Optional[tuple[Call, Frames]]:
+def current_in(function: str, path: Path, stack: Optional[Stack]) -> Optional[tuple[SourceCall, Frames]]:
     """The line at which a goroutine is in the function, and the goroutine's frames in the program; None if the
     goroutine isn't in a call of the function by these callers."""
     frames = program_frames(stack) if stack else ()

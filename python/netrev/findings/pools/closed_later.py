@@ -8,8 +8,8 @@ from netrev.findings.evidence.need import Certainty, Need
 from netrev.findings.source.functions import Lines, indent_of, source_of
 from netrev.recording.goroutines import A_SELECT
 from netrev.recording.recording import Recording
-from netrev.recording.waits import Name, Waiting
-from netrev.recording.where import OF_THE_PROGRAM, Call, Stack
+from netrev.recording.waits import Name, ObjectWait
+from netrev.recording.where import OF_THE_PROGRAM, SourceCall, Stack
 
 from .uncancelled import cancel_in, cancels_of
 from .unclosed import closings_of, inside
@@ -18,7 +18,7 @@ CASE = re.compile(r"\s*case (?:\w+(?:, \w+)? :?= )?<-\s*([\w.]+)(\(\))?:")
 DONE = ".Done"
 
 
-def closed_later(recording: Recording, wait: Waiting, stacks: Iterable[tuple[Name, Stack]]) -> Optional[Need]:
+def closed_later(recording: Recording, wait: ObjectWait, stacks: Iterable[tuple[Name, Stack]]) -> Optional[Need]:
     """What a goroutine needs while it waits in a select: another goroutine that will later close a case's channel or
     cancel a case's context. The result is None if the goroutine isn't in a select, or if no such goroutine is found."""
     own = wait.stack.own()
@@ -46,7 +46,7 @@ def channels_of(lines: Lines, number: int) -> Iterator[str]:
 
 
 def ended_by(
-    lines: Lines, call: Call, channel: str, stacks: Iterable[tuple[Name, Stack]]
+    lines: Lines, call: SourceCall, channel: str, stacks: Iterable[tuple[Name, Stack]]
 ) -> Iterator[tuple[Name, int]]:
     """The goroutines that will end a wait on a channel, each with the line that ends the wait."""
     cancels = cancels_of(lines, call, channel.removesuffix(DONE)) if channel.endswith(DONE) else []

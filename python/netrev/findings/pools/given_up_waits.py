@@ -8,7 +8,7 @@ from netrev.findings.evidence.index import Cause, Index
 from netrev.findings.evidence.words import place_in
 from netrev.recording.goroutines import A_SELECT, FOR_ROOM, FOR_VALUE, PUT, TOOK, At
 from netrev.recording.recording import Recording
-from netrev.recording.waits import Waiting, waits_of
+from netrev.recording.waits import ObjectWait, waits_of
 from netrev.recording.where import OF_THE_PROGRAM
 from netrev.text.plurals import counted
 
@@ -35,7 +35,7 @@ def given_up_waits(index: Index) -> Iterator[Cause]:
             )
 
 
-def is_given_up(recording: Recording, wait: Waiting) -> bool:
+def is_given_up(recording: Recording, wait: ObjectWait) -> bool:
     """Whether a goroutine of the program waited for a while in a select and then went on."""
     own, last = wait.stack.own(), wait.last
     ended = next(
@@ -65,7 +65,7 @@ def is_stuck(recording: Recording, at: At) -> bool:
     )
 
 
-def says(recording: Recording, wait: Waiting, at: At) -> list[str]:
+def says(recording: Recording, wait: ObjectWait, at: At) -> list[str]:
     """The sentences about an abandoned wait."""
     room = recording.lines.objects[at.object].room
     what = (

@@ -19,8 +19,8 @@ from netrev.findings.source.skipped_ways import (
 )
 from netrev.recording.goroutines import FOR_ROOM
 from netrev.recording.recording import Recording
-from netrev.recording.waits import Waiting
-from netrev.recording.where import OF_THE_PROGRAM, Call, Stack
+from netrev.recording.waits import ObjectWait
+from netrev.recording.where import OF_THE_PROGRAM, SourceCall, Stack
 
 from .balances import Balance
 
@@ -59,7 +59,7 @@ def ways_that_keep(recording: Recording, balances: Iterable[Balance]) -> list[st
     return says
 
 
-def ways_with_an_error(recording: Recording, wait: Waiting) -> list[str]:
+def ways_with_an_error(recording: Recording, wait: ObjectWait) -> list[str]:
     """Sentences about the paths of a function that return an error without giving back what the function took from a
     pool or a semaphore. At least one other path of the function gives it back."""
     own = wait.stack.own()
@@ -82,7 +82,7 @@ def ways_with_an_error(recording: Recording, wait: Waiting) -> list[str]:
     return [f"Perhaps {function} keeps it {ways_are(failing)}: {does}."]
 
 
-def case_of(recording: Recording, line: Call, use: str) -> Call:
+def case_of(recording: Recording, line: SourceCall, use: str) -> SourceCall:
     """The line of a select's first case with the operation that a goroutine waits for. If the line has no select, the
     result is the line itself."""
     lines = source_of(recording, line.file)
@@ -111,7 +111,7 @@ def gives_on_most_ways(recording: Recording, balances: Iterable[Balance]) -> boo
     return False
 
 
-def gives_back(recording: Recording, given: Iterable[Call]) -> Optional[Test]:
+def gives_back(recording: Recording, given: Iterable[SourceCall]) -> Optional[Test]:
     """A test of whether a statement gives something back. The test is derived from the statements that did so, and is
     None if their text isn't known."""
     patterns = {pattern for line in given if (pattern := pattern_of(text_at(recording, line)))}
@@ -137,7 +137,7 @@ def value_of(text: str, form: str) -> Test:
     return lambda statement: hands_on(USES.sub("(", statement))
 
 
-def ways_of(recording: Recording, line: Call, text: str, ends: Test, keeps: Test) -> list[Way]:
+def ways_of(recording: Recording, line: SourceCall, text: str, ends: Test, keeps: Test) -> list[Way]:
     """The paths in the function of `line` that begin at the statement `text` and skip the statements matched by
     `ends`."""
     lines, within = function_of(recording, line) if line.of == OF_THE_PROGRAM else ((), range(0))
@@ -167,7 +167,7 @@ def ways_past_close(recording: Recording, stacks: Iterable[Stack]) -> list[str]:
     return list(says)[:MOST_PLACES]
 
 
-def closed_in_a_loop(recording: Recording, call: Call, name: str) -> str:
+def closed_in_a_loop(recording: Recording, call: SourceCall, name: str) -> str:
     """A sentence about something that a loop makes in each iteration and that is closed only when the function returns,
     because its Close is deferred; else empty."""
     lines, head = loop_at(recording, call)

@@ -12,7 +12,7 @@ from netrev.findings.source.statements import code_at
 from netrev.recording.call import OPEN, Call
 from netrev.recording.recording import Recording
 from netrev.recording.waits import Name, waits_of
-from netrev.recording.where import OF_THE_PROGRAM, Call as LineCall, Stack
+from netrev.recording.where import OF_THE_PROGRAM, SourceCall as LineCall, Stack
 
 from .kept_ways import USES, closed_in_a_loop, value_of, ways_of
 

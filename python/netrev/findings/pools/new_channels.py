@@ -7,13 +7,13 @@ from netrev.findings.evidence.ended_goroutines import loop_round
 from netrev.findings.evidence.index import index_of
 from netrev.findings.source.functions import range_of, source_of, text_at
 from netrev.recording.recording import Recording
-from netrev.recording.waits import Waiting
+from netrev.recording.waits import ObjectWait
 from netrev.recording.where import OF_THE_PROGRAM
 
 from .senders import PUTS, TAKES
 
 
-def channel_since(recording: Recording, wait: Waiting) -> int:
+def channel_since(recording: Recording, wait: ObjectWait) -> int:
     """A step before which a goroutine's channel was made; 0 if unknown. The waiting function makes the channel, then
     calls Write, and then waits on the channel. The result is the first step of that Write. It is 0 if the Write or the
     wait is in a loop that begins after the channel is made."""

@@ -17,8 +17,8 @@ from netrev.findings.source.functions import (
 from netrev.findings.source.locks import owner
 from netrev.recording.goroutines import FOR_ROOM, FOR_VALUE
 from netrev.recording.recording import Recording
-from netrev.recording.waits import Name, Waiting
-from netrev.recording.where import OF_THE_PROGRAM, Call, Stack
+from netrev.recording.waits import Name, ObjectWait
+from netrev.recording.where import OF_THE_PROGRAM, SourceCall, Stack
 
 PUTS = re.compile(r"([\w.]+(?:\[[^\]]*\])?) ?<- ?(?=\S)")
 TAKES = re.compile(r"(?:<- ?|\brange )([\w.]+)(?![\w.(])")
@@ -32,7 +32,7 @@ class Giving(NamedTuple):
     within: range
 
 
-def later_giver(recording: Recording, wait: Waiting, stacks: Iterable[tuple[Name, Stack]]) -> Optional[Need]:
+def later_giver(recording: Recording, wait: ObjectWait, stacks: Iterable[tuple[Name, Stack]]) -> Optional[Need]:
     """What a waiting goroutine needs: another goroutine that may do the awaited operation later. If no line of the file
     does the operation, a sentence says so. The result is None if the source isn't available."""
     own = wait.stack.own()
@@ -60,7 +60,7 @@ def later_giver(recording: Recording, wait: Waiting, stacks: Iterable[tuple[Name
     return None
 
 
-def is_deferred_in(lines: Lines, call: Call, number: int) -> bool:
+def is_deferred_in(lines: Lines, call: SourceCall, number: int) -> bool:
     """Whether a line is in a function literal that the function of a call has deferred."""
     within = range_of(lines, call)
     return within is not None and number in within and number < call.line and is_deferred(lines, number)
@@ -72,7 +72,7 @@ def is_deferred(lines: Lines, number: int) -> bool:
     return any(lines[at - 1].lstrip().startswith("defer ") for at in (number, begin) if at)
 
 
-def givings_at(recording: Recording, wait: Waiting) -> list[Giving]:
+def givings_at(recording: Recording, wait: ObjectWait) -> list[Giving]:
     """The lines with the awaited operation on a channel, from the source."""
     own = wait.stack.own()
     mine, others = (TAKES, PUTS) if wait.objects[0].use == FOR_VALUE else (PUTS, TAKES)
@@ -81,13 +81,13 @@ def givings_at(recording: Recording, wait: Waiting) -> list[Giving]:
     return givings_of(source, own[0], name[1], others) if own and name and source else []
 
 
-def givings_of(source: Lines, call: Call, name: str, pattern: "re.Pattern[str]") -> list[Giving]:
+def givings_of(source: Lines, call: SourceCall, name: str, pattern: "re.Pattern[str]") -> list[Giving]:
     """The lines that do an operation on a channel that may have this name."""
     found = []
     for number, text in enumerate(source, 1):
         gives = pattern.search(text.partition("//")[0])
         if gives and number != call.line and is_same_variable(name, gives[1], True):
-            within = range_of(source, Call(f"{owner(call.function)}.func1", call.file, number, call.of))
-            whole = range_of(source, Call(owner(call.function), call.file, number, call.of))
+            within = range_of(source, SourceCall(f"{owner(call.function)}.func1", call.file, number, call.of))
+            whole = range_of(source, SourceCall(owner(call.function), call.file, number, call.of))
             found.append(Giving(number, within or whole or range(0)))
     return found

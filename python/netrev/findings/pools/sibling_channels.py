@@ -6,14 +6,14 @@ from typing import Container, Optional
 from netrev.findings.evidence.ledger import END, GIVES
 from netrev.findings.evidence.need import Certainty, Need
 from netrev.findings.evidence.words import place_in
-from netrev.recording.goroutines import CLOSED, FOR_VALUE, PUT, TOOK, Use
+from netrev.recording.goroutines import CLOSED, FOR_VALUE, PUT, TOOK, ObjectUse
 from netrev.recording.recording import Recording
-from netrev.recording.waits import Name, Waiting, name_of_goid
+from netrev.recording.waits import Name, ObjectWait, name_of_goid
 
 DID = {PUT: "put a value into", TOOK: "took one from", CLOSED: "closed"}
 
 
-def giver_at_siblings(recording: Recording, wait: Waiting, waiters: Container[Name]) -> Optional[Need]:
+def giver_at_siblings(recording: Recording, wait: ObjectWait, waiters: Container[Name]) -> Optional[Need]:
     """What a goroutine needs while it waits on a channel, if no goroutine has yet done the awaited operation there.
     The same line had made an earlier channel. `by` is another waiting goroutine, which did the operation on the earlier
     channel."""
@@ -25,7 +25,7 @@ def giver_at_siblings(recording: Recording, wait: Waiting, waiters: Container[Na
     return None
 
 
-def given_at_siblings(recording: Recording, wait: Waiting) -> list[Use]:
+def given_at_siblings(recording: Recording, wait: ObjectWait) -> list[ObjectUse]:
     """The operations that end such a wait on other channels made at the same line, latest first; none if the line that
     made the channel isn't known."""
     lines = recording.lines

@@ -7,10 +7,10 @@ from typing import Iterable, Iterator, Mapping, NamedTuple, Optional
 from netrev.findings.evidence.need import Certainty, Need
 from netrev.findings.evidence.words import short
 from netrev.findings.source.functions import Lines, range_of, source_of
-from netrev.recording.goroutines import FOR_ROOM, FOR_VALUE, PUT, TOOK, At, Use
+from netrev.recording.goroutines import FOR_ROOM, FOR_VALUE, PUT, TOOK, At, ObjectUse
 from netrev.recording.recording import Recording
-from netrev.recording.waits import Name, Waiting, name_of_goid
-from netrev.recording.where import OF_THE_PROGRAM, Call, Stack
+from netrev.recording.waits import Name, ObjectWait, name_of_goid
+from netrev.recording.where import OF_THE_PROGRAM, SourceCall, Stack
 
 from .senders import Giving, givings_at, is_deferred
 
@@ -23,11 +23,11 @@ class Slot(NamedTuple):
     """A slot that a goroutine holds: the line that took the slot, and the line that gives it back."""
 
     name: Name
-    taken: Call
+    taken: SourceCall
     back: str
 
 
-def slot_holders(recording: Recording, wait: Waiting, stacks: Iterable[tuple[Name, Stack]]) -> list[Slot]:
+def slot_holders(recording: Recording, wait: ObjectWait, stacks: Iterable[tuple[Name, Stack]]) -> list[Slot]:
     """The goroutines that hold a slot for which another goroutine waits, in the order in which they took their
     slots."""
     at, own = wait.objects[0], wait.stack.own()
@@ -55,7 +55,7 @@ def has_more(recording: Recording, at: At, goid: int, enters: str) -> bool:
     return taken > given
 
 
-def slots_in(recording: Recording, name: Name, use: Use, stack: Stack, leavings: list[Giving]) -> Iterator[Slot]:
+def slots_in(recording: Recording, name: Name, use: ObjectUse, stack: Stack, leavings: list[Giving]) -> Iterator[Slot]:
     """The slots that a goroutine took and has yet to give back. The goroutine is still in the call that took the slot,
     and a later line of the function gives the slot back."""
     taken = recording.lines.stacks[use.stack]
@@ -68,12 +68,12 @@ def slots_in(recording: Recording, name: Name, use: Use, stack: Stack, leavings:
                 yield Slot(name, own[0], f"{call.file}:{back}")
 
 
-def is_behind(taken: Stack, call: Call) -> bool:
+def is_behind(taken: Stack, call: SourceCall) -> bool:
     """Whether a call is in a function that took a slot, after the line that took it."""
     return any(frame.function == call.function and frame.line < call.line for frame in taken.calls)
 
 
-def leaving_line(lines: Lines, call: Call, leavings: list[Giving]) -> int:
+def leaving_line(lines: Lines, call: SourceCall, leavings: list[Giving]) -> int:
     """The line of a function, after a call or in a deferred function, that gives a slot back or calls a function that
     does; 0 if no line does."""
     within = range_of(lines, call)
@@ -93,7 +93,7 @@ def leaving_line(lines: Lines, call: Call, leavings: list[Giving]) -> int:
 
 
 def of_slots(
-    recording: Recording, wait: Waiting, stacks: Mapping[Name, Stack], waiters: Mapping[Name, object]
+    recording: Recording, wait: ObjectWait, stacks: Mapping[Name, Stack], waiters: Mapping[Name, object]
 ) -> Optional[Need]:
     """What a goroutine needs while it waits for a slot; None if no goroutine is known to hold a slot."""
     slots = [slot for slot in slot_holders(recording, wait, stacks.items()) if slot.name != wait.name]

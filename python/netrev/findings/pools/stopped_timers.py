@@ -11,7 +11,7 @@ from netrev.findings.source.functions import range_of, source_of
 from netrev.findings.source.skipped_ways import is_match, is_text, skipped_ways, that_stay, ways_are, ways_words
 from netrev.recording.goroutines import TOOK, Timer
 from netrev.recording.recording import Recording
-from netrev.recording.waits import Waiting, name_of_goid
+from netrev.recording.waits import ObjectWait, name_of_goid
 from netrev.recording.where import OF_THE_PROGRAM, Stack
 
 CASE = re.compile(r"(?:case )?(?:\w+ :?= )?<-([\w.]+)\.C:?$")
@@ -74,7 +74,7 @@ def silent_says(recording: Recording, silent: Silent) -> str:
     )
 
 
-def of_timers(recording: Recording, wait: Waiting) -> Optional[Need]:
+def of_timers(recording: Recording, wait: ObjectWait) -> Optional[Need]:
     """What a goroutine needs while it waits only for a timer that will send nothing more."""
     own = wait.stack.own()
     silent = silent_at(recording, wait.objects[0].object, wait.begin) if len(wait.objects) == 1 else None
@@ -83,7 +83,7 @@ def of_timers(recording: Recording, wait: Waiting) -> Optional[Need]:
     return Need([f"{silent_says(recording, silent)}{'' if silent.stopped else ways_past_reset(recording, wait)}"])
 
 
-def timers_of_select(recording: Recording, wait: Waiting) -> list[str]:
+def timers_of_select(recording: Recording, wait: ObjectWait) -> list[str]:
     """Sentences about stopped timers in a select, which will never send."""
     candidates = (silent_at(recording, at.object, wait.begin) for at in wait.objects) if len(wait.objects) > 1 else ()
     silent = next((candidate for candidate in candidates if candidate), None)
@@ -93,7 +93,7 @@ def timers_of_select(recording: Recording, wait: Waiting) -> list[str]:
     return [f"One of its cases can't come: {lower(silent_says(recording, silent))}{ways}"]
 
 
-def ways_past_reset(recording: Recording, wait: Waiting) -> str:
+def ways_past_reset(recording: Recording, wait: ObjectWait) -> str:
     """A sentence about a timer that has gone off and was perhaps not set again. It names the path in the program's
     source that skips the reset: ` Perhaps on this way: after main.go:65, main.go:67 goes on without main.go:75, which
     sets it anew.` The sentence is empty if no such path exists."""

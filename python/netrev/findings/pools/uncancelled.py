@@ -18,8 +18,8 @@ from netrev.findings.source.functions import (
 from netrev.findings.source.locks import owner
 from netrev.recording.goroutines import CLOSED
 from netrev.recording.recording import Recording
-from netrev.recording.waits import Name, Waiting
-from netrev.recording.where import OF_THE_PROGRAM, Call, Stack
+from netrev.recording.waits import Name, ObjectWait
+from netrev.recording.where import OF_THE_PROGRAM, SourceCall, Stack
 
 DONE = re.compile(r"<-\s*([\w.]+)\.Done\(\)")
 CALLED = re.compile(r"(?<![\w.])([\w.]+)\(\)")
@@ -34,7 +34,7 @@ class Cancelling(NamedTuple):
     within: range
 
 
-def uncancelled(recording: Recording, wait: Waiting, stacks: Iterable[tuple[Name, Stack]]) -> Optional[Need]:
+def uncancelled(recording: Recording, wait: ObjectWait, stacks: Iterable[tuple[Name, Stack]]) -> Optional[Need]:
     """What a goroutine needs while it waits only on a context's Done. The result is None if the goroutine waits on
     anything else, or if the source doesn't show the context."""
     own, lines = wait.stack.own(), recording.lines
@@ -57,7 +57,7 @@ def uncancelled(recording: Recording, wait: Waiting, stacks: Iterable[tuple[Name
     )
 
 
-def cancels_of(source: Lines, call: Call, context: str) -> list[Cancelling]:
+def cancels_of(source: Lines, call: SourceCall, context: str) -> list[Cancelling]:
     """The lines that cancel a context, if the same file makes the context. If the context is a variable of a call's
     function, the result has only the lines of that function."""
     whole = range_of(source, call._replace(function=LITERAL.sub("", call.function))) or range(0)
@@ -84,7 +84,7 @@ def cancels_of(source: Lines, call: Call, context: str) -> list[Cancelling]:
             None,
         )
         if called:
-            of_literal = Call(f"{owner(call.function)}.func1", call.file, number, call.of)
+            of_literal = SourceCall(f"{owner(call.function)}.func1", call.file, number, call.of)
             within = range_of(source, of_literal) or range(0)
             begin = begin_of_literal(source, number)
             before = code[: called.start()] + (source[begin - 1] if begin else "")

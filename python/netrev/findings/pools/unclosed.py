@@ -12,8 +12,8 @@ from netrev.findings.source.locks import owner
 from netrev.findings.source.skipped_ways import Way, is_match, skipped_ways, ways_words
 from netrev.recording.goroutines import CLOSED, FOR_VALUE, PUT
 from netrev.recording.recording import Recording
-from netrev.recording.waits import Name, Waiting
-from netrev.recording.where import OF_THE_PROGRAM, Call, Stack
+from netrev.recording.waits import Name, ObjectWait
+from netrev.recording.where import OF_THE_PROGRAM, SourceCall, Stack
 
 RANGE = re.compile(r"\brange ([\w.]+) \{")
 RECEIVE = re.compile(r"<-\s*([\w.]+)(?![\w.(])")
@@ -28,7 +28,7 @@ class Closing(NamedTuple):
     within: range
 
 
-def unclosed(recording: Recording, wait: Waiting, stacks: Iterable[tuple[Name, Stack]]) -> Optional[Need]:
+def unclosed(recording: Recording, wait: ObjectWait, stacks: Iterable[tuple[Name, Stack]]) -> Optional[Need]:
     """What should close a channel. A goroutine ranges over the channel, or it waits for a value although no value was
     ever put into the channel. The result is None if the source isn't available."""
     own, lines = wait.stack.own(), recording.lines
@@ -76,13 +76,13 @@ def ways_without(source: Lines, closing: Closing, name: str) -> list[Way]:
     return skipped_ways(source, closing.within, is_match(makes), is_match(closes))
 
 
-def closings_of(source: Lines, call: Call, name: str) -> list[Closing]:
+def closings_of(source: Lines, call: SourceCall, name: str) -> list[Closing]:
     """The lines that close a channel that may have this name."""
     found = []
     for number, text in enumerate(source, 1):
         closes = CLOSE.search(text.partition("//")[0])
         if closes and is_same_variable(name, closes[2], True):
-            within = range_of(source, Call(f"{owner(call.function)}.func1", call.file, number, call.of))
+            within = range_of(source, SourceCall(f"{owner(call.function)}.func1", call.file, number, call.of))
             found.append(Closing(number, bool(closes[1]), within or range(0)))
     return found
 

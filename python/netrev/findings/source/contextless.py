@@ -4,7 +4,7 @@ the response. The module reads the program's source."""
 import re
 
 from netrev.recording.recording import Recording
-from netrev.recording.waits import Waiting
+from netrev.recording.waits import ObjectWait
 from netrev.recording.where import OF_THE_PROGRAM
 
 from .functions import range_of, source_of
@@ -13,7 +13,7 @@ MADE = re.compile(r"\bhttp\.NewRequest\(|\b(?:http|[\w.]*[cC]lient\w*)\.(?:Get|P
 GIVEN = re.compile(r"\b(\w+) (?:context\.Context|\*http\.Request)\b")
 
 
-def contextless_says(recording: Recording, wait: Waiting) -> list[str]:
+def contextless_says(recording: Recording, wait: ObjectWait) -> list[str]:
     """A sentence about the request whose response a goroutine waits for: the request doesn't end when the context
     passed to its function ends."""
     for call in wait.stack.calls:

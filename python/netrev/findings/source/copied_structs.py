@@ -6,7 +6,7 @@ import re
 from typing import Iterator
 
 from netrev.recording.recording import Recording
-from netrev.recording.where import OF_THE_PROGRAM, Call
+from netrev.recording.where import OF_THE_PROGRAM, SourceCall
 
 from .functions import text_at
 from .locks import LOCK
@@ -16,7 +16,7 @@ COPY = re.compile(r"=\s*\*([\w.]+)\s*$")
 MOST = 2
 
 
-def copies_says(recording: Recording, lock: Call) -> str:
+def copies_says(recording: Recording, lock: SourceCall) -> str:
     """Text that names the lines that copy a struct together with its mutex, for example `, as a.go:12 copies it`; empty
     if unknown. A goroutine waits for that mutex in the call `lock`."""
     name = LOCK.search(text_at(recording, lock)) if lock.of == OF_THE_PROGRAM else None
@@ -31,6 +31,8 @@ def copies_of(recording: Recording, file: str, struct: str) -> Iterator[str]:
     for path, lines in files_of(recording, file):
         for number, text in enumerate(lines, 1):
             found = COPY.search(text.partition("//")[0])
-            variables = variables_of(recording, lines, Call("", os.path.abspath(path), number, "")) if found else {}
+            variables = (
+                variables_of(recording, lines, SourceCall("", os.path.abspath(path), number, "")) if found else {}
+            )
             if found and type_of(recording, path, variables, found[1].split(".")) == struct:
                 yield f"{path}:{number}"

@@ -8,7 +8,7 @@ from pathlib import Path
 from typing import Optional
 
 from netrev.recording.recording import Recording
-from netrev.recording.where import Call
+from netrev.recording.where import SourceCall
 from netrev.text.text_files import lines_of
 
 Lines = tuple[str, ...]
@@ -28,13 +28,13 @@ def source(file: str, written: float) -> Optional[Lines]:
     return None if lines is None or os.stat(file).st_mtime > written else tuple(lines)
 
 
-def function_of(recording: Recording, call: Call) -> tuple[Lines, range]:
+def function_of(recording: Recording, call: SourceCall) -> tuple[Lines, range]:
     """The lines of a call's file, and the line numbers of its function; both are empty if unknown."""
     lines = source_of(recording, call.file) or ()
     return lines, range_of(lines, call) or range(0)
 
 
-def range_of(lines: Lines, call: Call) -> Optional[range]:
+def range_of(lines: Lines, call: SourceCall) -> Optional[range]:
     """The line numbers of a call's function. For a function literal, only the literal's own lines."""
     if not 0 < call.line <= len(lines):
         return None
@@ -52,13 +52,13 @@ def range_of(lines: Lines, call: Call) -> Optional[range]:
     return range(begin, end + 1) if end and end >= call.line else None
 
 
-def is_inside(lines: Lines, call: Call, within: range) -> bool:
+def is_inside(lines: Lines, call: SourceCall, within: range) -> bool:
     """Whether a call is in the function of these lines itself, rather than in a function literal inside it or in a
     wrapper of Go's for a `go` or `defer` statement."""
     return WRAPPED not in call.function and range_of(lines, call) == within
 
 
-def is_last_line(recording: Recording, call: Call, number: int) -> bool:
+def is_last_line(recording: Recording, call: SourceCall, number: int) -> bool:
     """Whether a line is the last line in the function of a call, or the function's only line."""
     _, within = function_of(recording, call)
     return len(within) == 1 or number == within.stop - 2
@@ -96,20 +96,22 @@ def indent_of(text: str) -> int:
     return len(text) - len(text.lstrip()) if text.strip() else 1_000
 
 
-def found_in(recording: Recording, call: Call, pattern: "re.Pattern[str]") -> list[tuple[int, "re.Match[str]"]]:
+def found_in(recording: Recording, call: SourceCall, pattern: "re.Pattern[str]") -> list[tuple[int, "re.Match[str]"]]:
     """The lines of a call's function that match a pattern."""
     return _found_in(os.path.abspath(call.file), recording.lines.written, call, pattern)
 
 
 @lru_cache(maxsize=4_096)
-def _found_in(file: str, written: float, call: Call, pattern: "re.Pattern[str]") -> list[tuple[int, "re.Match[str]"]]:
+def _found_in(
+    file: str, written: float, call: SourceCall, pattern: "re.Pattern[str]"
+) -> list[tuple[int, "re.Match[str]"]]:
     lines = source(file, written)
     within = range_of(lines, call) if lines else None
     texts = [(number, lines[number - 1].partition("//")[0]) for number in within or () if lines]
     return [(number, found) for number, text in texts if (found := pattern.search(text))]
 
 
-def text_at(recording: Recording, call: Call) -> str:
+def text_at(recording: Recording, call: SourceCall) -> str:
     """The text of a call's line, without its comment; empty if the source isn't available."""
     lines = source_of(recording, call.file)
     return lines[call.line - 1].partition("//")[0] if lines and 0 < call.line <= len(lines) else ""

@@ -5,7 +5,7 @@ import re
 from typing import Iterator, NamedTuple, Optional
 
 from netrev.recording.recording import Recording
-from netrev.recording.where import Call
+from netrev.recording.where import SourceCall
 
 from .functions import Lines, indent_of, range_of, source_of, text_at
 from .locks import LEAVES, LOCK, UNLOCK, end_of_literal
@@ -36,7 +36,7 @@ class Leak(NamedTuple):
     returns: int
 
 
-def left_locked(recording: Recording, lock: Call) -> list[str]:
+def left_locked(recording: Recording, lock: SourceCall) -> list[str]:
     """Sentences about functions that may have left a mutex locked. A goroutine waits for that mutex in the call
     `lock`."""
     lines, name = source_of(recording, lock.file), LOCK.search(text_at(recording, lock))
@@ -55,7 +55,7 @@ def left_locked(recording: Recording, lock: Call) -> list[str]:
     ]
 
 
-def returns_locked(recording: Recording, lock: Call) -> list[str]:
+def returns_locked(recording: Recording, lock: SourceCall) -> list[str]:
     """Sentences about the function that locked a mutex in a call and left it locked. The sentences name the line that
     returns without an Unlock, or say that the function has no Unlock."""
     lines, name = source_of(recording, lock.file), LOCK.search(text_at(recording, lock))
@@ -73,7 +73,7 @@ def returns_locked(recording: Recording, lock: Call) -> list[str]:
     return [f"{leak.function} never unlocks it."]
 
 
-def functions_of(lines: Lines, near: Call) -> Iterator[Function]:
+def functions_of(lines: Lines, near: SourceCall) -> Iterator[Function]:
     """The functions in a call's file."""
     for number, text in enumerate(lines, 1):
         method, function = METHOD.match(text), FUNCTION.match(text)

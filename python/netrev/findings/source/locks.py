@@ -7,7 +7,7 @@ from functools import lru_cache
 from typing import NamedTuple
 
 from netrev.recording.recording import Recording
-from netrev.recording.where import Call
+from netrev.recording.where import SourceCall
 
 from .functions import Lines, indent_of, range_of, source
 
@@ -17,33 +17,33 @@ LEAVES = ("return", "continue", "break", "goto ", "panic(", "os.Exit(", "log.Fat
 OF_A_TYPE = re.compile(r"(.*?\.\(\*?\w+\))\.")
 
 
-class Held(NamedTuple):
+class LockedMutex(NamedTuple):
     """A mutex as the source names it, and the line that locked it."""
 
     name: str
     line: int
 
 
-def held_at(recording: Recording, call: Call) -> list[Held]:
+def held_at(recording: Recording, call: SourceCall) -> list[LockedMutex]:
     """The mutexes that a function has locked and not unlocked before the goroutine's line; none if the source isn't
     available."""
     return _held_at(os.path.abspath(call.file), recording.lines.written, call)
 
 
 @lru_cache(maxsize=4_096)
-def _held_at(file: str, written: float, call: Call) -> list[Held]:
+def _held_at(file: str, written: float, call: SourceCall) -> list[LockedMutex]:
     lines = source(file, written)
     if lines is None:
         return []
     within = range_of(lines, call)
-    held: dict[str, Held] = {}
+    held: dict[str, LockedMutex] = {}
     number = within.start if within else call.line
     while number < call.line:
         text = lines[number - 1].partition("//")[0]
         if within and number > within.start and (end := end_of_literal(lines, number)) and end < call.line:
             number = end
         elif found := LOCK.search(text):
-            held[found[1]] = Held(found[1], number)
+            held[found[1]] = LockedMutex(found[1], number)
         elif (found := UNLOCK.search(text)) and "defer " not in text and found[1] in held:
             if not is_left(lines, number, held[found[1]].line):
                 del held[found[1]]

@@ -5,7 +5,7 @@ import re
 from typing import NamedTuple
 
 from netrev.recording.recording import Recording
-from netrev.recording.where import Call
+from netrev.recording.where import SourceCall
 
 from .functions import Lines, range_of, source_of
 from .package import files_of
@@ -15,14 +15,14 @@ LOOKS_UP = re.compile(r"\w+(?:, \w+)? :?= ([\w.]+)\[([^\]]+)\]")
 MOST = 2
 
 
-class Place(NamedTuple):
+class TableUse(NamedTuple):
     """A line that uses a table, and the key that it uses."""
 
     place: str
     key: str
 
 
-def entry_says(recording: Recording, line: Call) -> list[str]:
+def entry_says(recording: Recording, line: SourceCall) -> list[str]:
     """Sentences about the line at which a goroutine passes answers to other goroutines. The sentences name the table in
     which the goroutine looks up the receiver, and the lines that add entries and remove them."""
     lines = source_of(recording, line.file)
@@ -47,11 +47,11 @@ def entry_says(recording: Recording, line: Call) -> list[str]:
     ]
 
 
-def places_of(recording: Recording, file: str, pattern: str) -> list[Place]:
+def places_of(recording: Recording, file: str, pattern: str) -> list[TableUse]:
     """The lines of a package that match a pattern, each with the key that the pattern finds."""
     found = re.compile(pattern)
     return [
-        Place(f"{name}:{number}", match[1])
+        TableUse(f"{name}:{number}", match[1])
         for name, lines in files_of(recording, file)
         for number in range(1, len(lines) + 1)
         if (match := found.search(code_at(lines, number)))

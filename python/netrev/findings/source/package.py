@@ -7,7 +7,7 @@ from functools import lru_cache
 from typing import Iterator, Optional
 
 from netrev.recording.recording import Recording
-from netrev.recording.where import Call
+from netrev.recording.where import SourceCall
 
 from .functions import Lines, source
 
@@ -81,7 +81,7 @@ def fields_in(lines: Lines) -> dict[str, dict[str, str]]:
     return found
 
 
-def variables_of(recording: Recording, lines: Lines, call: Call) -> dict[str, str]:
+def variables_of(recording: Recording, lines: Lines, call: SourceCall) -> dict[str, str]:
     """The types of the receiver, the parameters, and simple variables in the function of a call."""
     heads = [(number, head) for number, text in enumerate(lines[: call.line]) if (head := HEAD.match(text))]
     if not heads:
@@ -106,7 +106,7 @@ def type_of(recording: Recording, file: str, variables: dict[str, str], path: li
     return kind
 
 
-def place_of_variable(recording: Recording, call: Call, expression: str) -> Optional[str]:
+def place_of_variable(recording: Recording, call: SourceCall, expression: str) -> Optional[str]:
     """The field and struct that an expression names in the function of a call: `Node.mu` for `s.node.mu`; None if
     unknown."""
     lines = source(os.path.abspath(call.file), recording.lines.written)

@@ -43,7 +43,7 @@ class Way(NamedTuple):
     does: str
 
 
-class State(NamedTuple):
+class PathState(NamedTuple):
     """The possible states at a place. The function has perhaps taken something and not given it back (`is_open`), or it
     has perhaps given it back (`is_done`). `block` is the block that decides between these two states (0: no block
     does). If `is_deferred`, the function always gives it back when it ends."""
@@ -60,11 +60,11 @@ class Exit(NamedTuple):
 
     kind: str
     number: int
-    state: State
+    state: PathState
 
 
-Result = tuple[Optional[State], list[Exit]]
-BEFORE, OPEN, DONE = State(), State(is_open=True), State(is_done=True)
+Result = tuple[Optional[PathState], list[Exit]]
+BEFORE, OPEN, DONE = PathState(), PathState(is_open=True), PathState(is_done=True)
 
 
 class Walk(NamedTuple):
@@ -78,7 +78,7 @@ class Walk(NamedTuple):
     ways: list[Way]
     given: list[str]
 
-    def body(self, statements: list[Statement], state: State, flag: str) -> Result:
+    def body(self, statements: list[Statement], state: PathState, flag: str) -> Result:
         """The state after some statements (None if no path passes all of them), and the exits. `flag` is the variable
         that says whether something was taken; empty if no variable does."""
         exits, now = list[Exit](), state
@@ -100,7 +100,7 @@ class Walk(NamedTuple):
     def does_begin(self, text: str) -> bool:
         return "func(" not in text and self.begins(text)
 
-    def of_text(self, text: str, now: State) -> State:
+    def of_text(self, text: str, now: PathState) -> PathState:
         """The state after a statement of one line, or after the head of a block."""
         if now.is_deferred:
             return now
@@ -111,7 +111,7 @@ class Walk(NamedTuple):
             return OPEN
         return DONE if now.is_open and self.keeps(text) else now
 
-    def simple(self, statement: Statement, now: State) -> Result:
+    def simple(self, statement: Statement, now: PathState) -> Result:
         """The same as `body`, for a statement that isn't a block."""
         now = self.of_text(statement.text, now)
         if DIES.match(statement.text):
@@ -120,7 +120,7 @@ class Walk(NamedTuple):
             return None, [Exit(found[1], statement.number, now)]
         return now, []
 
-    def block(self, statement: Statement, now: State, flag: str) -> Result:
+    def block(self, statement: Statement, now: PathState, flag: str) -> Result:
         """The same as `body`, for a block."""
         if statement.kind == "for":
             return self.loop(statement, now, flag)
@@ -154,7 +154,7 @@ class Walk(NamedTuple):
             return None
         return (condition in (name, f"{name} != nil")) is not is_error
 
-    def loop(self, statement: Statement, now: State, flag: str) -> Result:
+    def loop(self, statement: Statement, now: PathState, flag: str) -> Result:
         """The same as `body`, for a loop. In each iteration, a loop should give back what it took in that iteration."""
         begins = self.does_begin(statement.text) and not now.is_deferred
         after, left = self.body(statement.branches[-1].body, OPEN if begins else now, flag)
@@ -182,13 +182,13 @@ def name_of(text: str) -> str:
     return found[1] if found else ""
 
 
-def is_missing(head: str, now: State) -> bool:
+def is_missing(head: str, now: PathState) -> bool:
     """Whether a path can't pass by a block: the path has taken something, and the block's condition tests for that, as
     in `if c != nil`."""
     return now.is_open and IS_THERE.match(head) is not None
 
 
-def joined(states: list[State], number: int) -> Optional[State]:
+def joined(states: list[PathState], number: int) -> Optional[PathState]:
     """The possible states after the branches of a block."""
     if not states:
         return None
@@ -196,7 +196,7 @@ def joined(states: list[State], number: int) -> Optional[State]:
     block = next((state.block for state in states if state.block), 0)
     if not is_open:
         return states[0]._replace(is_deferred=all(state.is_deferred for state in states))
-    return State(is_open, is_done, block or (number if is_done else 0))
+    return PathState(is_open, is_done, block or (number if is_done else 0))
 
 
 def skipped_ways(lines: Lines, within: range, begins: Optional[Test], ends: Test, keeps: Test = nothing) -> list[Way]:

@@ -17,11 +17,11 @@ class Statement(NamedTuple):
     number: int
     text: str
     kind: str
-    branches: "list[Branch]"
+    branches: "list[StatementBranch]"
     is_whole: bool
 
 
-class Branch(NamedTuple):
+class StatementBranch(NamedTuple):
     """A branch of a block: its head, and its statements."""
 
     number: int
@@ -82,7 +82,7 @@ def block(lines: Lines, kind: str, within: range) -> Statement:
     if kind in ("switch", "select"):
         heads = [at for at in heads[1:] if CLAUSE.match(code_at(lines, at))]
     branches = [
-        Branch(at, code_at(lines, at), list(read(lines, range(at + 1, end))))
+        StatementBranch(at, code_at(lines, at), list(read(lines, range(at + 1, end))))
         for at, end in zip(heads, [*heads[1:], within[-1]])
     ]
     last = branches[-1].text if branches else ""

@@ -8,7 +8,7 @@ from netrev.findings.evidence.loop_variables import shared_variables
 from netrev.findings.evidence.words import capital
 from netrev.recording.call import OPEN
 from netrev.recording.waits import Name, of_names
-from netrev.recording.where import Call as LineCall
+from netrev.recording.where import SourceCall as LineCall
 
 from .unaccepted import accepts_at, closed
 

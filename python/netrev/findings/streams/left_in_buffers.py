@@ -10,7 +10,7 @@ from netrev.findings.source.functions import Lines, range_of, source_of
 from netrev.findings.source.package import HEAD, files_of, places_with
 from netrev.recording.call import Call
 from netrev.recording.recording import Recording
-from netrev.recording.where import OF_THE_PROGRAM, Call as LineCall
+from netrev.recording.where import OF_THE_PROGRAM, SourceCall as LineCall
 
 WRITER = re.compile(
     r"^\s+(\w+)\s+\*bufio\.(?:Writer|ReadWriter)\b|\b(\w+)\s*(?::?=|:)\s*bufio\.New(?:Writer\w*|ReadWriter)\(|\b(\w+) \*bufio\.(?:Writer|ReadWriter)\b"

@@ -11,7 +11,7 @@ from netrev.findings.evidence.words import place_of
 from netrev.findings.source.functions import Lines, range_of, source_of
 from netrev.findings.source.skipped_ways import Way, is_text, skipped_ways, ways_words
 from netrev.recording.call import Call
-from netrev.recording.where import OF_THE_PROGRAM, Call as LineCall
+from netrev.recording.where import OF_THE_PROGRAM, SourceCall as LineCall
 
 from .exchanges import reader_of
 

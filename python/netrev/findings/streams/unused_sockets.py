@@ -10,7 +10,7 @@ from netrev.findings.pools.made_channels import has_returned, is_local, returns_
 from netrev.recording.call import CLOSE, OPEN, Call
 from netrev.recording.goroutines import PUT, TOOK
 from netrev.recording.waits import listed, name_of_goid
-from netrev.recording.where import OF_THE_PROGRAM, Call as LineCall
+from netrev.recording.where import OF_THE_PROGRAM, SourceCall as LineCall
 from netrev.text.plurals import counted
 
 from .unaccepted import is_dialed

@@ -9,7 +9,7 @@ from .found import Evidence, Suspect
 from .run import Run
 
 
-class Waiting(NamedTuple):
+class ParkedReader(NamedTuple):
     """A goroutine that is parked for reading: the step at which it parked, what has arrived (as text), and the step at
     which that arrived."""
 
@@ -42,11 +42,11 @@ class Waiting(NamedTuple):
         return suspect
 
 
-def waits_after_arrival(run: Run) -> Iterator[Waiting]:
+def waits_after_arrival(run: Run) -> Iterator[ParkedReader]:
     """All goroutines that wait although what they wait for has arrived."""
     notes = run.notes
     for g, (d, side) in run.statuses("parked"):
         use = notes.use_of[int(d)]
         if side == "r" and (lies := run.unread(use.socket)):
             has_bytes = notes.now[f"in {use.socket}"] != "0"
-            yield Waiting(g, use, run.since(g), lies, (notes.arrived if has_bytes else notes.peer)[use.socket])
+            yield ParkedReader(g, use, run.since(g), lies, (notes.arrived if has_bytes else notes.peer)[use.socket])

@@ -13,7 +13,7 @@ from .run import TWICE, Run
 BRIEF = 20  # holding a reference for at most this number of steps proves nothing
 
 
-class Kept(NamedTuple):
+class KeptReference(NamedTuple):
     """A reference to a socket that is held at the end, and whether its holder is gone (otherwise the holder is idle).
     `pause` says how long the holder has paused, and `age` how long it has held the reference; each is empty unless that
     is too long."""
@@ -52,7 +52,7 @@ class Kept(NamedTuple):
         )
 
 
-def kept(run: Run) -> Iterator[Kept]:
+def kept(run: Run) -> Iterator[KeptReference]:
     """The references that idle or gone goroutines hold at the end. A lock for which a goroutine sleeps is left out,
     because another rule reports it."""
     asleep = {(int(s), side) for _, (s, side) in run.statuses("queued")}
@@ -64,4 +64,4 @@ def kept(run: Run) -> Iterator[Kept]:
             longest = max(run.notes.longest_holds.get(hold.kind, 0), BRIEF)
             is_old = run.end - hold.step > TWICE * longest
             age = f"the longest that ended took {counted(longest, 'step')}" if is_old else ""
-            yield Kept(s, hold, status == "gone", run.stalled(hold.goroutine) if status == "idle" else "", age)
+            yield KeptReference(s, hold, status == "gone", run.stalled(hold.goroutine) if status == "idle" else "", age)

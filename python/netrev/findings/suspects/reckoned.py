@@ -5,13 +5,13 @@ directly.)"""
 from typing import Iterator, Optional
 
 from netrev.recording.notes import AT, PARKED, By, Due
-from netrev.recording.suspect_list import Listed, LostWakeUp, OfDeadline
+from netrev.recording.suspect_list import SuspectEntries, LostWakeUp, OfDeadline
 from netrev.run.notes import Notes
 
 
-def by_the_notes(notes: Notes) -> Listed:
+def by_the_notes(notes: Notes) -> SuspectEntries:
     """All facts."""
-    facts = Listed()
+    facts = SuspectEntries()
     facts.lost_wake_ups += lost_wake_ups(notes)
     facts.passed_deadlines += passed_deadlines(notes)
     for timeout in notes.timeouts:

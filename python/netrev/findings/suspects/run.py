@@ -8,7 +8,7 @@ from typing import Optional
 from netrev.findings.evidence.index import Index, index_of
 from netrev.machine.machine import INSIDE
 from netrev.recording.notes import AT, MANY, Use
-from netrev.recording.suspect_list import Listed
+from netrev.recording.suspect_list import SuspectEntries
 from netrev.run.notes import Notes
 from netrev.text.plurals import counted
 
@@ -27,7 +27,7 @@ class Run:
         self.end = notes.step  # the last position
 
     @cached_property
-    def facts(self) -> Listed:
+    def facts(self) -> SuspectEntries:
         """The list of `netrev suspects`. If netrev is missing or too old, the same facts are taken from the notes."""
         listed = self.recording.suspects.of(self.end) if self.recording.suspects else None
         return listed or by_the_notes(self.notes)

@@ -4,11 +4,11 @@ from dataclasses import dataclass
 from pathlib import Path
 from typing import Optional, Sequence
 
-from netrev.connection.world import World
+from netrev.connection.world import PositionValues
 from netrev.messages import editors as texts
 from netrev.recording.backward_search import last_steps
 from netrev.recording.waits import Name, waits_of
-from netrev.recording.where import OF_THE_PROGRAM, Call, Stack
+from netrev.recording.where import OF_THE_PROGRAM, SourceCall, Stack
 from netrev.recording.words import status_words
 from netrev.run.calls import book_of
 from netrev.text.plain import plain
@@ -117,7 +117,7 @@ class Looks:
         self.handles = Handles()
 
     @property
-    def _world(self) -> World:
+    def _world(self) -> PositionValues:
         return self._debuggee.session.world()
 
     def threads(self) -> list[Body]:
@@ -194,7 +194,7 @@ class Looks:
         source = self._debuggee.source()
         return {"id": self.handles.give(frame), "name": name, "line": line, "column": 1, "source": source}
 
-    def _call_frame(self, frame: Frame, call: Call) -> Body:
+    def _call_frame(self, frame: Frame, call: SourceCall) -> Body:
         """The frame of a call in the program, a library or Go."""
         path = self._roots.path_of(call.file)
         where = {"path": str(path)} if path else {"origin": plain(call.file)}

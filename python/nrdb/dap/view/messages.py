@@ -58,7 +58,7 @@ class Request:
         return value
 
 
-class Wire:
+class EditorStreams:
     """The two streams to the editor. Several threads may write messages, but only one thread may read them."""
 
     def __init__(self, reader: BinaryIO, writer: BinaryIO, most: Optional[int] = None):

@@ -15,7 +15,7 @@ from netrev.session.commands import COMMANDS, parts_of
 from nrdb.dap import looks
 from nrdb.dap.adapter import Adapter
 from nrdb.dap.hearing import Reading
-from nrdb.dap.view.messages import Wire
+from nrdb.dap.view.messages import EditorStreams
 from nrdb.prompt.answers import ANSWERS
 from nrdb.web.running import Running
 from tests.program.support.sharing import NETREV, ROOT
@@ -97,7 +97,7 @@ def test_an_unexpected_error_refuses_one_request() -> None:
         asked(1, "initialize"), asked(2, "launch", program=str(FIRST)), asked(3, "threads"), asked(4, "disconnect")
     )  # fmt: skip
     written = io.BytesIO()
-    wire = Wire(io.BytesIO(framed(*requests)), written)
+    wire = EditorStreams(io.BytesIO(framed(*requests)), written)
     with mock.patch.object(looks, "threads", boom):
         Adapter(wire, Reading(wire), NETREV).serve()
     output = written.getvalue().decode()
@@ -116,7 +116,7 @@ def test_an_error_behind_the_response_is_told_in_the_console() -> None:
         asked(4, "disconnect"),
     )
     written = io.BytesIO()
-    wire = Wire(io.BytesIO(framed(*requests)), written)
+    wire = EditorStreams(io.BytesIO(framed(*requests)), written)
     with mock.patch("nrdb.dap.adapter.thread_of", boom):
         Adapter(wire, Reading(wire), NETREV).serve()
     output = written.getvalue().decode()

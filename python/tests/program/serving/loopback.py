@@ -28,7 +28,7 @@ from dataclasses import replace
 from pathlib import Path
 
 import pytest
-from netrev.machine.debugger import FULL, Recording, is_command, read_line  # (Python needs this to find nrdb)
+from netrev.machine.debugger import FULL, DebuggedRecording, is_command, read_line  # (Python needs this to find nrdb)
 from netrev.text.vocabulary import CELLS, DUMPS, KINDS, MOST, Of
 from tests.program.support.history import SearchLimitError, Search
 from tests.program.support.sharing import (
@@ -80,7 +80,7 @@ def parked(kept):
     """A short recording with the values at its positions."""
     path = kept / "parked.jsonl"
     path.write_text(PARKED, encoding="ascii")
-    return Recording.read(NETREV, path, LOOKS)
+    return DebuggedRecording.read(NETREV, path, LOOKS)
 
 
 @pytest.fixture(scope="module")
@@ -90,7 +90,7 @@ def lives(kept):
     shapes = ROOT / "bench/shapes.awk"
     with open(path, "wb") as out:
         subprocess.run(["awk", "-v", "shape=mix", "-v", "n=3000", "-f", shapes], stdout=out, timeout=60, check=True)
-    return Recording.read(NETREV, path, LOOKS)
+    return DebuggedRecording.read(NETREV, path, LOOKS)
 
 
 class Lines:

@@ -23,7 +23,16 @@ from itertools import accumulate
 from typing import Any, NamedTuple, Optional, Sequence
 
 from netrev.errors import NetrevError
-from netrev.machine.debugger import CHECKPOINTS_FULL, FULL, MARKS_FULL, Request, Recording, Reply, State, is_command
+from netrev.machine.debugger import (
+    CHECKPOINTS_FULL,
+    FULL,
+    MARKS_FULL,
+    Request,
+    DebuggedRecording,
+    Reply,
+    SharedState,
+    is_command,
+)
 
 from .sharing import Exchange
 
@@ -33,7 +42,7 @@ POSITION = re.compile(r"at (\d+) of \d+ (forward|reverse)$")
 DELETED = re.compile(r"deleted (mark|checkpoint) (\d+)$")
 
 Name = tuple[str, int]  # a mark or a checkpoint: its sort and number
-Choice = tuple[int, State]  # a front, and the state after its next line
+Choice = tuple[int, SharedState]  # a front, and the state after its next line
 
 
 class Clue(NamedTuple):
@@ -90,14 +99,14 @@ class Search:
     their replies."""
 
     def __init__(
-        self, recording: Recording, fronts: Sequence[Sequence[Exchange]], room: int, most: int = 1_000_000
+        self, recording: DebuggedRecording, fronts: Sequence[Sequence[Exchange]], room: int, most: int = 1_000_000
     ) -> None:
         self.recording = recording
         self.fronts = [list(front) for front in fronts]
         self.left = most
         # for each line, the time at which a reply to it or to a later line of its front was first read
         self.known = [earliest([one.read for one in front]) for front in self.fronts]
-        self.state = State()
+        self.state = SharedState()
         self.order: list[int] = []
         self.taken = [0] * len(fronts)
         self.clues = self.read_clues()
@@ -147,7 +156,7 @@ class Search:
         first: int = min((self.known[front][self.taken[front]] for front in left), default=0)
         return [front for front in left if self.next_of(front).sent < first]
 
-    def behind(self, front: int) -> Optional[State]:
+    def behind(self, front: int) -> Optional[SharedState]:
         """The state after the front's next line if the line fits now, else None."""
         self.left -= 1
         if self.left < 0:
@@ -158,7 +167,7 @@ class Search:
         state, reply = self.recording.answer(self.state, exchange.asked)
         return state if reply == exchange.reply and self.may_leave(front, state) else None
 
-    def may_leave(self, front: int, state: State) -> bool:
+    def may_leave(self, front: int, state: SharedState) -> bool:
         """Whether the replies to the other remaining lines are still possible if the front's next line comes now."""
         clue = self.clue_of(front)
         if clue.takes_away and self.shown[clue.takes_away]:
@@ -173,14 +182,14 @@ class Search:
         leaves = self.leaves[here] - (clue.moves and clue.stands_at == {here})
         return leaves <= self.entries[here] and (self.entries[here] > 0 or not self.stays[here])
 
-    def take(self, front: int, state: State) -> None:
+    def take(self, front: int, state: SharedState) -> None:
         """Adds a front's next line to the history."""
         self.count(front, self.taken[front], -1)
         self.taken[front] += 1
         self.order.append(front)
         self.state = state
 
-    def back_to(self, length: int, state: State) -> None:
+    def back_to(self, length: int, state: SharedState) -> None:
         """Returns to the state after this many lines."""
         while len(self.order) > length:
             front = self.order.pop()
@@ -217,7 +226,7 @@ class Search:
         seen = set()
         # the points at which the search may continue: the count of lines taken, the state, and the choices left to try,
         # if they are known yet
-        forks: list[tuple[int, State, Optional[list[Choice]]]] = [(0, self.state, None)]
+        forks: list[tuple[int, SharedState, Optional[list[Choice]]]] = [(0, self.state, None)]
         while forks:
             length, state, choices = forks.pop()
             self.back_to(length, state)

@@ -102,7 +102,7 @@ class Around(unittest.TestCase):
             self.assertNotEqual(editors.answers_wrong(asked, wrong), "")
 
     def test_a_recording_that_ends_a_view_is_found(self) -> None:
-        with mock.patch("netrev.explore.commands.Impossible", ZeroDivisionError):
+        with mock.patch("netrev.explore.commands.ImpossibleScheduleError", ZeroDivisionError):
             self.assertIn("Impossible", around.fault_of(IMPOSSIBLE, str(NETREV)))
         self.assertEqual(around.fault_of(IMPOSSIBLE, str(NETREV)), "")
 

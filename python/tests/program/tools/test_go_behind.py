@@ -11,8 +11,8 @@ from unittest import mock
 
 from netrev.recording.recording import Recording
 from netrev_go import tested
-from netrev_go.cli import Status
-from netrev_go.log.lines import OF_THE_PROGRAM, Call, Calls
+from netrev_go.cli import ExitStatus
+from netrev_go.log.lines import OF_THE_PROGRAM, LineCall, Calls
 from netrev_go.steps import converting, report
 from netrev_go.steps.converting import Outcome
 from tests.go_command import test_go_tests
@@ -20,7 +20,7 @@ from tests.program.nrdb.common.support import EXAMPLES
 from tests.program.support.sharing import NETREV
 
 HOSTILE = "</script><script>alert(1)</script>\x1b[31m"
-CALLS = {0: Calls((Call(f"main.{HOSTILE}", f"{HOSTILE}.go", 7, OF_THE_PROGRAM),), None)}
+CALLS = {0: Calls((LineCall(f"main.{HOSTILE}", f"{HOSTILE}.go", 7, OF_THE_PROGRAM),), None)}
 DATA = re.compile(r'<script type="application/json" id="data">(.*?)</script>', re.DOTALL)
 GOOD = EXAMPLES / "cancelled-read.jsonl"  # some other schedules of this recording hang
 SECONDS = "600"  # far more time than its schedules take
@@ -104,8 +104,8 @@ class Explored(Behind):
         for words, wanted in (
             ((), 0),
             (("--fail-on", "suspects"), 0),
-            (("--fail-on", "possible"), Status.SUSPECTED),
-            (("--fail-on", "suspects,possible"), Status.SUSPECTED),
+            (("--fail-on", "possible"), ExitStatus.SUSPECTED),
+            (("--fail-on", "suspects,possible"), ExitStatus.SUSPECTED),
         ):
             with self.subTest(words):
                 status, said = self.explored(*words)

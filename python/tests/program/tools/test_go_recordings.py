@@ -7,7 +7,7 @@ import unittest
 
 from dev.fuzz.generators.logs import binary, from_text
 from netrev_go.log.logfile import read_log
-from netrev_go.log.points import Kind
+from netrev_go.log.points import PointKind
 from netrev_go.steps.analysis import Analysis, check, hanging, never_closed
 from netrev_go.steps.compare import differing
 from netrev_go.steps.making import make, write, write_words
@@ -58,7 +58,7 @@ class Recorded(unittest.TestCase):
         log = self.name.with_suffix(".log")
         log.write_bytes(data)
         read = read_log(log)
-        last = max(index for index, point in enumerate(read.points) if point.kind == Kind.PARK)
+        last = max(index for index, point in enumerate(read.points) if point.kind == PointKind.PARK)
         read.points[last] = read.points[last]._replace(b=0)
         recording = make(read)
         write(recording, self.name)
@@ -71,17 +71,20 @@ class Recorded(unittest.TestCase):
 
     def test_ordinary_programs_are_taken(self) -> None:
         self.accepted(
-            Points().opened().add(Kind.WRITE, 1, WORD, 5000, 5000, 0).add(Kind.READ, 1, WORD, 2**17, 2**17)
+            Points()
+            .opened()
+            .add(PointKind.WRITE, 1, WORD, 5000, 5000, 0)
+            .add(PointKind.READ, 1, WORD, 2**17, 2**17)
         )
         log = Points()
         for i in range(20):
             log.opened(WORD + i % 2).closed(WORD + i % 2)
         self.accepted(log)
-        late = Points().opened().add(Kind.CLOSE_WRITE, 2, WORD).add(Kind.WRITE, 1, WORD, 3, 3, 0)
-        self.accepted(late.add(Kind.WRITE, 1, WORD, 3, -1, 2))
-        old = Points().opened().add(Kind.SET_DEADLINE, 1, DESCRIPTOR, 114, 5, time=100)
-        old.closed().opened(WORD + 20, reading=9, writing=9).add(Kind.FIRE, 0, DESCRIPTOR, 1, 5, time=107)
-        self.accepted(old.add(Kind.EVENT, 0, DESCRIPTOR, 114))
+        late = Points().opened().add(PointKind.CLOSE_WRITE, 2, WORD).add(PointKind.WRITE, 1, WORD, 3, 3, 0)
+        self.accepted(late.add(PointKind.WRITE, 1, WORD, 3, -1, 2))
+        old = Points().opened().add(PointKind.SET_DEADLINE, 1, DESCRIPTOR, 114, 5, time=100)
+        old.closed().opened(WORD + 20, reading=9, writing=9).add(PointKind.FIRE, 0, DESCRIPTOR, 1, 5, time=107)
+        self.accepted(old.add(PointKind.EVENT, 0, DESCRIPTOR, 114))
 
     def test_a_ring_gives_a_recording_of_its_own(self) -> None:
         log = Points()

@@ -20,7 +20,7 @@ from dev.fuzz.editors import framed, request, messages_in
 from netrev.machine.cells import CELLS_OF_ALL, CELLS_OF_ONE
 from nrdb.dap.adapter import Adapter
 from nrdb.dap.hearing import Reading
-from nrdb.dap.view.messages import Wire
+from nrdb.dap.view.messages import EditorStreams
 from tests.program.support.sharing import NETREV
 
 ROOT = Path(__file__).resolve().parents[5]
@@ -97,7 +97,7 @@ def conversation(name: str, number: int) -> str:
     ]  # fmt: skip
     requests += [asked(dice, number, path, length) for number in range(4, MOST)]
     written = io.BytesIO()
-    wire = Wire(io.BytesIO(b"".join(map(framed, requests))), written)
+    wire = EditorStreams(io.BytesIO(b"".join(map(framed, requests))), written)
     here = os.getcwd()
     with tempfile.TemporaryDirectory() as folder:
         os.chdir(folder)
