@@ -125,7 +125,7 @@ def test_an_editor_is_told_what_a_recording_lacks(fault: str, begins: str) -> No
     written = io.BytesIO()
     wire = EditorStreams(io.BytesIO(), written)
     began = Adapter(wire, Reading(wire), "netrev")
-    with mock.patch.object(adapter, "debuggee", opened), mock.patch.object(adapter, "Target", target):
+    with mock.patch.object(adapter, "debuggee", opened), mock.patch.object(adapter, "DebugTarget", target):
         with mock.patch.object(adapter, "begin_words", lambda _: begins):
             outcome = began._begin(Launch.of(Request(1, "launch", {"program": "x.jsonl"})))
     told = [one["body"]["output"] for one in messages_in(written.getvalue()) if one.get("event") == "output"]
