@@ -81,7 +81,9 @@ class ShortCuts(unittest.TestCase):
         """Explores a recording in both ways."""
         script = script_of(recording)
         short = Exploring(script, recording.lines.words)
-        with patch("netrev.explore.findings.SchedulePlayer", PlainPlayer), patch("netrev.explore.state.Board", PlainBoard):
+        with patch("netrev.explore.findings.SchedulePlayer", PlainPlayer), patch(
+            "netrev.explore.state.Board", PlainBoard
+        ):
             plain = PlainExploring(script, recording.lines.words)
             self.assertEqual(short.recorded, plain.recorded)
             for schedule in list(schedules(short.delays, MOST))[::AT_ONCE]:

@@ -66,9 +66,12 @@ class Found(unittest.TestCase):
             self.assertEqual(points.found().parks[0].due, known)
 
     def test_timers(self) -> None:
-        points = Points().at(3).add(PointKind.TIMER, 7, CHANNEL, 90_000, stack=4).at(15).add(PointKind.TIMER, 8, 0, 80_000)
+        points = (
+            Points().at(3).add(PointKind.TIMER, 7, CHANNEL, 90_000, stack=4).at(15).add(PointKind.TIMER, 8, 0, 80_000)
+        )
         self.assertEqual(
-            points.found().timers, [LoggedTimer(CHANNEL, 7, 4, 1, 3_000, 90_000), LoggedTimer(0, 8, 0, 2, 15_000, 80_000)]
+            points.found().timers,
+            [LoggedTimer(CHANNEL, 7, 4, 1, 3_000, 90_000), LoggedTimer(0, 8, 0, 2, 15_000, 80_000)],
         )
 
     def test_one_that_waits_to_the_end_has_no_end(self) -> None:
@@ -77,14 +80,21 @@ class Found(unittest.TestCase):
 
     def test_who_made_it_ready_is_known_in_this_wait_alone(self) -> None:
         points = (
-            Points().at(3).add(PointKind.READY, 8, 0, 7).add(PointKind.PARKS, 7).add(PointKind.READY, 9, 0, 7).add(PointKind.GOES_ON, 7)
+            Points()
+            .at(3)
+            .add(PointKind.READY, 8, 0, 7)
+            .add(PointKind.PARKS, 7)
+            .add(PointKind.READY, 9, 0, 7)
+            .add(PointKind.GOES_ON, 7)
         )
         points.add(PointKind.PARKS, 7).add(PointKind.GOES_ON, 7)
         self.assertEqual([park.by for park in points.found().parks], [9, 0])
 
     def test_a_select_has_each_of_its_channels(self) -> None:
         points = Points().at(3).add(PointKind.CASES, 7, 1, cases(VALUE, VALUE, ROOM), 2, 3)
-        points.add(PointKind.PARKS, 7, 4, cases(ROOM, 0), 5).add(PointKind.GOES_ON, 7).add(PointKind.PARKS, 7, 6, cases(VALUE))
+        points.add(PointKind.PARKS, 7, 4, cases(ROOM, 0), 5).add(PointKind.GOES_ON, 7).add(
+            PointKind.PARKS, 7, 6, cases(VALUE)
+        )
         expected = [(At(1, VALUE), At(2, VALUE), At(3, ROOM), At(4, ROOM), At(5, 0)), (At(6, VALUE),)]
         self.assertEqual([park.objects for park in points.found().parks], expected)
 
@@ -100,7 +110,9 @@ class Found(unittest.TestCase):
         return {(use.goroutine, use.what, use.stack): span.often for use, span in found.items()}
 
     def test_what_goes_through_a_buffer(self) -> None:
-        points = Points().at(3).add(PointKind.SENT, 7, CHANNEL, 0, 2, stack=4).add(PointKind.SENT, 7, CHANNEL, 1, 2, stack=4)
+        points = (
+            Points().at(3).add(PointKind.SENT, 7, CHANNEL, 0, 2, stack=4).add(PointKind.SENT, 7, CHANNEL, 1, 2, stack=4)
+        )
         points.at(15).add(PointKind.RECEIVED, 8, CHANNEL, 2, 2, stack=5).add(PointKind.SENT, 7, CHANNEL, 1, 2, stack=4)
         self.assertEqual(self.uses(points), {(7, "put", 4): 3, (8, "took", 5): 1})
         found = points.found()
@@ -120,7 +132,11 @@ class Found(unittest.TestCase):
             self.assertEqual(self.uses(points), expected)
 
     def test_who_waits_at_a_buffer_is_handed_the_value(self) -> None:
-        points = Points().add(PointKind.PARKS, 8, CHANNEL, VALUE, 3, stack=5).add(PointKind.HANDED, 7, CHANNEL, 8, 3, stack=4)
+        points = (
+            Points()
+            .add(PointKind.PARKS, 8, CHANNEL, VALUE, 3, stack=5)
+            .add(PointKind.HANDED, 7, CHANNEL, 8, 3, stack=4)
+        )
         self.assertEqual(self.uses(points), {(7, "put", 4): 1, (8, "took", 5): 1})
 
     def test_who_gives_a_value_ends_the_wait(self) -> None:
@@ -129,11 +145,15 @@ class Found(unittest.TestCase):
             self.assertEqual([park.by for park in points.add(PointKind.GOES_ON, 8).found().parks], [7])
 
     def test_closes(self) -> None:
-        points = Points().add(PointKind.CHANNEL_CLOSED, 7, CHANNEL, 0, 3, stack=4).add(PointKind.FOUND_CLOSED, 8, CHANNEL)
+        points = (
+            Points().add(PointKind.CHANNEL_CLOSED, 7, CHANNEL, 0, 3, stack=4).add(PointKind.FOUND_CLOSED, 8, CHANNEL)
+        )
         self.assertEqual(self.uses(points), {(7, "closed", 4): 1, (8, "ended", 0): 1})
 
     def test_a_wait_group_has_what_is_added_and_taken_off(self) -> None:
-        points = Points().add(PointKind.GROUP, 7, CHANNEL, 3, 3, stack=4).add(PointKind.GROUP, 7, CHANNEL, 2, 5, stack=4)
+        points = (
+            Points().add(PointKind.GROUP, 7, CHANNEL, 3, 3, stack=4).add(PointKind.GROUP, 7, CHANNEL, 2, 5, stack=4)
+        )
         points.add(PointKind.GROUP, 8, CHANNEL, -1, 4, stack=5)
         self.assertEqual(self.uses(points, CHANNEL + OF_A_WAIT_GROUP), {(7, "added", 4): 5, (8, "done", 5): 1})
 
@@ -182,7 +202,9 @@ class Written(unittest.TestCase):
     def test_nrdb_reads_what_is_written(self) -> None:
         calls = {4: Calls((PROGRAM,), GO_STATEMENT), 5: Calls((PROGRAM,), None)}
         points = Points().at(3).add(PointKind.READY, 5, 0, 7, BY_GO).add(PointKind.PARKS, 7, CHANNEL, VALUE, 3, stack=4)
-        points.at(15).add(PointKind.SENT, 5, CHANNEL, 0, 3, stack=5).add(PointKind.READY, 5, 0, 7).add(PointKind.GOES_ON, 7)
+        points.at(15).add(PointKind.SENT, 5, CHANNEL, 0, 3, stack=5).add(PointKind.READY, 5, 0, 7).add(
+            PointKind.GOES_ON, 7
+        )
         points.add(PointKind.ENDS, 7).add(PointKind.PARKS, 5, OTHER_CHANNEL, cases(ROOM), stack=5)
         points.add(PointKind.TIMER, 7, CHANNEL, 90_000, stack=4).add(PointKind.PARKS, 9, 0, SLEEP, 70_000, stack=4)
         read = written(points.found(), calls, {5: 0})

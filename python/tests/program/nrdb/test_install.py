@@ -80,7 +80,7 @@ class Install(unittest.TestCase):
             self.assertEqual(contents(lib), contents(ROOT / "python"))
             self.assertEqual(printed(prefix / "bin/nrdb", *ASKED), nrdb(*ASKED))
             self.assertIn("netrev-go records Go programs.", printed(prefix / "bin/netrev-go", "--help"))
-            found = "import sys; from netrev.text import built; print(built.netrev_program())"
+            found = "import sys; from netrev.system import built; print(built.netrev_program())"
             self.assertEqual(
                 printed("python3", "-c", found, PYTHONPATH=str(prefix / "lib/netrev"), PATH=os.defpath).strip(),
                 str((prefix / "bin/netrev").resolve()),
