@@ -192,8 +192,8 @@ def run_of(folder: Path, runner: Runner, monkeypatch: Patch) -> testing.GoRun:
     """A run that makes its recordings in `new`, a folder that doesn't exist yet."""
     fakes: dict[str, Callable[..., object]] = {
         "claim": lambda one: one, "logs_folder": lambda points: folder, "limits_of": lambda options: None, "replace": lambda limits, **more: limits,
-        "Runner": lambda *words: runner, "still_written": lambda one: [], "leave": lambda *words: None, "report_unrecorded": lambda one: False,
-        "report_no_log": lambda one, failed: False, "Making": lambda *words: Made(so_far=lambda: (folder / "new/here").touch()),
+        "GoRunner": lambda *words: runner, "still_written": lambda one: [], "leave": lambda *words: None, "report_unrecorded": lambda one: False,
+        "report_no_log": lambda one, failed: False, "RecordingMaker": lambda *words: Made(so_far=lambda: (folder / "new/here").touch()),
     }  # fmt: skip
     for name, fake in fakes.items():
         monkeypatch.setattr(testing, name, fake)

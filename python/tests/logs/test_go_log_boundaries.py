@@ -283,7 +283,7 @@ def test_the_status_of_recovered_runs(statuses: str, ends: int, monkeypatch: Pat
         )
 
     fakes: dict[str, Callable[..., object]] = {
-        "look": looked.append, "left_runs": lambda: runs, "take_over": lambda run: True, "LoggedChannel": made,
+        "look": looked.append, "left_runs": lambda: runs, "take_over": lambda run: True, "RecordingMaker": made,
     }  # fmt: skip
     for name, fake in fakes.items():
         monkeypatch.setattr(recovery, name, fake)

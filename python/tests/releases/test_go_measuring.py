@@ -14,6 +14,7 @@ from dev.recorder import building, costs, fetching, real, suites
 from dev.recorder.readiness import Readiness
 from dev.recorder.results import read_results
 from dev.recorder.suites import Sample, Suite
+from netrev.findings.finding import Finding, Kind, SuspectFindings
 from netrev_go.go_command import toolchain
 from netrev_go.go_command.toolchain import Go, RecorderError
 from tests.support.folders import folder_of
@@ -62,6 +63,22 @@ class Tools(unittest.TestCase):
         return path
 
 
+class Suspects:
+    """Stands in for the analysis of each recording, and finds suspects with these sentences."""
+
+    def __init__(self, *sentences: str) -> None:
+        self.findings = [Finding(Kind.SUSPECT, (sentence,)) for sentence in sentences]
+
+    def __call__(self, netrev: str, name: pathlib.Path) -> contextlib.nullcontext["Suspects"]:
+        return contextlib.nullcontext(self)
+
+    def outcome(self) -> tuple[bool, str]:
+        return True, "ok 25 steps"
+
+    def suspects(self) -> SuspectFindings:
+        return SuspectFindings(self.findings, "")
+
+
 class Real(Tools):
     """`make real` with one sample and one package."""
 
@@ -76,7 +93,7 @@ class Real(Tools):
             real, chosen=lambda _: self.go, standing_of=lambda _: self.stands, built_sample=lambda *_: program, built=lambda *_: program,
             tests_of=lambda *_: ["TestGood", "TestRed", "TestSkip"], source_folder=lambda *_: self.folder, SAMPLES=self.folder,
             netrev_program=lambda: "netrev", check=lambda *told: self.checked(*told), differing=lambda _, name: (3, ["step 7: other"] * ("TestRed" in name.name)),
-            suspects=lambda *_: ["1. late", "   at 7", "22. twice", "10 points"], is_here=lambda name: name == "1.27",
+            Analysis=Suspects("late", "twice"), is_here=lambda name: name == "1.27",
         )  # fmt: skip
         self.patch(
             suites, OF_SAMPLES=samples, SMALL_SAMPLES=samples, OF_GO=(Suite("net"),), OF_OTHERS=(), SMALL_TESTS=()
@@ -99,7 +116,7 @@ class Real(Tools):
         self.assertEqual(
             [one.went for one in found if one.processors == 4], ["passed"] * 4 + ["failed"] * 2 + ["skipped"] * 2
         )
-        self.assertEqual([(one.suspects, one.differ) for one in found[:2]], [(["1. late", "22. twice"], 0)] * 2)
+        self.assertEqual([(one.suspects, one.differ) for one in found[:2]], [(["1. late", "2. twice"], 0)] * 2)
         red = next(one for one in found if one.test == "TestRed")
         self.assertEqual((red.said, red.differ, red.suspects), ("ok 25 steps; step 7: other", 1, []))
         self.assertEqual(
@@ -114,7 +131,7 @@ class Real(Tools):
     def test_recordings_are_compared_again_with_check(self) -> None:
         self.assertEqual(self.ran("--go", "1.27", "--record", "--only", "samples")[0], 0)
         self.assertEqual({one.said for one in read_results(self.folder / "out/1.27")}, {""})
-        self.patch(real, suspects=lambda *_: [])
+        self.patch(real, Analysis=Suspects())
         self.assertEqual(self.ran("--go", "1.27", "--check")[0], 0)
         self.checked = lambda *_: (False, "step 3: no")
         status, said = self.ran("--go", "1.27", "--check")

@@ -94,10 +94,11 @@ def test_netrev_go_prints_commands_that_run(installations: list[Installation], l
 
 def test_causes_end_with_a_command_that_runs(installations: list[Installation], tmp_path: Path) -> None:
     shutil.copy(FAILED, tmp_path / "a b.jsonl")
+    script = "import sys; from netrev.findings.causes import first_words; "
+    script += "from netrev.recording.recording import Recording; "
+    script += "print(*first_words(Recording.read(sys.argv[1]), sys.argv[1]), sep='\\n')"
     for installation in installations:
-        output = installation.printed(
-            tmp_path, sys.executable, installation.packages, "netrev.findings.causes", "a b.jsonl"
-        )
+        output = installation.printed(tmp_path, sys.executable, "-c", script, "a b.jsonl")
         (command,) = commands_after_next(output)
         assert "(netrev) history rd 1" in installation.typed(tmp_path, command), command
 
