@@ -26,8 +26,8 @@ from .keeping import ReportPrinter, complain, say, unwritten
 from .log.logfile import NotALogError, read_log
 from .log.ran import Ran, Tests, of_log
 from .steps.converting import ReadLog, RecordingOptions, converted
-from .steps.forms import Told
-from .steps.report import Hear, Outcome, unheard
+from .steps.forms import TestResult
+from .steps.report import Conversion, Hear, unheard
 
 MAJOR = re.compile(r"v\d+\Z")
 UNFIT = re.compile(r"[^A-Za-z0-9_.-]+")
@@ -63,7 +63,7 @@ class Recordings:
     ) -> None:
         self.base, self._go, self._wish, self._keeps_all = base, go, wish, keeps_all
         self._is_page_wanted = is_page_wanted
-        self.told: dict[tuple[str, str], Told] = {}
+        self.told: dict[tuple[str, str], TestResult] = {}
         self._names: set[pathlib.Path] = set()  # the file names of the recordings
         self._short: dict[str, str] = {}  # the package to which each short name belongs
         self.all_recorded = True  # whether everything was recorded that should be
@@ -84,8 +84,8 @@ class Recordings:
         for test in ran:
             self.of(test).add(test)
 
-    def of(self, test: Ran) -> Told:
-        return self.told.setdefault((test.package, test.name), Told(test.package, test.name))
+    def of(self, test: Ran) -> TestResult:
+        return self.told.setdefault((test.package, test.name), TestResult(test.package, test.name))
 
     def wanted(self, tests: Tests) -> list[Ran]:
         """The tests whose recordings are kept: for a test that fails in several runs, the first such run."""
@@ -126,7 +126,7 @@ class Recordings:
             if test.is_red():
                 say([messages.TEST_USED_NONE.format(test=head)])
 
-    def keep(self, told: Told, name: pathlib.Path, outcome: Outcome, saying: ReportPrinter) -> None:
+    def keep(self, told: TestResult, name: pathlib.Path, outcome: Conversion, saying: ReportPrinter) -> None:
         """Prints the report about a recording, and stores it for the machine-readable output."""
         told.report(outcome)
         if name.exists():
@@ -145,7 +145,7 @@ class Recordings:
             complain(f"{log}: {fault}")
             return None
 
-    def made(self, read: ReadLog | None, name: pathlib.Path, test: Ran | None, hear: Hear) -> Outcome | None:
+    def made(self, read: ReadLog | None, name: pathlib.Path, test: Ran | None, hear: Hear) -> Conversion | None:
         """The result of a recording; None, with a message, if it can't be written. `hear` receives the lines as soon as they are known."""
         if read is None:
             return None
@@ -171,7 +171,7 @@ class Recordings:
         return any(told.possible for told in recorded)
 
 
-def page_of(name: pathlib.Path, outcome: Outcome) -> str | None:
+def page_of(name: pathlib.Path, outcome: Conversion) -> str | None:
     """Writes the timeline of a recording as a page beside it. Returns the page's name, or None if that fails."""
     from netrev.timeline.page import write_page_beside
 

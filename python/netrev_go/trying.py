@@ -24,7 +24,7 @@ from .keeping import say
 from .log.logfile import NotALogError, read_log
 from .steps.analysis import check
 from .steps.compare import DIFFERS, by_the_model, differing
-from .steps.making import NothingRecordedError, NewRecording, UnconvertibleError, make, write, write_words
+from .steps.making import NewRecording, NothingRecordedError, UnconvertibleError, make, write, write_words
 
 PATIENCE = 60
 KEPT = "trial.json"

@@ -15,18 +15,18 @@ from typing import Callable, Optional, Sequence
 
 from netrev.connection.arriving_changes import ArrivingChanges
 from netrev.connection.errors import MismatchedRecordingError, unexpected
-from netrev.connection.netrev import NetrevEndedError, Joined, Netrev, Own, Reply
+from netrev.connection.netrev import Joined, Netrev, NetrevEndedError, Own, Reply
 from netrev.connection.output import JsonPrinter, Printer, TextPrinter, has_colours
-from netrev.connection.scout import ScoutUnavailableError, Scout
+from netrev.connection.scout import Scout, ScoutUnavailableError
 from netrev.connection.shapes import POSITION, LineRefusedError, StrangeReplyError
 from netrev.messages import session as messages
 from netrev.recording.recording import NotARecordingError, Recording
 from netrev.recording.suspect_list import SuspectList
 from netrev.session.queries import answer_run, lines_together, runs_of
 from netrev.session.refusals import explained, fault_of
-from netrev.session.session import UsageError, Session
+from netrev.session.session import Session, UsageError
 from netrev.system.command_lines import how_to_get_netrev, make_command
-from netrev.system.interrupts import SessionAbandonedError, SearchInterruptedError, Interrupts
+from netrev.system.interrupts import Interrupts, SearchInterruptedError, SessionAbandonedError
 
 from .options import parsed, parser
 from .prompt.answers import ANSWERS

@@ -27,7 +27,6 @@ PACKAGES = ("python/netrev", "python/nrdb", "python/netrev_go")
 UNTOUCHED = (
     "messages",  # texts
     "machine", "model",  # the tests compare netrev with them
-    "page",  # its scripts are JavaScript
 )  # fmt: skip
 FOUND, SURVIVED, UNTESTED, UNBUILT = "found", "survives", "no test calls it", "can't be compiled"
 FAILS_ANYWAY = "its test fails without it too"

@@ -6,7 +6,7 @@ from typing import Callable, NamedTuple, Optional, Sequence
 from netrev.machine.machine import World
 from netrev.machine.steps import apply
 from netrev.model.session import ROOM
-from netrev.text.contents import Answer, Limits, Contents, Step
+from netrev.text.contents import Answer, Contents, Limits, Step
 from netrev.text.reading import MOST_STEPS, RANGES
 from netrev.text.writing import write_plain
 

@@ -23,7 +23,7 @@ from netrev.model.program import replay
 from netrev.model.session import ModelSession as ModelSession, recording_of
 from netrev.recording.recording import Recording
 from netrev.session.session import Session
-from netrev.system.interrupts import SessionAbandonedError, Interrupts
+from netrev.system.interrupts import Interrupts, SessionAbandonedError
 from netrev.text.writing import write_plain
 from nrdb.prompt.answers import ANSWERS
 

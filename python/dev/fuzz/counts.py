@@ -3,7 +3,7 @@
 from collections import Counter
 from typing import Any, Iterator, Mapping
 
-from netrev.machine.debugger import Request, Reply
+from netrev.machine.debugger import Reply, Request
 from netrev.machine.observer import Observer
 from netrev.text.contents import Answer
 from netrev.text.vocabulary import KINDS

@@ -21,8 +21,8 @@ from netrev_go.log.points import KINDS, Log, Point
 from netrev_go.log.ran import ENDING, Tests, of_log
 from netrev_go.steps import forms, report
 from netrev_go.steps.converting import ReadLog, RecordingOptions, convert, converted
-from netrev_go.steps.forms import Told
-from netrev_go.steps.report import Outcome
+from netrev_go.steps.forms import TestResult
+from netrev_go.steps.report import Conversion
 
 from .generators.damage import damaged
 from .generators.logs import STACKS, binary, from_text
@@ -229,7 +229,7 @@ def confined(seed: str, folder: Path) -> str:
         return repr(failed) or "it failed"
 
 
-def recording_wrong(outcome: Outcome, name: Path) -> str:
+def recording_wrong(outcome: Conversion, name: Path) -> str:
     """The fault of a recording, its lines, and its report."""
     if name.exists() and name.stat().st_size > GREATEST:
         return f"the recording has {name.stat().st_size} bytes"
@@ -242,7 +242,7 @@ def recording_wrong(outcome: Outcome, name: Path) -> str:
 
 def tests_wrong(log: Path, tests: Tests, folder: Path) -> str:
     """The fault of the recordings of a log's tests, or of the machine-readable outputs."""
-    results = [Told(test.package, test.name) for test in tests.ran]
+    results = [TestResult(test.package, test.name) for test in tests.ran]
     for result, test in zip(results, tests.ran):
         result.add(test)
     try:
@@ -258,7 +258,7 @@ def tests_wrong(log: Path, tests: Tests, folder: Path) -> str:
     return forms_wrong(results)
 
 
-def forms_wrong(results: list[Told]) -> str:
+def forms_wrong(results: list[TestResult]) -> str:
     """What is wrong with the machine-readable outputs: an output lacks a test or has it twice, or an annotation has the wrong form."""
     if [json.loads(line)["test"] for line in forms.json_lines(results).splitlines()] != [
         result.test for result in results

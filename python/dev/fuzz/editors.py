@@ -10,7 +10,7 @@ from typing import Any, Optional
 from netrev.text.writing import write_plain
 from nrdb.dap.adapter import Adapter
 from nrdb.dap.hearing import Reading
-from nrdb.dap.view.messages import MalformedMessageError, EditorStreams
+from nrdb.dap.view.messages import EditorStreams, MalformedMessageError
 
 from .companion import line_of
 from .generators.random_steps import Author

@@ -7,7 +7,7 @@ from netrev.messages import session as messages
 from netrev.recording.recording import Recording
 
 from .netrev import Netrev, Own, Reply
-from .output import SessionPosition, Printer
+from .output import Printer, SessionPosition
 from .shapes import go_to, position_of
 
 

@@ -7,7 +7,7 @@ from typing import Callable, Optional, Sequence, TypeVar
 from netrev.errors import NetrevError
 from netrev.messages import session as messages
 
-from .netrev import NetrevEndedError, Netrev
+from .netrev import Netrev, NetrevEndedError
 from .shapes import move_of
 
 JOURNAL = 65_536  # the number of commands that fit into a session of `netrev run`

@@ -11,7 +11,7 @@ from netrev.recording.recording import Recording
 from netrev.reduce.reduced import Reducing, Wanted, answered_recording, reduced_of
 from netrev.reduce.writing import answered_by, text_of, write_recording
 from netrev.run.calls import book_of
-from netrev.session.session import UsageError, Session
+from netrev.session.session import Session, UsageError
 from netrev.system.interrupts import SearchInterruptedError
 from netrev.text.vocabulary import number_of
 

@@ -5,16 +5,16 @@ it is due. A goroutine waits while it sleeps, and a step waits until its object 
 from heapq import heappop, heappush
 from typing import Optional
 
-from netrev.machine.machine import StepRefusedError, Status
+from netrev.machine.machine import Status, StepRefusedError
 from netrev.reduce.events import Event
 from netrev.run.flow import ASLEEP, OperationType
 from netrev.text.contents import Answer, Step
 
 from .scripts.control import (
     GOROUTINE,
-    UNKNOWN,
     NETWORK,
     NEVER,
+    UNKNOWN,
     MissingObjectError,
     ScriptPlace,
     behind,

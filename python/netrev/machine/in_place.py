@@ -8,7 +8,7 @@ from typing import Any, NamedTuple, Optional, TypeVar
 
 from netrev.text.contents import Answer, Limits, Step
 
-from .machine import IDLE, INSIDE, Desc, StepRefusedError, Socket, Status, Timer, World
+from .machine import IDLE, INSIDE, Desc, Socket, Status, StepRefusedError, Timer, World
 from .steps import OF_KIND
 
 ONE_OF_MANY = ("goroutines", "sockets", "descs")

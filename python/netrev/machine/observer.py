@@ -7,7 +7,7 @@ from typing import TYPE_CHECKING
 from netrev.text.contents import Answer
 
 if TYPE_CHECKING:
-    from .debugger import Request, Reply
+    from .debugger import Reply, Request
 
 
 class Observer:

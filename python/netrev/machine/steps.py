@@ -9,7 +9,7 @@ from typing import Callable
 from netrev.text.contents import Step
 
 from . import lockword, polling
-from .machine import GONE, GREATEST_COUNT, IDLE, Desc, Outcome, StepRefusedError, Socket, Status, World, at, put
+from .machine import GONE, GREATEST_COUNT, IDLE, Desc, Outcome, Socket, Status, StepRefusedError, World, at, put
 
 Operation = Callable[..., lockword.Operated]
 

@@ -6,7 +6,7 @@ from netrev.findings.suspects.ranking import suspects_of
 from netrev.messages import searches as messages
 from netrev.recording.recording import Recording
 from netrev.session.files import written
-from netrev.session.session import UsageError, Session
+from netrev.session.session import Session, UsageError
 
 from .hang_report import Story, hang_report, story_of
 from .reduced import reduced, wanted_by

@@ -8,14 +8,14 @@ from netrev.findings.suspects.ranking import suspects_of
 from netrev.messages import searches as messages
 from netrev.recording.recording import Recording
 from netrev.session.files import spare
-from netrev.session.session import UsageError, Session
+from netrev.session.session import Session, UsageError
 from netrev.text.contents import Limits
 from netrev.text.vocabulary import cell_of, number_of
 
 from .events import Events
 from .replay import ReplayPlayer
 from .shrinking import NotReproducedError, Shrinking
-from .targets import CellTarget, HangTarget, StepsTarget, SuspectTarget, ReductionTarget
+from .targets import CellTarget, HangTarget, ReductionTarget, StepsTarget, SuspectTarget
 from .units import UnitKind, units_of
 from .writing import answered_by, taken, write_recording
 

@@ -9,7 +9,7 @@ from netrev.errors import NetrevError
 from .events import Events
 from .replay import ReplayPlayer
 from .targets import ReductionTarget
-from .units import UnitKind, Unit
+from .units import Unit, UnitKind
 
 WINDOWS = (64, 512, 4_096)  # how many steps around the target are kept at first, smallest window first
 MOST_PLAYED = 600_000  # after this number of replayed steps, the best result so far is used

@@ -5,7 +5,7 @@ from functools import lru_cache
 from typing import Any, Mapping, NamedTuple, Optional
 
 from netrev.connection.output import Row, Table
-from netrev.machine.deadlines import Deadlines, DeadlineTimer as Armed
+from netrev.machine.deadlines import DeadlineTimer as Armed, Deadlines
 from netrev.machine.polling import deadline_of
 from netrev.recording.recording import Recording, Step
 from netrev.recording.words import SIDES

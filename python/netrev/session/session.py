@@ -5,17 +5,17 @@ from typing import Callable, Mapping, Optional, Sequence
 
 from netrev.connection.beginnings import tell_begin
 from netrev.connection.errors import MismatchedRecordingError, UsageError, needed, unexpected
-from netrev.connection.netrev import NetrevEndedError, Joined, Netrev, Reply
-from netrev.connection.output import SessionPosition, Printer, displays_table
-from netrev.connection.scout import ScoutUnavailableError, Scout
+from netrev.connection.netrev import Joined, Netrev, NetrevEndedError, Reply
+from netrev.connection.output import Printer, SessionPosition, displays_table
+from netrev.connection.scout import Scout, ScoutUnavailableError
 from netrev.connection.shapes import (
     MARK,
     MOVED,
     POSITION,
     VALUE,
+    LineRefusedError,
     ListedMark,
     Position,
-    LineRefusedError,
     StrangeReplyError,
     go_to,
     is_shaped,
@@ -28,7 +28,7 @@ from netrev.recording.changes import RecordedChanges
 from netrev.recording.recording import NotARecordingError, Recording
 from netrev.recording.waits import Name
 from netrev.recording.words import absent_words, dump_words, in_words
-from netrev.system.interrupts import SessionAbandonedError, SearchInterruptedError, Interrupts
+from netrev.system.interrupts import Interrupts, SearchInterruptedError, SessionAbandonedError
 from netrev.text.text_files import lines_of_script
 from netrev.text.vocabulary import cell_of
 from netrev.views.changed import tables_beside

@@ -6,7 +6,7 @@ from typing import Any, Optional
 
 from netrev.errors import NetrevError
 
-from .contents import GREATEST_TIME, Answer, Limits, Contents, Step
+from .contents import GREATEST_TIME, Answer, Contents, Limits, Step
 from .jsontext import NotJsonError, read_json
 from .vocabulary import HEADERS, KINDS as OF_NRDB, VERSIONS, Kind, is_answer
 

@@ -13,7 +13,7 @@ from netrev.recording.recording import Recording
 from netrev.recording.suspect_list import SuspectList
 from netrev.run.changes import read_with_changes
 from netrev.session.files import writing
-from netrev.session.session import UsageError, Session
+from netrev.session.session import Session, UsageError
 from netrev.system.interrupts import Interrupts
 from netrev.system.long_passes import take_all_as_kept, without_collections
 from netrev.text.plain import plain

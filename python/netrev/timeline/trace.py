@@ -21,7 +21,7 @@ from netrev.recording.changes import RecordedChanges, value_at_start
 from netrev.recording.recording import SHOWN, Recording, shortened
 from netrev.recording.where import SourceLines
 from netrev.session.files import writing
-from netrev.session.session import UsageError, Session
+from netrev.session.session import Session, UsageError
 from netrev.text.plain import plain
 from netrev.text.vocabulary import OF_A_GOROUTINE
 

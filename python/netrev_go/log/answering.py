@@ -5,7 +5,7 @@ from __future__ import annotations
 from netrev.errors import NetrevError
 from netrev.messages import recorder as messages
 
-from .points import PointKind, Point
+from .points import Point, PointKind
 from .sockets import AGAIN, LoggedSocket
 
 BROKEN_PIPE = 2

@@ -6,7 +6,7 @@ import errno
 from dataclasses import dataclass, field
 
 from .answering import BROKEN_PIPE
-from .points import PointKind, Point
+from .points import Point, PointKind
 from .sockets import AGAIN
 from .waits import LoggedWait
 

@@ -10,7 +10,7 @@ from operator import itemgetter
 from typing import NamedTuple
 
 from .orders import Made
-from .points import ORDERING, WAITING, LoggedHolder, PointKind, Point
+from .points import ORDERING, WAITING, LoggedHolder, Point, PointKind
 
 READY, SENT, RECEIVED, MET, CLOSED, FOUND_CLOSED = map(
     int,

@@ -6,7 +6,7 @@ from __future__ import annotations
 from collections.abc import Iterable
 from dataclasses import dataclass, field
 
-from .points import PointKind, Point
+from .points import Point, PointKind
 
 ENDS = int(PointKind.ENDS)
 

@@ -20,7 +20,7 @@ from operator import xor
 from netrev.errors import NetrevError
 from netrev.messages import recorder as messages
 
-from .points import KINDS, LoggedHolder, Log, Point, PointStack
+from .points import KINDS, Log, LoggedHolder, Point, PointStack
 
 MAGIC = 0x31676F6C7665726E
 HEADER_BYTES = 4096

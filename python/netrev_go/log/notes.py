@@ -9,7 +9,7 @@ from collections.abc import Iterable
 from dataclasses import dataclass, field
 from typing import NamedTuple
 
-from .points import PointKind, Point
+from .points import Point, PointKind
 
 NOTED, POLL, DEADLINES, INSIDE, QUEUED, BEGIN, END, NAMED = map(
     int,

@@ -6,7 +6,7 @@ from __future__ import annotations
 from collections import defaultdict, deque
 from collections.abc import Iterable, Iterator
 
-from .points import PointKind, Point
+from .points import Point, PointKind
 
 READY, SENT, RECEIVED, MET, CHANNEL_CLOSED, HANDED = map(
     int,

@@ -13,7 +13,7 @@ from dataclasses import dataclass, field
 from operator import itemgetter
 
 from .notes import NAMED as NOTED_NAMED, NOTED, Debts, Note
-from .points import AT_A_SOCKET, AT_A_WORD, GOROUTINE, LOCKING, NOTING, NUMBER, PointKind, Point
+from .points import AT_A_SOCKET, AT_A_WORD, GOROUTINE, LOCKING, NOTING, NUMBER, Point, PointKind
 from .prelude import Lead, UnreachableStateError, led
 
 BUFFER = 65_536

@@ -16,7 +16,7 @@ from netrev.messages import recorder as messages
 from netrev_go.log.answering import BROKEN_PIPE, UnconvertibleError, can_answer, mode_of, parts
 from netrev_go.log.beside import OF_UNIX, Beside
 from netrev_go.log.orders import Made
-from netrev_go.log.points import LOCKING, PointKind, Point
+from netrev_go.log.points import LOCKING, Point, PointKind
 from netrev_go.log.prelude import NOBODY, Lead, passing
 from netrev_go.log.sockets import AGAIN, BUFFER, FEW_BYTES, LoggedSocket
 

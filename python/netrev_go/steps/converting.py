@@ -24,16 +24,16 @@ from netrev_go.log.sockets import MOST_MEGABYTES, MOST_SOCKETS
 from .cutting import goroutines_of, sockets_of
 from .goroutine_lines import Everybody, kept
 from .making import (
+    NewRecording,
     NoSocketError,
     NothingRecordedError,
     Part,
-    NewRecording,
     UnconvertibleError,
     make,
     write,
     write_words,
 )
-from .report import Hear, Outcome, report, unheard
+from .report import Conversion, Hear, report, unheard
 from .where import STEPS_A_LINE, write_where
 
 PROCESS = re.compile(r"(\.\d+){1,2}(\.snapshot)?\Z")
@@ -73,7 +73,7 @@ def convert(
     known: list[object] | None = None,
     hear: Hear = unheard,
     is_written: bool = False,
-) -> Outcome:
+) -> Conversion:
     """Makes the recording NAME from a log, and NAME.where beside it if Go is installed to look up lines. `known` keeps the data, because
     freeing the data takes a long time. `hear` receives the report's lines as soon as they are known. A log that a program is still
     writing is copied
@@ -81,7 +81,7 @@ def convert(
     try:
         return converted(ReadLog(log, read_log(log, is_written), of_log(log)), name, go, wish, known=known, hear=hear)
     except NotALogError as fault:
-        return Outcome(False, [f"{plain(str(log))}: {fault}"])
+        return Conversion(False, [f"{plain(str(log))}: {fault}"])
 
 
 def converted(
@@ -92,7 +92,7 @@ def converted(
     test: Ran | None = None,
     known: list[object] | None = None,
     hear: Hear = unheard,
-) -> Outcome:
+) -> Conversion:
     """Makes the recording NAME from a log that was read, or from one of its tests."""
     log = read.log
     part: Part | None = None
@@ -101,7 +101,7 @@ def converted(
     try:
         recording = make(log, wish.sockets, wish.megabytes, wish.all_bytes, part, wish.first)
     except (NothingRecordedError, UnconvertibleError) as fault:
-        return Outcome(False, [f"{plain(str(read.path))}: {fault}"], isinstance(fault, NoSocketError))
+        return Conversion(False, [f"{plain(str(read.path))}: {fault}"], isinstance(fault, NoSocketError))
     if known is not None:
         known += (read, recording)
     lines = name.with_suffix(LINES)

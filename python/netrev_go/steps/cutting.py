@@ -6,9 +6,9 @@ from __future__ import annotations
 from collections.abc import Iterable, Mapping
 
 from netrev_go.log.goroutines import Goroutines
-from netrev_go.log.points import PointKind, Log
+from netrev_go.log.points import Log, PointKind
 from netrev_go.log.ran import Ran
-from netrev_go.log.sockets import Owned, LoggedSocket
+from netrev_go.log.sockets import LoggedSocket, Owned
 
 MADE = 1  # in a READY point: the goroutine started another one, instead of waking it
 

@@ -11,7 +11,7 @@ from netrev.findings.finding import named_places
 from netrev.text.plain import plain
 from netrev_go.log.ran import Ran, Went
 
-from .report import Outcome, Shown
+from .report import Conversion, Shown
 
 WORST = (Went.FAILED, Went.UNFINISHED, Went.PASSED, Went.SKIPPED)
 
@@ -26,7 +26,7 @@ class Cause:
 
 
 @dataclass
-class Told:
+class TestResult:
     """The result of one test in all its runs."""
 
     package: str
@@ -67,7 +67,7 @@ class Told:
             return self.file, self.line
         return (self.causes[0].file, self.causes[0].line) if self.causes else None
 
-    def report(self, outcome: Outcome) -> None:
+    def report(self, outcome: Conversion) -> None:
         """Adds the report about the test's recording."""
         self.says, self.accepted = outcome.lines, outcome.taken
         self.suspects = [plain(finding.sentences[0]) for finding in outcome.suspects]
@@ -82,7 +82,7 @@ def causes_in(findings: list[Shown]) -> list[Cause]:
     return list(lines.values())
 
 
-def json_lines(told: Iterable[Told]) -> str:
+def json_lines(told: Iterable[TestResult]) -> str:
     """A line for each test."""
     return "".join(json.dumps(asdict(one)) + "\n" for one in told)
 
@@ -97,7 +97,7 @@ def of_property(text: str) -> str:
     return of_data(text).replace(":", "%3A").replace(",", "%2C")
 
 
-def annotation(one: Told) -> str:
+def annotation(one: TestResult) -> str:
     """The GitHub annotation for a failed test."""
     title = f"title={of_property(plain(f'{one.package} {one.test}'))}"
     words = [one.outcome(), *one.says]
@@ -106,7 +106,7 @@ def annotation(one: Told) -> str:
     return f"::error {where}{title}::{of_data(chr(10).join(map(plain, words)))}"
 
 
-def github_lines(told: Iterable[Told]) -> list[str]:
+def github_lines(told: Iterable[TestResult]) -> list[str]:
     """Annotations for the failed tests, without those that have a failed subtest."""
     red = [one for one in told if one.is_red()]
     parts = [(one.package, one.test) for one in red]
@@ -117,7 +117,7 @@ def github_lines(told: Iterable[Told]) -> list[str]:
     ]
 
 
-def junit(told: list[Told]) -> str:
+def junit(told: list[TestResult]) -> str:
     """JUnit XML: a suite for each package, and a case for each test."""
     top = ElementTree.Element("testsuites", counts(told))
     for package in dict.fromkeys(one.package for one in told):
@@ -129,7 +129,7 @@ def junit(told: list[Told]) -> str:
     return '<?xml version="1.0" encoding="UTF-8"?>\n' + ElementTree.tostring(top, encoding="unicode") + "\n"
 
 
-def counts(told: list[Told]) -> dict[str, str]:
+def counts(told: list[TestResult]) -> dict[str, str]:
     how = [Went(one.status) for one in told]
     return {
         "tests": str(len(told)),
@@ -140,7 +140,7 @@ def counts(told: list[Told]) -> dict[str, str]:
     }
 
 
-def add_case(suite: ElementTree.Element, one: Told) -> None:
+def add_case(suite: ElementTree.Element, one: TestResult) -> None:
     """Adds a test. A failed test has a failure, and a test that never ended has an error."""
     words = {"classname": plain(one.package), "name": plain(one.test), "time": f"{one.seconds:.6f}"}
     case = ElementTree.SubElement(suite, "testcase", words)

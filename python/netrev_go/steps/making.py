@@ -18,7 +18,7 @@ from netrev_go.log.goroutines import CONCERNED, Goroutines, goroutines_of
 from netrev_go.log.lifetimes import ENDS, Lifetimes, lifetimes_of
 from netrev_go.log.notes import spans
 from netrev_go.log.orders import Made, orders_of
-from netrev_go.log.points import AT_A_SOCKET, LOCKING, NOTING, ORDERING, PointKind, Log, Point
+from netrev_go.log.points import AT_A_SOCKET, LOCKING, NOTING, ORDERING, Log, Point, PointKind
 from netrev_go.log.prelude import NOBODY
 
 from netrev_go.log.sockets import FEW_BYTES, MOST_GOROUTINES, MOST_MEGABYTES, MOST_SOCKETS, MOST_STEPS, POINT, Owned, LoggedSocket, chosen, lead_to, owned  # fmt: skip

@@ -4,7 +4,7 @@ points are like this."""
 from __future__ import annotations
 
 from netrev_go.log.answering import lock_answer, side_of
-from netrev_go.log.points import PointKind, Point
+from netrev_go.log.points import Point, PointKind
 from netrev_go.log.sockets import BUFFER, LoggedSocket
 
 LOCK_STEPS: dict[int, str] = {

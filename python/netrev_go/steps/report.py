@@ -19,7 +19,7 @@ from netrev.system.command_lines import command_line, file_word, how_to_get_netr
 from netrev.system.time_limits import LateError
 from netrev.text.plain import plain
 from netrev.text.plurals import counted
-from netrev_go.log.lines import OF_GO, LineCall, Calls
+from netrev_go.log.lines import OF_GO, Calls, LineCall
 
 from .analysis import Analysis, hanging, never_closed
 from .making import NewRecording
@@ -41,7 +41,7 @@ class Shown(NamedTuple):
 
 
 @dataclass(frozen=True)
-class Outcome:
+class Conversion:
     """The result for a log: whether netrev accepts the recording, the report's lines, whether the log had no sockets, the findings in the
     report, and the recording as the library read it, if all its findings could be computed."""
 
@@ -243,14 +243,14 @@ def report(
     calls: dict[int, Calls],
     failed: bool = False,
     hear: Hear = unheard,
-) -> Outcome:
+) -> Conversion:
     """The report about a recording. `failed` is whether the program failed. `hear` receives the lines as soon as they are known: why calls
     failed or hang, long before the suspects."""
-    made, netrev = Report(recording, name, calls, hear), netrev_program()
+    printed, netrev = Report(recording, name, calls, hear), netrev_program()
     if netrev is None:
         unchecked = messages.UNCHECKED.format(how=how_to_get_netrev())
-        made.say([*made.head(f"{counted(len(recording.lines), 'step')}; "), unchecked])
-        return Outcome(True, made.lines)
+        printed.say([*printed.head(f"{counted(len(recording.lines), 'step')}; "), unchecked])
+        return Conversion(True, printed.lines)
     with Analysis(netrev, name) as analysis:
-        taken = made.whole(netrev, analysis, failed)
-        return Outcome(taken, made.lines, False, made.shown, analysis.recording)
+        taken = printed.whole(netrev, analysis, failed)
+        return Conversion(taken, printed.lines, False, printed.shown, analysis.recording)

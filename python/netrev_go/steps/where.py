@@ -8,7 +8,7 @@ from collections.abc import Iterable, Sequence
 
 from netrev.text.files import written_whole
 from netrev_go.log.beside import Beside
-from netrev_go.log.lines import OF_A_LIBRARY, OF_THE_PROGRAM, LineCall, Calls
+from netrev_go.log.lines import OF_A_LIBRARY, OF_THE_PROGRAM, Calls, LineCall
 from netrev_go.log.orders import parts
 from netrev_go.log.times import deltas
 

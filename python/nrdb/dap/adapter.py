@@ -12,17 +12,17 @@ from netrev.messages import editors as texts
 from netrev.recording.recording import NotARecordingError
 from netrev.session.line_hints import hint
 from netrev.session.session import UsageError
-from netrev.system.interrupts import SessionAbandonedError, SearchInterruptedError, Interrupts
+from netrev.system.interrupts import Interrupts, SearchInterruptedError, SessionAbandonedError
 from netrev.text.plain import plain
 
 from . import breakpoints, looks
 from .hearing import CANCEL, Source
 from .moving import Stop, text_of
-from .target import Launch, DebugTarget
+from .target import DebugTarget, Launch
 from .view.capabilities import CAPABILITIES
 from .view.debuggee import debuggee
 from .view.looking import maker_of, thread_of
-from .view.messages import Body, EditorGoneError, Request, UnanswerableError, EditorStreams
+from .view.messages import Body, EditorGoneError, EditorStreams, Request, UnanswerableError
 from .view.numbering import Numbering
 from .working import Work
 

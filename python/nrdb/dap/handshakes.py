@@ -9,7 +9,7 @@ from typing import Optional
 
 from .admission import StrangerError, is_let_in
 from .view.capabilities import CAPABILITIES
-from .view.messages import MalformedMessageError, Request, UnanswerableError, EditorStreams
+from .view.messages import EditorStreams, MalformedMessageError, Request, UnanswerableError
 
 IN_TIME = 10.0  # seconds that an editor at the port has to send a launch
 MOST = 64  # the maximum number of connections that haven't sent the token; a further one closes the oldest

@@ -10,7 +10,7 @@ from typing import Iterator, Optional, Protocol
 
 from netrev.system.interrupts import Interrupts
 
-from .view.messages import MalformedMessageError, Request, EditorStreams
+from .view.messages import EditorStreams, MalformedMessageError, Request
 
 ENDING = ("disconnect", "terminate")
 CANCEL, PAUSE = "cancel", "pause"

@@ -7,7 +7,7 @@ from netrev.connection.netrev import Reply
 from netrev.connection.shapes import MARK, ListedMark, Move, move_of
 from netrev.findings.causes import root_sentence
 from netrev.recording.recording import Recording
-from netrev.system.interrupts import SearchInterruptedError, Interrupts
+from netrev.system.interrupts import Interrupts, SearchInterruptedError
 from netrev.views.following import NoDestinationError, finish_goal
 
 from .go_lines import GoLines

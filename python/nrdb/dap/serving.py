@@ -14,7 +14,7 @@ from .adapter import Adapter
 from .admission import NAMED_BY, InvalidTokenError, token_for_a_port
 from .handshakes import Connection, Handshakes
 from .hearing import Hearing, Reading, Source
-from .view.messages import MalformedMessageError, Request, EditorStreams
+from .view.messages import EditorStreams, MalformedMessageError, Request
 
 LOOPBACK = "127.0.0.1"
 DONE, USAGE, FAILED = 0, 2, 3

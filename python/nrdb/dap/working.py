@@ -7,7 +7,7 @@ from threading import Event, Lock, Thread
 from netrev.messages import editors as texts
 
 from .hearing import MOVES, progress_of
-from .view.messages import Body, Request, EditorStreams
+from .view.messages import Body, EditorStreams, Request
 
 LATE = 0.3  # the seconds after which a request counts as long
 AGAIN = 0.5  # seconds between two progress reports

@@ -11,7 +11,7 @@ from netrev.messages import session as messages
 from netrev.recording.answers import spelled
 from netrev.run.timers import timer_words
 from netrev.session.commands import ALL_TOPICS, COMMANDS, FORMS, OF_NETREV, OF_NRDB, TOPICS, Origin, whole_command
-from netrev.session.session import Answering, UsageError, Session
+from netrev.session.session import Answering, Session, UsageError
 from netrev.text.vocabulary import CELLS, KINDS, REASONS, Of, cell_of, number_of
 from netrev.views.history import history_table
 from netrev.views.holders import holders_table

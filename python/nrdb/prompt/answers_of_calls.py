@@ -8,7 +8,7 @@ from netrev.connection.shapes import MOVED, move_of
 from netrev.messages import session as messages
 from netrev.session.commands import COMMANDS, TOPICS
 from netrev.session.conditions import Condition
-from netrev.session.session import Answering, UsageError, Session
+from netrev.session.session import Answering, Session, UsageError
 from netrev.text.vocabulary import number_of
 from netrev.views.following import (
     GOALS,

@@ -1,7 +1,7 @@
 """Commands of nrdb that write files or explore other schedules. Few sessions need these commands, so their modules are
 imported on first use."""
 
-from netrev.session.session import UsageError, Session
+from netrev.session.session import Session, UsageError
 from netrev.text.vocabulary import number_of
 
 from .answers_of_calls import usage

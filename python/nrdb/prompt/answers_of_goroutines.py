@@ -6,7 +6,7 @@ from typing import Optional
 from netrev.messages import session as messages
 from netrev.recording.waits import Name
 from netrev.recording.where import stack_lines
-from netrev.session.session import Answering, UsageError, Session
+from netrev.session.session import Answering, Session, UsageError
 from netrev.text.vocabulary import number_of
 from netrev.views.goroutine_stacks import GoroutineStack, stack_of
 

@@ -7,7 +7,7 @@ from netrev.messages import session as messages
 from netrev.recording.recording import Recording
 from netrev.recording.where import OF_THE_PROGRAM, SourceCall, Stack
 from netrev.session.line_index import OF_A_LINE, ProgramPlace, is_file, is_function, is_place, no_step_from, places_of
-from netrev.session.session import Answering, UsageError, Session
+from netrev.session.session import Answering, Session, UsageError
 from netrev.session.source import source_of, text_round
 from netrev.views.goroutine_stacks import stack_of
 

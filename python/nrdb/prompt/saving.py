@@ -4,7 +4,7 @@ from typing import Iterator
 
 from netrev.session.attached_commands import END
 from netrev.session.files import writing
-from netrev.session.session import UsageError, Session
+from netrev.session.session import Session, UsageError
 from netrev.text.plurals import counted
 
 from .answers_of_calls import usage

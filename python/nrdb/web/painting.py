@@ -13,7 +13,7 @@ from typing import Callable, Optional
 
 from netrev.connection.arriving_changes import ArrivingChanges
 from netrev.connection.netrev import Own
-from netrev.connection.scout import ScoutUnavailableError, Scout
+from netrev.connection.scout import Scout, ScoutUnavailableError
 from netrev.connection.shapes import LineRefusedError
 from netrev.messages import browsers as texts
 from netrev.recording.recording import NotARecordingError, Recording

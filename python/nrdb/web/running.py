@@ -10,13 +10,13 @@ from pathlib import Path
 from typing import Callable, Optional
 
 from netrev.connection.errors import MismatchedRecordingError, unexpected
-from netrev.connection.netrev import NetrevEndedError, Netrev
+from netrev.connection.netrev import Netrev, NetrevEndedError
 from netrev.connection.output import Printer
 from netrev.connection.shapes import LineRefusedError, StrangeReplyError
 from netrev.messages import browsers as texts
 from netrev.recording.recording import NotARecordingError
 from netrev.session.session import Session
-from netrev.system.interrupts import SessionAbandonedError, SearchInterruptedError
+from netrev.system.interrupts import SearchInterruptedError, SessionAbandonedError
 from netrev.timeline.cell_runs import Window
 from netrev.timeline.picture import MOST
 from nrdb.prompt.completion import completions

@@ -20,9 +20,9 @@ from .requests import (
     LINE,
     PAGE,
     PART,
+    BrowserRequest,
     Gate,
     RejectedRequestError,
-    BrowserRequest,
     line_of,
     positions_of,
 )

@@ -7,10 +7,10 @@ from typing import Any, Optional, Protocol, Sequence
 from netrev.connection.collected_output import Collecting
 from netrev.connection.netrev import Netrev, Reply
 from netrev.connection.output import SessionPosition, Table
-from netrev.connection.shapes import ListedMark, Position, LineRefusedError
+from netrev.connection.shapes import LineRefusedError, ListedMark, Position
 from netrev.messages import browsers as texts
 from netrev.session.commands import whole_words
-from netrev.session.session import Answering, UsageError, Session
+from netrev.session.session import Answering, Session, UsageError
 from nrdb.prompt.answers import ANSWERS, answer_list
 
 OTHERS = "another front"

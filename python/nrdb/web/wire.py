@@ -7,7 +7,7 @@ from http import HTTPStatus
 
 from netrev.messages import browsers as texts
 
-from .requests import RejectedRequestError, BrowserRequest
+from .requests import BrowserRequest, RejectedRequestError
 
 LONGEST_HEAD = 8_192  # the maximum number of bytes before a body
 IN_TIME = 5.0  # how many seconds a request may take to arrive, and a part of the response to be accepted

@@ -13,18 +13,18 @@ from unittest.mock import patch
 import pytest
 
 from netrev.connection.collected_output import Collecting
-from netrev.system.interrupts import SessionAbandonedError, SearchInterruptedError, Interrupts
+from netrev.system.interrupts import Interrupts, SearchInterruptedError, SessionAbandonedError
 from nrdb.dap import hearing, moving, working
 from nrdb.dap.go_lines import GoLines
 from nrdb.dap.hearing import Hearing
 from nrdb.dap.logpoints import LogPoints
-from nrdb.dap.marks import Marks, BreakpointKind
+from nrdb.dap.marks import BreakpointKind, Marks
 from nrdb.dap.moving import Moves, Stop
 from nrdb.dap.view.debuggee import Debuggee
 from nrdb.dap.view.filters import Filters
-from nrdb.dap.view.messages import MalformedMessageError, Request, EditorStreams
+from nrdb.dap.view.messages import EditorStreams, MalformedMessageError, Request
 from nrdb.dap.view.roots import Roots
-from nrdb.dap.wishes import HitCount, BreakpointError, BreakpointRequest, wish_of
+from nrdb.dap.wishes import BreakpointError, BreakpointRequest, HitCount, wish_of
 from nrdb.dap.working import Work
 from tests.prompt.test_program_places import FILE, session_of
 

@@ -9,7 +9,7 @@ import pytest
 from netrev.connection.shapes import Move
 from netrev.recording.call import Outcome
 from nrdb.dap import breakpoints, looks, marks as dap_marks, moving
-from nrdb.dap.marks import Marks, BreakpointKind
+from nrdb.dap.marks import BreakpointKind, Marks
 from nrdb.dap.moving import AT_THE_END, Moves, Stop, text_of
 from nrdb.dap.view import filters, memory
 from nrdb.dap.view.filters import Failure, Filter, Filters

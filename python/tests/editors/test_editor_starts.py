@@ -24,7 +24,7 @@ from nrdb.dap.target import AT_END, AT_START, Launch
 from nrdb.dap.view import debuggee
 from nrdb.dap.view.debuggee import Debuggee
 from nrdb.dap.view.looking import GOIDS, NETWORK, maker_of, thread_of
-from nrdb.dap.view.messages import Request, UnanswerableError, EditorStreams
+from nrdb.dap.view.messages import EditorStreams, Request, UnanswerableError
 from tests.suspects.test_suspects import COMES, OPEN, READ, recording_of
 
 from .test_dap_heard import framed, messages_in

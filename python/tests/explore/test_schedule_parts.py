@@ -18,8 +18,8 @@ from netrev.explore.scripts.control import CLOCK, GOROUTINE, NETWORK, NEVER, Mis
 from netrev.explore.scripts.making import script_of
 from netrev.explore.scripts.orders import OrderProgress, Waiters, causes_of, orders_of
 from netrev.explore.scripts.runs import AnsweredStep, Delay
-from netrev.explore.scripts.scripts import Trigger, Item, Operation, Order, Script
-from netrev.explore.workers import LENGTH, Best, Share, Report, tell_of
+from netrev.explore.scripts.scripts import Item, Operation, Order, Script, Trigger
+from netrev.explore.workers import LENGTH, Best, Report, Share, tell_of
 from netrev.reduce.events import Event
 from netrev.run.flow import OperationType
 from netrev.text.contents import Limits, Step

@@ -15,7 +15,7 @@ from netrev.run import changes
 from netrev.system.time_limits import LateError, time_limit
 from netrev_go.steps import analysis, report
 from netrev_go.steps.analysis import Analysis, check
-from netrev_go.steps.report import Outcome
+from netrev_go.steps.report import Conversion
 from tests.support.examples import EXAMPLES
 from tests.support.folders import folder_of
 
@@ -42,7 +42,7 @@ class StandIn(unittest.TestCase):
         """The commands for which the stand-in was started."""
         return [line.split()[0] for line in self.program.with_name("netrev.calls").read_text().splitlines()]
 
-    def report(self, failed: bool = True) -> Outcome:
+    def report(self, failed: bool = True) -> Conversion:
         """The report about a recording without lines."""
         recording = Recording.read(str(BAD))
         made = mock.Mock(

@@ -23,7 +23,7 @@ from netrev_go.cli import ExitStatus
 from netrev_go.go_command.outputs import base_name, look
 from netrev_go.go_command.running import SIGNALS, logs_in
 from netrev_go.go_command.toolchain import Go, RecorderError
-from netrev_go.log.points import PointKind, Log
+from netrev_go.log.points import Log, PointKind
 from netrev_go.steps import making, report
 from netrev_go.steps.making import make
 from netrev_go.steps.zeros import Zeros

@@ -21,17 +21,17 @@ from netrev.findings.finding import Finding, Kind as FindingKind
 from netrev.recording.where import SourceLines
 from netrev_go import cli
 from netrev_go.cli import ExitStatus
-from netrev_go.go_command.running import FROM_THE_TERMINAL, SIGNALS, RunLimits, GoRunner
+from netrev_go.go_command.running import FROM_THE_TERMINAL, SIGNALS, GoRunner, RunLimits
 from netrev_go.go_command.toolchain import Go
 from netrev_go.log.goroutines import goroutines_of as everybody
-from netrev_go.log.points import PointKind, Log
+from netrev_go.log.points import Log, PointKind
 from netrev_go.log.ran import Ran, Tests, Went, of_log
 from netrev_go.log.sockets import owned
 from netrev_go.steps import converting, forms, report
 from netrev_go.steps.converting import RecordingOptions
 from netrev_go.steps.cutting import goroutines_of, sockets_of
-from netrev_go.steps.forms import Cause, Told
-from netrev_go.steps.report import Outcome, Shown
+from netrev_go.steps.forms import Cause, TestResult
+from netrev_go.steps.report import Conversion, Shown
 from netrev_go.tested import Recordings, file_name, short_name
 from tests.logs.test_go_converting import Points
 from tests.support.folders import folder_of
@@ -264,7 +264,7 @@ class Kept(Tested):
         self.assertEqual(len({run[0] for run in runs}), 3)
 
     def test_suspects_fail_where_that_is_wanted(self) -> None:
-        said = Outcome(True, ["x.jsonl: ok"], shown=[SUSPECTED])
+        said = Conversion(True, ["x.jsonl: ok"], shown=[SUSPECTED])
         with mock.patch.object(converting, "report", lambda *_: said):
             for what, wanted in (("suspects", ExitStatus.SUSPECTED), ("possible", 0)):
                 self.assertEqual(self.told("--fail-on", what, "test", ".", status=0)[0], wanted)
@@ -277,7 +277,7 @@ class Kept(Tested):
         wait = Shown(
             Finding(FindingKind.WAIT, ("a/b.go:7: net.Dial waits to read",)), ["a/b.go:7: net.Dial waits to read"]
         )
-        said = Outcome(True, printed, shown=[wait, SUSPECTED])
+        said = Conversion(True, printed, shown=[wait, SUSPECTED])
         with mock.patch.object(converting, "report", lambda *_: said):
             _, out, _ = self.told("--json", "a.json", "--junit", "a.xml", "--github", "test", ".")
         lines = [json.loads(line) for line in (self.folder / "a.json").read_text().splitlines()]
@@ -350,7 +350,7 @@ class Forms(unittest.TestCase):
     NOWHERE = pathlib.Path("/nowhere")
 
     def test_what_a_page_or_a_terminal_would_obey_is_written_out(self) -> None:
-        one = Told("p", "T\x1b[31m", "failed", 1, 1, says=["a\x07b"], causes=[Cause("x,y:z.go", 3, "")])
+        one = TestResult("p", "T\x1b[31m", "failed", 1, 1, says=["a\x07b"], causes=[Cause("x,y:z.go", 3, "")])
         self.assertEqual(
             forms.annotation(one),
             "::error file=x%2Cy%3Az.go,line=3,title=p T\\x1b[31m::failed%0Aa\\x07b",
@@ -360,7 +360,7 @@ class Forms(unittest.TestCase):
 
     def test_whatever_is_said_is_read_again_as_it_was(self) -> None:
         strange = '100%, 50%25: a::b, c=d %0A %2C %3A </failure> & <!-- ]]> "x" ::error::'
-        one = Told("p", strange, "failed", 1, 1, file=strange, line=3, says=[strange, "b"], suspects=[strange])
+        one = TestResult("p", strange, "failed", 1, 1, file=strange, line=3, says=[strange, "b"], suspects=[strange])
         properties, message = as_github_reads(forms.annotation(one))
         self.assertEqual(properties, {"file": strange, "line": "3", "title": f"p {strange}"})
         self.assertEqual(message, f"failed\n{strange}\nb")
@@ -370,7 +370,7 @@ class Forms(unittest.TestCase):
         self.assertEqual(json.loads(line), asdict(one))
 
     def test_one_that_never_ended_is_an_error(self) -> None:
-        case = ElementTree.fromstring(forms.junit([Told("p", "T", "unfinished", 1, 1)]))[0][0]
+        case = ElementTree.fromstring(forms.junit([TestResult("p", "T", "unfinished", 1, 1)]))[0][0]
         self.assertEqual([part.tag for part in case], ["error"])
 
     def test_names_of_files(self) -> None:
@@ -391,15 +391,17 @@ class Forms(unittest.TestCase):
         self.assertLess(time.process_time() - begin, 5)
 
     def test_of_several_runs_it_is_said_in_how_many_it_failed(self) -> None:
-        self.assertEqual(Told("p", "T", "failed", 1, 1).outcome(), "failed")
-        self.assertEqual(Told("p", "T", "failed", 3, 1).outcome(), "failed in 1 of 3 runs")
+        self.assertEqual(TestResult("p", "T", "failed", 1, 1).outcome(), "failed")
+        self.assertEqual(TestResult("p", "T", "failed", 3, 1).outcome(), "failed in 1 of 3 runs")
 
     def test_the_page_has_each_key_and_element(self) -> None:
         page = (PYTHON.parent / "docs/reference/OPTIONS.md").read_text()
-        self.assertEqual(sorted(keys_of_the_page()), sorted(asdict(Told("p", "T"))))
+        self.assertEqual(sorted(keys_of_the_page()), sorted(asdict(TestResult("p", "T"))))
         table = page[page.index("| Element | Has |") : page.index("`--html` writes")]
         named = set(re.findall(r"`(\w+)`", table))
-        red = [Told("p", "T", status, 1, int(status != "skipped")) for status in ("failed", "unfinished", "skipped")]
+        red = [
+            TestResult("p", "T", status, 1, int(status != "skipped")) for status in ("failed", "unfinished", "skipped")
+        ]
         top = ElementTree.fromstring(forms.junit(red))
         self.assertEqual({part.tag for part in top.iter()} | {key for part in top.iter() for key in part.keys()}, named)
 

@@ -24,12 +24,12 @@ from netrev.findings.locks.needs_of_mutexes import of_once
 from netrev.findings.pools.slots import slot_holders
 from netrev.findings.pools.stopped_timers import of_timers, silent_at, silent_says
 from netrev.findings.pools.uncancelled import uncancelled
-from netrev.recording.goroutines import ADDED, DONE, FOR_VALUE, PUT, TOOK, At, GoGoroutine, Timer, ObjectUse
+from netrev.recording.goroutines import ADDED, DONE, FOR_VALUE, PUT, TOOK, At, GoGoroutine, ObjectUse, Timer
 from netrev.recording.recording import Recording
 from netrev.recording.waits import Name, ObjectWait, waits_of
 from netrev.recording.where import SourceCall, SourceLines, Stack
 from netrev_go.log.beside import GOES_TO, OF_DATAGRAMS, Beside, address_words
-from netrev_go.log.points import PointKind, Point
+from netrev_go.log.points import Point, PointKind
 from tests.failed_calls.test_causes import TWO_ENDS, in_the_folder_of_the_source, with_lines
 from tests.trials.go_caused import GONE, NAMES, bug_line
 

@@ -16,12 +16,12 @@ from netrev.findings.streams.failed_dials import failed_dials
 from netrev.findings.streams.unaccepted import unaccepted
 from netrev.findings.streams.unread import unread
 from netrev.recording.call import Call
-from netrev.recording.goroutines import FOR_VALUE, PUT, TOOK, At, GoGoroutine, Object, Park, Timer, ObjectUse
+from netrev.recording.goroutines import FOR_VALUE, PUT, TOOK, At, GoGoroutine, Object, ObjectUse, Park, Timer
 from netrev.recording.recording import Recording
 from netrev.recording.waits import Name
 from netrev.recording.where import OF_THE_PROGRAM, SourceCall as LineCall, SourceLines, Stack
 from netrev_go.log.beside import Beside
-from netrev_go.log.points import PointKind, Point
+from netrev_go.log.points import Point, PointKind
 from tests.failed_calls.test_causes import CAUSED, GETS, TWO_ENDS, UNLOCKS, with_lines
 
 

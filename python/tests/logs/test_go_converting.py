@@ -5,8 +5,8 @@ import unittest
 from typing import Optional
 
 from netrev_go.log.answering import UnconvertibleError, lock_answer
-from netrev_go.log.points import PointKind, Log, Point
-from netrev_go.steps.making import NothingRecordedError, NewRecording, make
+from netrev_go.log.points import Log, Point, PointKind
+from netrev_go.steps.making import NewRecording, NothingRecordedError, make
 
 WORD, DESCRIPTOR = 700, 900
 

@@ -12,7 +12,7 @@ from netrev.recording.where import SourceLines
 from netrev_go.log.goroutines import MUTEX, READ_LOCK, Goroutines, LoggedMutex, goroutines_of
 from netrev_go.log.lines import Calls
 from netrev_go.log.logfile import HEADER_BYTES, HOLDER_BEGUN, HOLDER_BYTES, MOST_HOLDERS, MOST_STACKS, NotALogError
-from netrev_go.log.points import LoggedHolder, PointKind, Log, PointStack
+from netrev_go.log.points import Log, LoggedHolder, PointKind, PointStack
 from netrev_go.steps.goroutine_lines import HELD
 from netrev_go.steps.making import make
 

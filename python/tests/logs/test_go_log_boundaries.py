@@ -27,10 +27,10 @@ from netrev_go.log import goroutines, lines, logfile, sockets
 from netrev_go.log.answering import can_answer
 from netrev_go.log.beside import OF_UNIX, Beside
 from netrev_go.log.goroutines import NEVER, Goroutines, LoggedChannel, LoggedPark, Passing, UseSpan, Used
-from netrev_go.log.lines import LineCall, Calls
+from netrev_go.log.lines import Calls, LineCall
 from netrev_go.log.logfile import HEADER_WORDS, MOST_HOLDERS, MOST_POINTS, MOST_STACKS, UNDER_WAY, Header, NotALogError
 from netrev_go.log.notes import REFERENCES, WAITING, Note
-from netrev_go.log.points import PointKind, Log, Point
+from netrev_go.log.points import Log, Point, PointKind
 from netrev_go.log.sockets import BUFFER, FEW_BYTES, OUTPUT, LoggedSocket
 from netrev_go.steps import analysis, compare, converting, forms, making, report
 
@@ -590,7 +590,7 @@ def test_a_left_run_is_in_a_folder_of_this_user_s(
     [("passed", 0, []), ("skipped", 0, [("skipped", None)]), ("failed", 1, [("failure", "a\nb")]), ("unfinished", 1, [("error", "a\nb")])],
 )  # fmt: skip
 def test_the_parts_of_a_test_case(status: str, failed: int, parts: list[tuple[str, str | None]]) -> None:
-    one = forms.Told("p", "T", status, 1, failed, 0.5, says=["a", "b"])
+    one = forms.TestResult("p", "T", status, 1, failed, 0.5, says=["a", "b"])
     case = ElementTree.fromstring(forms.junit([one])).find("testsuite/testcase")
     assert case is not None and case.attrib == {"classname": "p", "name": "T", "time": "0.500000"}
     assert [(part.tag, part.text) for part in case] == parts

@@ -11,13 +11,13 @@ from unittest import mock
 from dev.fuzz.generators.logs import STACKS, binary, from_text, packed
 from netrev.recording.where import SourceLines
 from netrev_go.log import lines
-from netrev_go.log.lines import LineCall, Calls, SourceRoots, lines_of, looked_up
+from netrev_go.log.lines import Calls, LineCall, SourceRoots, lines_of, looked_up
 from netrev_go.log.logfile import HEADER_BYTES, NotALogError, read_log
-from netrev_go.log.points import PointKind, Log, Point
+from netrev_go.log.points import Log, Point, PointKind
 from netrev_go.steps import converting
 from netrev_go.steps.converting import RecordingOptions, convert
 from netrev_go.steps.making import NothingRecordedError, UnconvertibleError, make, write
-from netrev_go.steps.report import Outcome, next_line, wait_of
+from netrev_go.steps.report import Conversion, next_line, wait_of
 from netrev_go.steps.where import own_line, write_where
 from tests.session.test_strange import OBEYED, unseen
 
@@ -358,7 +358,7 @@ class Told(unittest.TestCase):
 
     def test_without_go_there_is_a_recording_without_lines(self) -> None:
         with tempfile.TemporaryDirectory() as folder, mock.patch.object(
-            converting, "report", lambda *_: Outcome(True, [])
+            converting, "report", lambda *_: Conversion(True, [])
         ):
             log, name = pathlib.Path(folder, "log.1"), pathlib.Path(folder, "made.jsonl")
             log.write_bytes(from_text((REAL / "past.log").read_text())[0])

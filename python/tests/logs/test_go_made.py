@@ -12,7 +12,7 @@ from netrev.recording.where import SourceLines
 from netrev_go.log.beside import OF_IPV4
 
 from netrev_go.log.goroutines import GENERATION, GIVES, ROOM, UNENDED, VALUE, At, LoggedDial, Goroutines, LoggedChannel, LoggedTimer  # fmt: skip
-from netrev_go.log.lines import OF_GO, OF_THE_PROGRAM, LineCall, Calls, is_ours, outside_the_runtime
+from netrev_go.log.lines import OF_GO, OF_THE_PROGRAM, Calls, LineCall, is_ours, outside_the_runtime
 from netrev_go.log.points import PointKind
 from netrev_go.log.ran import Ran
 from netrev_go.steps.cutting import goroutines_of

@@ -13,9 +13,9 @@ from netrev.text.reading import read_text
 from netrev_go.log.answering import UnconvertibleError
 
 from netrev_go.log.notes import ARMED, CHECKING, CLOSING, ENTERING, EVENT_ERROR, GOROUTINE, NIL, PARKED, PARKING, READ_RUNS, READY, SHUT, SWAPPING, UNQUEUED, WAIT, WRITE_RUNS  # fmt: skip
-from netrev_go.log.points import AT_A_SOCKET, AT_A_WORD, PointKind, Log, Point
+from netrev_go.log.points import AT_A_SOCKET, AT_A_WORD, Log, Point, PointKind
 from netrev_go.log.prelude import NOBODY
-from netrev_go.steps.making import NothingRecordedError, NewRecording, make
+from netrev_go.steps.making import NewRecording, NothingRecordedError, make
 
 WORD, DESCRIPTOR, OTHER_WORD, OTHER_DESCRIPTOR = 700, 900, 1700, 1900
 READ, WRITE = ord("r"), ord("w")

@@ -10,7 +10,7 @@ from typing import Optional
 from dev.fuzz.generators.logs import binary
 from netrev.recording.where import SourceLines
 from netrev_go.log.orders import ValueQueue
-from netrev_go.log.points import PointKind, Log
+from netrev_go.log.points import Log, PointKind
 from netrev_go.steps.making import make
 from netrev_go.steps.where import write_where
 

@@ -20,7 +20,7 @@ from dev.recorder.fetching import is_here
 from netrev_go.go_command.running import logs_in
 from netrev_go.go_command.toolchain import Go, overlay, quiet_go
 from netrev_go.log.logfile import Header, points_of, read_log
-from netrev_go.log.points import PointKind, Log, Point
+from netrev_go.log.points import Log, Point, PointKind
 from netrev_go.steps.compare import by_the_model
 from netrev_go.steps.making import make, write, write_words
 from netrev_go.trying import tried_in

@@ -20,7 +20,7 @@ import pytest
 from dev.fuzz.generators.random_logs import log_of, program_of
 from netrev_go.go_command.toolchain import Go
 from netrev_go.log.lines import SourceRoots, lines_of
-from netrev_go.log.points import LoggedHolder, PointKind, Log, Point, PointStack
+from netrev_go.log.points import Log, LoggedHolder, Point, PointKind, PointStack
 from netrev_go.log.ran import Ran, Tests
 from netrev_go.steps import converting, report
 from netrev_go.steps.converting import ReadLog, RecordingOptions, converted

@@ -5,7 +5,7 @@ import pytest
 
 from dev.fuzz.generators.random_logs import RandomProgram, program_of, replayed, wrong
 from netrev_go.log.answering import UnconvertibleError
-from netrev_go.log.points import PointKind, Log
+from netrev_go.log.points import Log, PointKind
 from netrev_go.steps.making import make
 
 from .test_go_converting import DESCRIPTOR, WORD, Points

@@ -10,7 +10,7 @@ from netrev.recording.goroutines import A_SLEEP
 from netrev.recording.waits import Name, ObjectWait, of_names
 from netrev.recording.where import SourceLines, Stack
 from netrev_go.log.goroutines import SLEEP, goroutines_of
-from netrev_go.log.points import PointKind, Point
+from netrev_go.log.points import Point, PointKind
 from netrev_go.log.waits import LoggedWait, waits_of
 from tests.failed_calls.test_causes import TWO_ENDS, with_lines, writes
 from tests.suspects.test_suspects import Steps

@@ -19,7 +19,7 @@ from netrev.model.suspects import (
     TIMEOUT,
     suspects,
 )
-from netrev.text.contents import Limits, Contents, Step
+from netrev.text.contents import Contents, Limits, Step
 from netrev.text.writing import write_plain
 
 THEMES = (

@@ -10,7 +10,7 @@ import pytest
 
 from netrev.messages import searches
 from netrev.recording.recording import Recording
-from netrev.session.session import UsageError, Session
+from netrev.session.session import Session, UsageError
 from netrev.text.vocabulary import Of
 from netrev.timeline import page, story
 from netrev.timeline.cell_runs import Window

@@ -13,7 +13,7 @@ import pytest
 from netrev.findings.suspects.loading import RULES, RULES_OF_CALLS, _rule_of
 from netrev.messages import texts
 from netrev.recording.call import Call, Outcome
-from netrev.recording.notes import Pauses, Setting, GoroutineStatus, Use
+from netrev.recording.notes import GoroutineStatus, Pauses, Setting, Use
 from netrev.recording.recording import NotARecordingError, check_size
 from netrev.run import calls
 from netrev.run.calls import Book

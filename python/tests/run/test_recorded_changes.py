@@ -21,7 +21,7 @@ from netrev.model.program import replay
 from netrev.recording import changes as changed_lines
 from netrev.recording import changes as recorded_changes
 from netrev.recording.changes import IncompleteChangesError, RecordedChanges
-from netrev.system.interrupts import SearchInterruptedError, Interrupts
+from netrev.system.interrupts import Interrupts, SearchInterruptedError
 from netrev.text.vocabulary import CELLS, Of
 from tests.support.examples import EXAMPLES
 

@@ -17,12 +17,12 @@ from netrev.run.calls import book_of
 from netrev.run.changes import changes_of
 from netrev.run.notes import Notes
 from netrev.run.timers import timers_of
-from netrev.text.contents import Limits, Contents as Text
+from netrev.text.contents import Contents as Text, Limits
 from netrev.text.reading import read_text
 from netrev.text.vocabulary import KINDS, OF_A_GOROUTINE
 from netrev.text.writing import write_plain
 from netrev.views.holders import holders_of
-from netrev_go.steps.making import NothingRecordedError, NewRecording as Made, make
+from netrev_go.steps.making import NewRecording as Made, NothingRecordedError, make
 from tests.support.modelled import changes_in
 from tests.suspects.test_suspects import OPEN, recording_of
 

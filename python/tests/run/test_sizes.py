@@ -9,7 +9,7 @@ from netrev.findings.evidence.sizes import are_known, moved_at, size_of
 from netrev.recording.recording import Recording
 from netrev.recording.where import SourceLines
 from netrev_go.log.beside import OF_UNIX, Beside
-from netrev_go.log.points import PointKind, Point
+from netrev_go.log.points import Point, PointKind
 from tests.hangs.test_needs import stored
 
 

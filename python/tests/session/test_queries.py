@@ -8,13 +8,13 @@ import unittest
 from collections.abc import Iterator, Sequence
 from typing import Optional
 
-from netrev.connection.netrev import NetrevEndedError, Netrev, Reply
+from netrev.connection.netrev import Netrev, NetrevEndedError, Reply
 from netrev.connection.output import TextPrinter
 from netrev.connection.shapes import StrangeReplyError
 from netrev.session.attached_commands import Attached
 from netrev.session.queries import MOST, answer_run, lines_together, query_of, runs_of
 from netrev.session.session import Session
-from netrev.system.interrupts import SessionAbandonedError, Interrupts
+from netrev.system.interrupts import Interrupts, SessionAbandonedError
 
 
 class Scripted(Netrev):

@@ -14,7 +14,7 @@ from netrev.findings.http import cancels
 from netrev.findings.locks import skipped_done
 from netrev.findings.pools import kept_ways, uncancelled
 from netrev.recording.call import Outcome
-from netrev.recording.goroutines import CLOSED, DONE, PUT, TOOK, At, Park, ObjectUse
+from netrev.recording.goroutines import CLOSED, DONE, PUT, TOOK, At, ObjectUse, Park
 from netrev.recording.waits import Name
 from netrev.recording.where import OF_A_LIBRARY, OF_GO, OF_THE_PROGRAM, SourceCall, Stack
 from tests.failed_calls.test_cause_boundaries import line_of

@@ -10,12 +10,12 @@ from pathlib import Path
 from typing import Any, Callable, Generic, Iterator, NamedTuple, Optional, Sequence, TypeVar
 from unittest import mock
 
-from netrev.connection.netrev import NetrevEndedError, Netrev
+from netrev.connection.netrev import Netrev, NetrevEndedError
 from netrev.connection.output import JsonPrinter
 from netrev.connection.scout import Scout
 from netrev.recording.recording import Recording
 from netrev.session.session import Session
-from netrev.system.interrupts import SessionAbandonedError, Interrupts
+from netrev.system.interrupts import Interrupts, SessionAbandonedError
 from nrdb.prompt.answers import ANSWERS
 
 from .modelled import changes_at

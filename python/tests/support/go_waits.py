@@ -6,7 +6,7 @@ import os
 
 from dev.recorder.fetching import SUITES, here
 from netrev.recording import goroutines as where
-from netrev.recording.goroutines import GoGoroutine, Park, Timer, ObjectUse
+from netrev.recording.goroutines import GoGoroutine, ObjectUse, Park, Timer
 from netrev.recording.where import SourceLines
 
 from .go_tool import Tool, program

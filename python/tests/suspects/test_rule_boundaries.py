@@ -25,7 +25,7 @@ from netrev.reduce.units import Dependencies
 from netrev.run.flow import BY_STATUS, OperationType
 from netrev.session.commands import parts_of, whole_words
 from netrev.session.line_hints import hint
-from netrev.session.session import UsageError, Session
+from netrev.session.session import Session, UsageError
 from netrev.timeline.drawing import LETTER, Drawing, fitted
 from netrev.timeline.trace import END, write_events
 from netrev_go import cli as recorder

@@ -15,9 +15,9 @@ from netrev.machine.observer import Observer
 from netrev.model.suspects import HUNTS, suspects
 from netrev.recording.notes import By
 from netrev.recording.recording import Recording
-from netrev.recording.suspect_list import HeldReference, SuspectEntries, LostWakeUp, OfDeadline, SuspectList
+from netrev.recording.suspect_list import HeldReference, LostWakeUp, OfDeadline, SuspectEntries, SuspectList
 from netrev.run.notes import Notes
-from netrev.system.interrupts import SearchInterruptedError, Interrupts
+from netrev.system.interrupts import Interrupts, SearchInterruptedError
 from netrev.text.writing import write_plain
 from tests.machine.test_suspect_lines import random_recording, random_waits
 from tests.support.examples import ALL, REFUSED

@@ -28,7 +28,7 @@ from netrev_go.go_command.toolchain import Go, overlay, quiet_go
 from netrev_go.log.logfile import NotALogError, copy_of, log_of
 from netrev_go.steps.analysis import check
 from netrev_go.steps.compare import by_the_model, differing
-from netrev_go.steps.making import NothingRecordedError, NewRecording, UnconvertibleError, make, write, write_words
+from netrev_go.steps.making import NewRecording, NothingRecordedError, UnconvertibleError, make, write, write_words
 
 from .go_untouched import go_of
 

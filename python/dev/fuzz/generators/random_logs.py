@@ -16,8 +16,8 @@ from typing import Any
 from netrev.machine.in_place import Machine
 from netrev.text.contents import Limits, Step
 from netrev.text.reading import read_text
-from netrev_go.log.points import PointKind, Log, Point
-from netrev_go.steps.making import NothingRecordedError, NewRecording, make
+from netrev_go.log.points import Log, Point, PointKind
+from netrev_go.steps.making import NewRecording, NothingRecordedError, make
 
 from .small_runtime import AGAIN, BROKEN_PIPE, MODES, NIL, NO_ERROR, OTHER, READY, WAIT, Descriptor, Runtime, Turns
 

@@ -8,7 +8,7 @@ from collections.abc import Generator
 from dataclasses import dataclass, field
 from typing import Any, Optional
 
-from netrev_go.log.points import PointKind, Point
+from netrev_go.log.points import Point, PointKind
 
 Turns = Generator[None, None, Any]
 CLOSED, READ_BIT, WRITE_BIT, REFERENCE = 1, 2, 4, 8

@@ -7,7 +7,7 @@ from typing import Iterator, Optional
 from netrev.text.contents import Step
 
 from .board import Board
-from .control import CLOCK, UNKNOWN, NETWORK, MissingObjectError, Numbers
+from .control import CLOCK, NETWORK, UNKNOWN, MissingObjectError, Numbers
 from .scripts import Item, Script
 
 MOST_TRIES = 200

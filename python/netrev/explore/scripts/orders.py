@@ -5,7 +5,7 @@ operations: one operation begins after another operation has ended."""
 from typing import NamedTuple, Optional, Sequence
 
 from .control import GOROUTINE, NETWORK, NEVER, ScriptPlace
-from .scripts import Trigger, Operation, Order
+from .scripts import Operation, Order, Trigger
 
 Pairs = Sequence[tuple[int, int]]
 Key = tuple[float, int]  # a due time, and the place among the actions with the same due time

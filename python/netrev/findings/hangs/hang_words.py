@@ -18,7 +18,7 @@ from netrev.recording.words import SIDES
 from netrev.text.plurals import counted
 
 from .missing_cases import missing_case_says
-from .wait_graph import WaitBranch, Certainty, Hang, WaitGraph, kind_of, waiters_of
+from .wait_graph import Certainty, Hang, WaitBranch, WaitGraph, kind_of, waiters_of
 
 NUMBERS = {2: "two", 3: "three", 4: "four"}
 VERBS = {

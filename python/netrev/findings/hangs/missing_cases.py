@@ -13,7 +13,7 @@ from netrev.recording.recording import Recording
 from netrev.recording.waits import ALL_REQUESTS, Name, ObjectWait, name_of_goid, waits_of
 from netrev.recording.where import OF_THE_PROGRAM, SourceCall, Stack
 
-from .wait_graph import WaitBranch, Hang
+from .wait_graph import Hang, WaitBranch
 
 
 class Lacking(NamedTuple):

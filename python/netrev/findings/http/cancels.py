@@ -12,7 +12,7 @@ from netrev.findings.evidence.responses import contains, server_of
 from netrev.findings.evidence.words import place_in, waits_words
 from netrev.findings.source.functions import found_in, text_at
 from netrev.recording.call import Call
-from netrev.recording.goroutines import CLOSED, ENDED, Timer, ObjectUse
+from netrev.recording.goroutines import CLOSED, ENDED, ObjectUse, Timer
 from netrev.recording.recording import Recording
 from netrev.recording.waits import name_of_goid, waits_of
 from netrev.recording.where import Stack

@@ -9,7 +9,7 @@ from netrev.findings.evidence.index import Index
 from netrev.findings.evidence.responses import WRITE_LOOP, contains
 from netrev.findings.evidence.words import place_in
 from netrev.recording.call import Call
-from netrev.recording.goroutines import CLOSED, ENDED, PUT, TOOK, Timer, ObjectUse
+from netrev.recording.goroutines import CLOSED, ENDED, PUT, TOOK, ObjectUse, Timer
 from netrev.recording.recording import Recording
 from netrev.recording.waits import Name, name_of_goid
 from netrev.recording.where import Stack

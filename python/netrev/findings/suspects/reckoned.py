@@ -5,7 +5,7 @@ directly.)"""
 from typing import Iterator, Optional
 
 from netrev.recording.notes import AT, PARKED, By, Due
-from netrev.recording.suspect_list import SuspectEntries, LostWakeUp, OfDeadline
+from netrev.recording.suspect_list import LostWakeUp, OfDeadline, SuspectEntries
 from netrev.run.notes import Notes
 
 

@@ -27,9 +27,9 @@ from netrev.machine.debugger import (
     CHECKPOINTS_FULL,
     FULL,
     MARKS_FULL,
-    Request,
     DebuggedRecording,
     Reply,
+    Request,
     SharedState,
     is_command,
 )

@@ -21,7 +21,7 @@ from dev.fuzz.sessions.slow import Slow
 from netrev.machine import polling, replay as replaying, steps
 from netrev.machine.machine import StepRefusedError
 from netrev.recording.changes import RecordedChanges
-from netrev.system.interrupts import SessionAbandonedError, Interrupts
+from netrev.system.interrupts import Interrupts, SessionAbandonedError
 from tests.program.support.sharing import NETREV
 from tests.support.disturbed import EXAMPLE
 

@@ -12,9 +12,9 @@ from unittest import mock
 from netrev.recording.recording import Recording
 from netrev_go import tested
 from netrev_go.cli import ExitStatus
-from netrev_go.log.lines import OF_THE_PROGRAM, LineCall, Calls
+from netrev_go.log.lines import OF_THE_PROGRAM, Calls, LineCall
 from netrev_go.steps import converting, report
-from netrev_go.steps.converting import Outcome
+from netrev_go.steps.converting import Conversion
 from tests.go_command import test_go_tests
 from tests.program.nrdb.common.support import EXAMPLES
 from tests.program.support.sharing import NETREV
@@ -92,9 +92,9 @@ class Explored(Behind):
             "1 1 5 package example.org/toy\n3 20 1 runs TestGreen\n14 20 3 ends TestGreen\n"
         )
 
-        def converted(_: object, name: pathlib.Path, *__: object, **___: object) -> Outcome:
+        def converted(_: object, name: pathlib.Path, *__: object, **___: object) -> Conversion:
             shutil.copy(recording, name)
-            return Outcome(True, [f"{name}: ok"])
+            return Conversion(True, [f"{name}: ok"])
 
         with mock.patch.object(tested, "converted", converted):
             returned, _, said = self.told("--explore", SECONDS, "--json", "a.json", *words, "test", ".", status=status)

@@ -14,8 +14,8 @@ from netrev.findings.suspects import table
 from netrev.findings.suspects.found import Evidence, Suspect
 from netrev.recording.recording import Recording
 from netrev_go.steps import forms, report
-from netrev_go.steps.forms import Told
-from netrev_go.steps.report import Outcome
+from netrev_go.steps.forms import TestResult
+from netrev_go.steps.report import Conversion
 from tests.program.nrdb.common.support import netrev, nrdb
 from tests.program.support.sharing import NETREV
 from tests.support.examples import EXAMPLES
@@ -59,7 +59,7 @@ def labels(text: str) -> list[str]:
     return [found[1] for line in text.splitlines() if (found := LABEL.match(line))]
 
 
-def reported_by_netrev_go(path: Path, is_failed: bool = True) -> Outcome:
+def reported_by_netrev_go(path: Path, is_failed: bool = True) -> Conversion:
     """netrev-go's output about the recording of a program that failed."""
     recording = Recording.read(str(path))
     steps = [recording.step(number) for number in range(1, recording.length + 1)]
@@ -79,16 +79,16 @@ def reported_by_netrev_go(path: Path, is_failed: bool = True) -> Outcome:
 
 
 @pytest.fixture(scope="module")
-def reported() -> dict[Path, Outcome]:
+def reported() -> dict[Path, Conversion]:
     """What netrev-go prints about each recording."""
     return {path: reported_by_netrev_go(path) for path in (SUSPECT, FAILED, HUNG)}
 
 
-def outputs(reported: dict[Path, Outcome], folder: Path) -> Iterator[tuple[Path, str]]:
+def outputs(reported: dict[Path, Conversion], folder: Path) -> Iterator[tuple[Path, str]]:
     """Every output that may contain netrev's name, with the recording that it is about."""
     for path, outcome in reported.items():
         yield path, "\n".join(outcome.lines)
-        test = Told("example.org/toy", "TestRed", "failed", 1, 1)
+        test = TestResult("example.org/toy", "TestRed", "failed", 1, 1)
         test.report(outcome)
         yield path, "\n".join(forms.github_lines([test])).replace("%0A", "\n").replace("%25", "%")
         yield path, forms.junit([test])
@@ -109,7 +109,7 @@ def nrdb_page(path: Path, folder: Path) -> str:
     return found[1]
 
 
-def test_only_netrevs_own_answers_follow_its_name(reported: dict[Path, Outcome], tmp_path: Path) -> None:
+def test_only_netrevs_own_answers_follow_its_name(reported: dict[Path, Conversion], tmp_path: Path) -> None:
     seen = 0
     for path, text in outputs(reported, tmp_path):
         assert foreign_words(text, path) == [], text
@@ -117,13 +117,13 @@ def test_only_netrevs_own_answers_follow_its_name(reported: dict[Path, Outcome],
     assert seen > 5
 
 
-def test_the_command_to_type_is_printed_once(reported: dict[Path, Outcome]) -> None:
+def test_the_command_to_type_is_printed_once(reported: dict[Path, Conversion]) -> None:
     for outcome in reported.values():
         commands = [line.split() for line in outcome.lines if line.startswith("next:")]
         assert commands and all(commands.count(command) == 1 for command in commands)
 
 
-def test_causes_follow_cause_and_commands_next(reported: dict[Path, Outcome]) -> None:
+def test_causes_follow_cause_and_commands_next(reported: dict[Path, Conversion]) -> None:
     for outcome in reported.values():
         assert labels("\n".join(outcome.lines))[:2] == ["cause", "next"]
         assert "look" not in labels("\n".join(outcome.lines))

@@ -16,7 +16,7 @@ from typing import Any
 
 import pytest
 
-from dev.fuzz.editors import framed, request, messages_in
+from dev.fuzz.editors import framed, messages_in, request
 from netrev.machine.cells import CELLS_OF_ALL, CELLS_OF_ONE
 from nrdb.dap.adapter import Adapter
 from nrdb.dap.hearing import Reading
