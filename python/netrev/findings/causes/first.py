@@ -8,7 +8,7 @@ from typing import Callable, Hashable, Union
 from netrev.findings.evidence.ended_goroutines import goid_of
 from netrev.findings.evidence.index import READING, WRITING, Cause, Index, index_of, with_more, with_others
 from netrev.findings.evidence.words import is_of_go, place_in, waits_words
-from netrev.findings.finding import CAUSE, NEXT, Finding, FirstFindings, Kind, paragraph, place_of
+from netrev.findings.finding import CAUSE, NEXT, Finding, FirstFindings, Kind, paragraph, place_of, sentences_of
 from netrev.findings.hangs.hang_words import hang_looks, hang_says, tree_lines
 from netrev.findings.hangs.joins import Topic, joined
 from netrev.findings.hangs.wait_graph import Hang, WaitGraph, graph_at, is_at_mutex, waiters_of
@@ -63,14 +63,16 @@ def finding_of_topic(graph: WaitGraph, topic: Topic, shown: set[int]) -> Finding
     roots = topic.hang.roots if topic.hang else []
     place = place_of(roots[0].stack) if roots else None
     steps, names = tuple(root.since for root in roots), tuple(root.name for root in roots)
-    return Finding(Kind.HANG, tuple(sentences), place, steps, names, tuple(evidence))
+    said = sentences_of(graph.recording.lines, sentences)
+    return Finding(Kind.HANG, said, place, steps, names, tuple(evidence))
 
 
 def finding_of_cause(kind: Kind, recording: Recording, cause: Cause) -> Finding:
     """The finding for a cause, with its sentences."""
     place = place_of(recording.lines.of(cause.call.first))
     names = (Name(cause.call.goroutine),)
-    return Finding(kind, tuple(cause.says), place, tuple(cause.steps), names, tuple(cause.looks))
+    said = sentences_of(recording.lines, cause.says)
+    return Finding(kind, said, place, tuple(cause.steps), names, tuple(cause.looks))
 
 
 def perhaps_of(recording: Recording, sentences: list[str]) -> list[Finding]:
@@ -89,7 +91,7 @@ def perhaps_of(recording: Recording, sentences: list[str]) -> list[Finding]:
 
 def finding_of_dial(recording: Recording, dial: FailedDial) -> Finding:
     """The finding for a dial that the system refused."""
-    sentences = (f"{refused_words(recording, dial)}.", *ended_says(recording, dial))
+    sentences = sentences_of(recording.lines, (f"{refused_words(recording, dial)}.", *ended_says(recording, dial)))
     place, name = place_of(recording.lines.stacks[dial.stack]), name_of_goid(recording.lines, dial.goid)
     return Finding(Kind.REFUSED_DIAL, sentences, place, (dial.step,), (name,), (f"goto {dial.step}", "info goroutines"))
 
