@@ -5,7 +5,7 @@ from typing import Optional
 from netrev.findings.suspects.loading import LOST_WAKE_UP
 from netrev.recording.call import Call
 from netrev.recording.recording import Recording
-from netrev.run.calls import Book
+from netrev.run.index import RunIndex
 from netrev.text.plurals import counted
 
 from .failures import FAILS, Failed, Reason, Why
@@ -23,8 +23,8 @@ LEFT_UNKNOWN = "a lock that was free, an atomic"  # what remains unknown if the 
 class FindingSentences:
     """Describes findings in terms of the recorded run."""
 
-    def __init__(self, recording: Recording, book: Book, script: Script) -> None:
-        self.recording, self.book, self.script = recording, book, script
+    def __init__(self, recording: Recording, run: RunIndex, script: Script) -> None:
+        self.recording, self.run, self.script = recording, run, script
 
     def delay(self, delay: Delay) -> str:
         """A delay as text: the goroutine, its place, and the end of the delay."""
@@ -63,7 +63,7 @@ class FindingSentences:
         """The innermost call of a goroutine that includes a step."""
         found = [
             call
-            for call in self.book.calls
+            for call in self.run.calls
             if call.goroutine == g and call.first <= number and (not call.last or number <= call.last)
         ]
         return found[-1] if found else None

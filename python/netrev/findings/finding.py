@@ -5,6 +5,7 @@ from dataclasses import dataclass
 from enum import Enum
 from typing import Iterable, NamedTuple, Optional, Sequence
 
+from netrev.recording.call import Call
 from netrev.recording.waits import Name
 from netrev.recording.where import SourceLines, Stack
 from netrev.system.command_lines import command_line, file_word
@@ -54,6 +55,29 @@ class Finding:
     goroutines: tuple[Name, ...] = ()
     evidence: tuple[str, ...] = ()
     details: tuple[Sentence, ...] = ()
+
+
+class Cause(NamedTuple):
+    """The explanation of a call that failed or hangs: the call, the sentences, the steps that the sentences name, and
+    the lines to type next."""
+
+    call: Call
+    says: list[str]
+    steps: list[int]
+    looks: list[str]
+    stopped: int = 0  # the step after which a goroutine that could have woken the waiter did nothing more
+    chain: list[Call] = []  # the failed calls that the sentences name as causes
+    beyond: list[str] = []  # the sentences about goroutines beyond the one that the call needed
+
+
+def with_more(cause: Cause, more: list[str]) -> Cause:
+    """A cause with further sentences."""
+    return cause._replace(says=[*cause.says, *more])
+
+
+def with_others(cause: Cause, others: int) -> Cause:
+    """A cause with the number of further causes like it."""
+    return cause._replace(says=[*cause.says, f"{others} more like it."]) if others else cause
 
 
 def place_of(stack: Stack) -> Optional[Place]:

@@ -110,7 +110,7 @@ def test_what_went_wrong_by_filters(monkeypatch: pytest.MonkeyPatch) -> None:
         )
     ]
     monkeypatch.setattr(filters, "suspects_of", lambda recording: Made(suspects=suspects))
-    monkeypatch.setattr(filters, "book_of", lambda recording: Made(calls=calls))
+    monkeypatch.setattr(filters, "run_of", lambda recording: Made(calls=calls))
     own = Made(_recording=None)
     found = cast(Any, Filters._all).func(own)
     steps = {name: [failure.step for failure in failures] for name, failures in found.items()}

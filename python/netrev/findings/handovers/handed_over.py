@@ -6,13 +6,13 @@ from functools import lru_cache
 from typing import Optional
 
 from netrev.findings.evidence.ended_goroutines import goid_of
-from netrev.findings.evidence.index import Index
 from netrev.findings.evidence.ledger import END
 from netrev.recording.call import Call
 from netrev.recording.goroutines import PUT, TOOK, ObjectUse
 from netrev.recording.recording import Recording
 from netrev.recording.waits import ObjectWait
 from netrev.recording.where import OF_THE_PROGRAM, Stack
+from netrev.run.index import RunIndex
 
 
 def put_before(recording: Recording, wait: ObjectWait) -> Optional[ObjectUse]:
@@ -38,7 +38,7 @@ def puts_of(recording: Recording) -> dict[int, list[ObjectUse]]:
     return found
 
 
-def sockets_of_request(index: Index, wait: ObjectWait) -> set[int]:
+def sockets_of_request(index: RunIndex, wait: ObjectWait) -> set[int]:
     """The sockets to which a goroutine wrote, and the sockets to which other goroutines wrote after they took its
     request from a channel."""
     lines, put = index.recording.lines, put_before(index.recording, wait)
@@ -52,7 +52,7 @@ def functions_of(stack: Stack) -> set[str]:
     return {call.function for call in stack.calls if call.of == OF_THE_PROGRAM}
 
 
-def written_for(index: Index, wait: ObjectWait, socket: int) -> Optional[Call]:
+def written_for(index: RunIndex, wait: ObjectWait, socket: int) -> Optional[Call]:
     """The first Write on a socket by a goroutine that had taken what the waiter put into a channel."""
     put = put_before(index.recording, wait)
     if put is None:

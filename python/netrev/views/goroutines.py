@@ -3,22 +3,23 @@ poller or elsewhere. This is usually the first query when a program hangs, so a 
 thousand goroutines wait for it."""
 
 from functools import cached_property
-from typing import Iterable, Mapping, Optional
+from typing import Any, Callable, Hashable, Iterable, Mapping, Optional
 
 from netrev.connection.output import Row, Table
 from netrev.connection.world import PositionValues
-from netrev.recording.backward_search import Lock, last_steps, takings
 from netrev.recording.recording import Step
-from netrev.recording.waits import Name, ObjectWait, waits_of
+from netrev.recording.waits import Name, ObjectWait, of_names, waits_of
 from netrev.recording.where import Stack
-from netrev.recording.words import SIDES, LockWord, status_words
+from netrev.recording.words import DOING, SIDES, LockWord, status_words
+from netrev.run.index import run_of
+from netrev.run.searches import Lock
 from netrev.text.plurals import counted
 from netrev.text.vocabulary import Of
 
-from .groups import grouped
-
 QUIET = ("idle", "gone")
 QUEUES = {"r": "rq", "w": "wq"}
+MANY = 4  # at least this many goroutines that wait for the same lock or event share a row
+RUNS = 8  # the maximum number of ranges of numbers in a row
 
 
 class LockQueue:
@@ -42,7 +43,7 @@ class LockQueue:
     def taking(self) -> Optional[Step]:
         """The step that took the lock."""
         lock = self._socket, self._side
-        return takings(self._world.recording, self._world.position, [lock]).get(lock)
+        return run_of(self._world.recording).takings([lock], self._world.position).get(lock)
 
     @property
     def is_taken(self) -> bool:
@@ -61,7 +62,7 @@ def queues_of(world: PositionValues, statuses: Iterable[str]) -> dict[Lock, Lock
     lock."""
     queues = {lock: LockQueue(world, *lock) for lock in map(lock_of, statuses) if lock}
     taken = [lock for lock, queue in queues.items() if queue.is_taken]
-    found = takings(world.recording, world.position, taken)
+    found = run_of(world.recording).takings(taken, world.position)
     for lock in taken:
         queues[lock].taking = found.get(lock)
     return queues
@@ -157,7 +158,7 @@ def goroutines_table(world: PositionValues, numbers: Optional[Iterable[int]] = N
     rows = [_row(number, goid(number, world.position), statuses[number], waits.of(number)) for number in shown]
     if world.recording.lines:
         busy = [number for number in shown if statuses[number] not in QUIET]
-        steps = last_steps(world.recording, world.position, busy)
+        steps = run_of(world.recording).last_steps(busy, world.position)
         rows = [
             _with_wait(row, elsewhere[Name(row.values["goroutine"])])
             if row.values["status"] == QUIET[0] and Name(row.values["goroutine"]) in elsewhere
@@ -198,3 +199,80 @@ def _with_line(row: Row, stack: Stack, step: int) -> Row:
     started = f"; started at {stack.made.place()}" if stack.made else ""
     at = f"{stack.words()} since step {step}{started}"
     return Row(row.values | {"step": step, "at": at}, f"{row.text}; {at}")
+
+
+def grouped(rows: list[Row], holder_words: Callable[[int, str], str]) -> list[Row]:
+    """The rows, with one row for many similar goroutines. `holder_words` describes the holder of a socket's lock for a
+    side."""
+    alike: dict[Hashable, list[Row]] = {}
+    for at, row in enumerate(rows):
+        alike.setdefault(_likeness(row.values) or at, []).append(row)
+    result: list[Row] = []
+    for some in alike.values():
+        result += [_group(some, holder_words)] if len(some) >= MANY else some
+    return result
+
+
+def _likeness(values: dict[str, Any]) -> Optional[Hashable]:
+    """A key that is equal for goroutines that wait for the same lock or event; None if the goroutine doesn't sleep."""
+    if values.get("elsewhere"):
+        return (values["waits_for"], *_place(values))
+    name, *rest = values["status"].split()
+    if name == "queued":
+        return values["status"]
+    # (goroutines are parked on different descriptors, with different deadlines and steps)
+    return (name, rest[1], *_common(values)) if name == "parked" else None
+
+
+def _common(values: dict[str, Any]) -> tuple[str, ...]:
+    """The text for the parked goroutines of a group: the unread bytes, the deadline, and the line of the program."""
+    known = values["waits_for"].split("; ")[1:]
+    unread = "bytes are unread" if "unread" in known[0] else ""
+    rest = ["deadlines to come" if words.startswith("deadline at ") else words for words in known[1:]]
+    return tuple(filter(None, (unread, *rest, *_place(values))))
+
+
+def _place(values: dict[str, Any]) -> tuple[str, str]:
+    """A goroutine's current line in the program, and the line that started the goroutine; empty if unknown."""
+    at = values["at"].split(" since step ") if "at" in values else ["", ""]
+    return at[0], at[1].partition("; ")[2] if at[1:] else ""
+
+
+def _group(rows: list[Row], holder_words: Callable[[int, str], str]) -> Row:
+    """One row in place of all these rows."""
+    first = rows[0].values
+    if first.get("elsewhere"):
+        names = [
+            Name(row.values["goid"], True) if row.values["goroutine"] is None else Name(row.values["goroutine"])
+            for row in rows
+        ]
+        why = "; ".join(filter(None, (first["waits_for"], *_place(first))))
+        each = [name.values | _goid(row) for name, row in zip(names, rows)]
+        values = {"goroutines": each, "status": first["status"], "waits_for": why}
+        return Row(values, f"{len(rows)} {why}: {of_names(names)}")
+    numbers = [row.values["goroutine"] for row in rows]
+    name, place, side = first["status"].split()
+    if name == "queued":
+        why = f"queued for socket {place}'s {SIDES[side]} lock, {holder_words(int(place), side)}"
+    else:
+        why = f"parked for {DOING[side]}; {'; '.join(_common(first))}"
+    goids = {str(row.values["goroutine"]): row.values["goid"] for row in rows if "goid" in row.values}
+    values = {"goroutines": numbers, **({"goids": goids} if goids else {}), "status": name, "waits_for": why}
+    return Row(values, f"{len(rows)} {why}: goroutines {_runs(numbers)}")
+
+
+def _goid(row: Row) -> dict[str, Any]:
+    """The key and value for Go's own number, if the row has one."""
+    return {"goid": row.values["goid"]} if "goid" in row.values else {}
+
+
+def _runs(numbers: list[int]) -> str:
+    """Numbers as text, with consecutive numbers as a range."""
+    runs: list[list[int]] = []
+    for number in sorted(numbers):
+        if runs and runs[-1][1] == number - 1:
+            runs[-1][1] = number
+        else:
+            runs.append([number, number])
+    ranges = [str(first) if first == last else f"{first} to {last}" for first, last in runs[:RUNS]]
+    return ", ".join(ranges) + (" .." if len(runs) > RUNS else "")
