@@ -61,12 +61,7 @@ class FindingSentences:
 
     def call_of(self, g: int, number: int) -> Optional[Call]:
         """The innermost call of a goroutine that includes a step."""
-        found = [
-            call
-            for call in self.run.calls
-            if call.goroutine == g and call.first <= number and (not call.last or number <= call.last)
-        ]
-        return found[-1] if found else None
+        return self.run.call_of(number, g)
 
     def _named(self, call: Call) -> str:
         return f"{call.name} on socket {call.socket}"

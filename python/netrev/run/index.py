@@ -1,6 +1,7 @@
 """One index of a recorded run: who made a step, on which socket and in which call, and who holds what. Each part is read
 once, when it is first needed, because a recording may have a million steps."""
 
+import sys
 from bisect import bisect_right
 from collections import Counter, defaultdict
 from contextlib import suppress
@@ -11,6 +12,7 @@ from typing import Collection, Iterable, Iterator, Optional, Sequence
 
 from netrev.recording.call import CLOSE, CLOSE_WRITE, Call, Outcome
 from netrev.recording.recording import Recording, Step
+from netrev.recording.waits import Name
 from netrev.recording.where import SourceCall, Stack
 from netrev.text.vocabulary import Of
 
@@ -137,9 +139,15 @@ class RunIndex:
         calls = self.by_goroutine.get(number, []) if number >= 0 else []
         return [call for call in calls if lines.has_step(goid, number, call.first)]
 
-    def call_of(self, step: int) -> Optional[Call]:
-        """The innermost call that a step belongs to."""
-        begun = back(self.by_goroutine.get(self.recording.step(step).argument("g"), ()), step)
+    def calls_of(self, name: Name) -> list[Call]:
+        """The calls of a goroutine; none if it made no step."""
+        return [] if name.is_goid else self.by_goroutine.get(name.number, [])
+
+    def call_of(self, step: int, goroutine: Optional[int] = None) -> Optional[Call]:
+        """The innermost call that a step belongs to. If a goroutine is given, that goroutine's innermost call around the
+        step."""
+        g = self.recording.step(step).argument("g") if goroutine is None else goroutine
+        begun = back(self.by_goroutine.get(g, ()), step)
         return next((call for call in begun if not call.last or call.last >= step), None)
 
     def call_at(self, goroutine: int, position: int) -> Optional[Call]:
@@ -215,9 +223,10 @@ class RunIndex:
         begin, end = (bisect_right(ended, step, key=END) for step in (call.cause, call.first))
         return sorted(ended[begin:end], key=FIRST)
 
-    def failed(self, position: int) -> list[Call]:
-        """The calls that had failed at a position."""
-        return [call for call in self.calls if 0 < call.last <= position and call.outcome.is_error]
+    def failed(self, position: Optional[int] = None) -> list[Call]:
+        """The calls that had failed at a position, by default at the end."""
+        until = sys.maxsize if position is None else position
+        return [call for call in self.calls if 0 < call.last <= until and call.outcome.is_error]
 
     # ---- locks and references
 

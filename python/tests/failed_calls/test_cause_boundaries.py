@@ -17,6 +17,7 @@ from netrev.findings.source import locks, package as package_source, functions a
 from netrev.findings.streams import unfinished_replies, unused_sockets  # fmt: skip
 from netrev.recording.call import OPEN
 from netrev.recording.goroutines import FOR_ROOM, FOR_VALUE
+from netrev.recording.waits import Name
 from netrev.recording.where import OF_GO, OF_THE_PROGRAM, SourceCall
 from netrev.run.index import RunIndex
 
@@ -170,8 +171,8 @@ def test_the_close_after_a_request_was_cancelled(
     monkeypatch.setattr(http_requests, "name_of_goid", lambda lines, goid: goid)
     calls = [Made(name="Close", socket=socket, first=step) for step in closes for socket in (8, 2)]
     calls.append(Made(name="Read", socket=2, first=11))
-    index = Made(recording=Made(lines=Made(stacks={0: None})), by_goroutine={1: calls})
-    name = Made(is_goid=False, number=1)
+    name = Name(1)
+    index = Made(recording=Made(lines=Made(stacks={0: None})), calls_of={name: calls}.get)
     every = [Made(goid=7, time=time, name=name, socket=socket) for time, socket in ((3, 4), (5, 2), (20, 6))]
     close = Made(begin=20, last=9, goid=1, stack=0)
     found = list(http_requests.cancelled(cast(Any, index), cast(Any, every), cast(Any, Made(goid=7)), cast(Any, close)))

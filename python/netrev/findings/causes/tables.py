@@ -22,7 +22,7 @@ def errors_table(recording: Recording, position: int, most: Optional[int]) -> Ta
     """The calls of the whole recording that ended with a timeout, a close, a broken pipe or an event error. Calls that
     end after the position are marked. The table has at most `most` calls: the last calls up to the position, and then
     as many later calls as fit."""
-    failed = [call for call in run_of(recording).calls if call.last and call.outcome.is_error]
+    failed = run_of(recording).failed()
     found = [call for call in failed if not is_by_go(recording, call)]
     past = [call for call in found if call.last <= position]
     later = [call for call in found if call.last > position]

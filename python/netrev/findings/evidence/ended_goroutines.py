@@ -42,7 +42,7 @@ def last_stack(index: RunIndex, name: Name) -> Optional[Stack]:
 def passed_by(index: RunIndex, name: Name) -> Iterator[Passed]:
     """The stacks of a goroutine that have a line of the program."""
     recording, goid = index.recording, goid_of(index.recording, name)
-    lines, calls = recording.lines, index.by_goroutine.get(name.number, []) if not name.is_goid else []
+    lines, calls = recording.lines, index.calls_of(name)
     found = [Passed(call.first, time_of(recording, call.first), lines.of(call.first)) for call in calls[-3:]]
     found += [Passed(park.last, park.end, lines.stacks[park.stack]) for park in lines.parks.get(goid, ())[-3:]]
     found += [Passed(dial.step, dial.time, lines.stacks[dial.stack]) for dial in lines.failed_dials.get(goid, ())[-3:]]

@@ -110,7 +110,7 @@ def by_source(recording: Recording, wait: ObjectWait, readers: Mapping[Name, Wai
 def request_of(index: RunIndex, wait: ObjectWait, socket: int) -> Optional[Call]:
     """The last Write of a goroutine to a socket before it waits. If the waiter made no Write, the result is the first
     Write of a goroutine that got the request from the waiter."""
-    calls = [] if wait.name.is_goid else index.by_goroutine.get(wait.name.number, [])
+    calls = index.calls_of(wait.name)
     writes = [call for call in calls if call.name == "Write" and call.socket == socket and call.moved and call.last]
     own = next((write for write in reversed(writes) if write.first <= wait.first), None)
     return own or written_for(index, wait, socket)

@@ -86,6 +86,5 @@ def says_of(index: RunIndex, hands: Sequence[EndedHand]) -> list[str]:
 
 def failed_last(index: RunIndex, name: Name) -> Optional[OneCall]:
     """The last Read or Write of a goroutine, if it failed or reached the end of the stream."""
-    calls = [] if name.is_goid else index.by_goroutine.get(name.number, [])
-    moving = [call for call in calls if call.name in ("Read", "Write") and call.last]
+    moving = [call for call in index.calls_of(name) if call.name in ("Read", "Write") and call.last]
     return moving[-1] if moving and (moving[-1].outcome.is_error or moving[-1].outcome in ENDED) else None

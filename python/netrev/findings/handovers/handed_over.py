@@ -43,8 +43,7 @@ def sockets_of_request(index: RunIndex, wait: ObjectWait) -> set[int]:
     request from a channel."""
     lines, put = index.recording.lines, put_before(index.recording, wait)
     takers = {use.goid for use in lines.uses.get(put.object, ()) if use.what == TOOK} if put else set()
-    own = [] if wait.name.is_goid else index.by_goroutine.get(wait.name.number, [])
-    calls = [*own, *(call for goid in takers for call in index.by_goid(goid))]
+    calls = [*index.calls_of(wait.name), *(call for goid in takers for call in index.by_goid(goid))]
     return {call.socket for call in calls if call.name == "Write"}
 
 

@@ -150,10 +150,7 @@ class Needs:
         if known is None or known.made is None or known.last < 0 or not known.maker:
             return None
         maker = name_of_goid(lines, known.maker)
-        if maker.is_goid or not any(
-            call.name == "Read" and call.socket == write.socket
-            for call in self._index.by_goroutine.get(maker.number, ())
-        ):
+        if not any(call.name == "Read" and call.socket == write.socket for call in self._index.calls_of(maker)):
             return None
         alike = (
             goroutine

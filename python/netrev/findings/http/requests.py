@@ -128,12 +128,15 @@ def cancelled(
     cancelled. The result is empty unless that goroutine then closed the connection."""
     lines = index.recording.lines
     own = [request for request in every if request.goid == ended.goid and request.time < close.begin]
-    if not own or own[-1].name.is_goid:
+    if not own:
         return
     request = own[-1]
-    calls = index.by_goroutine.get(request.name.number, [])
     closed = next(
-        (call for call in calls if call.name == "Close" and call.socket == request.socket and call.first > close.last),
+        (
+            call
+            for call in index.calls_of(request.name)
+            if call.name == "Close" and call.socket == request.socket and call.first > close.last
+        ),
         None,
     )
     if closed is not None:
