@@ -98,7 +98,7 @@ fuzz: ready
 fuzz-around: ready
 	@python3 python dev.fuzz.around --minutes $(MINUTES) --seed "$(SEED)"
 
-# Tries mutants of netrev, nrdb and netrev_go against their tests: `make mutants SEED=1 COUNT=200`, or `FILES=python/netrev/views/holders.py`. It
+# Tries mutants of netrev, nrdb and netrev_go against their tests: `make mutants SEED=1 COUNT=200`, or `FILES=python/netrev/run/searches.py`. It
 # prints a table of those that survive (CONTRIBUTING.md). Not part of the gate.
 mutants: ready
 	@python3 scripts/mutants.py around $(if $(SEED),--seed $(SEED)) --count $(if $(filter file,$(origin COUNT)),200,$(COUNT)) $(FILES)

@@ -10,7 +10,7 @@ from netrev.messages import searches as messages
 from netrev.recording.recording import Recording
 from netrev.reduce.reduced import Reducing, Wanted, answered_recording, reduced_of
 from netrev.reduce.writing import answered_by, text_of, write_recording
-from netrev.run.calls import book_of
+from netrev.run.index import run_of
 from netrev.session.session import Session, UsageError
 from netrev.system.interrupts import SearchInterruptedError
 from netrev.text.vocabulary import number_of
@@ -69,7 +69,7 @@ def explored(session: Session, most: int = MOST, is_of_failures: bool = False) -
         is_stopped = True
     progress.end()
     lines = [summary(exploring, time.monotonic() - begun, is_stopped)]
-    keeping = Keeping(session, FindingSentences(recording, book_of(recording), exploring.script))
+    keeping = Keeping(session, FindingSentences(recording, run_of(recording), exploring.script))
     for at, finding in enumerate(exploring.found.values(), 1):
         lines += keeping.kept(at, exploring.least(finding), exploring.times[finding.key])
     return Explored("\n".join(lines), len(exploring.found))

@@ -5,7 +5,7 @@ from typing import Optional
 from netrev.findings.suspects.loading import LOST_WAKE_UP
 from netrev.recording.call import Call
 from netrev.recording.recording import Recording
-from netrev.run.calls import Book
+from netrev.run.index import RunIndex
 from netrev.text.plurals import counted
 
 from .failures import FAILS, Failed, Reason, Why
@@ -23,8 +23,8 @@ LEFT_UNKNOWN = "a lock that was free, an atomic"  # what remains unknown if the 
 class FindingSentences:
     """Describes findings in terms of the recorded run."""
 
-    def __init__(self, recording: Recording, book: Book, script: Script) -> None:
-        self.recording, self.book, self.script = recording, book, script
+    def __init__(self, recording: Recording, run: RunIndex, script: Script) -> None:
+        self.recording, self.run, self.script = recording, run, script
 
     def delay(self, delay: Delay) -> str:
         """A delay as text: the goroutine, its place, and the end of the delay."""
@@ -61,12 +61,7 @@ class FindingSentences:
 
     def call_of(self, g: int, number: int) -> Optional[Call]:
         """The innermost call of a goroutine that includes a step."""
-        found = [
-            call
-            for call in self.book.calls
-            if call.goroutine == g and call.first <= number and (not call.last or number <= call.last)
-        ]
-        return found[-1] if found else None
+        return self.run.call_of(number, g)
 
     def _named(self, call: Call) -> str:
         return f"{call.name} on socket {call.socket}"

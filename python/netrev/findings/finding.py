@@ -1,18 +1,14 @@
 """A finding about a recording, such as a failed call, a hang or a suspect. Printers turn findings into text, JSON and
 annotations."""
 
-import re
 from dataclasses import dataclass
 from enum import Enum
-from typing import Iterator, NamedTuple, Optional, Sequence
+from typing import Iterable, NamedTuple, Optional, Sequence
 
+from netrev.recording.call import Call
 from netrev.recording.waits import Name
-from netrev.recording.where import Stack
+from netrev.recording.where import SourceLines, Stack
 from netrev.system.command_lines import command_line, file_word
-from netrev.text.plain import plain
-
-# A file's name begins at the start of a word; otherwise a long word would be searched from each of its letters.
-PLACE = re.compile(r"(?<![\w./@+~-])([\w./@+~-]+\.go):(\d+)\b")
 
 CAUSE, INDENT, NEXT = "cause:  ", "        ", "next:   "
 
@@ -35,6 +31,17 @@ class Place(NamedTuple):
     line: int
 
 
+class Sentence(str):
+    """A sentence, and the first line of the program that it names, if any."""
+
+    place: Optional[Place]
+
+    def __new__(cls, text: str, place: Optional[Place] = None) -> "Sentence":
+        sentence = super().__new__(cls, text)
+        sentence.place = place
+        return sentence
+
+
 @dataclass(frozen=True)
 class Finding:
     """A finding: its line of the program if known, the steps and goroutines that it names, its sentences, and nrdb's
@@ -42,12 +49,35 @@ class Finding:
     """
 
     kind: Kind
-    sentences: tuple[str, ...]
+    sentences: tuple[Sentence, ...]
     place: Optional[Place] = None
     steps: tuple[int, ...] = ()
     goroutines: tuple[Name, ...] = ()
     evidence: tuple[str, ...] = ()
-    details: tuple[str, ...] = ()
+    details: tuple[Sentence, ...] = ()
+
+
+class Cause(NamedTuple):
+    """The explanation of a call that failed or hangs: the call, the sentences, the steps that the sentences name, and
+    the lines to type next."""
+
+    call: Call
+    says: list[str]
+    steps: list[int]
+    looks: list[str]
+    stopped: int = 0  # the step after which a goroutine that could have woken the waiter did nothing more
+    chain: list[Call] = []  # the failed calls that the sentences name as causes
+    beyond: list[str] = []  # the sentences about goroutines beyond the one that the call needed
+
+
+def with_more(cause: Cause, more: list[str]) -> Cause:
+    """A cause with further sentences."""
+    return cause._replace(says=[*cause.says, *more])
+
+
+def with_others(cause: Cause, others: int) -> Cause:
+    """A cause with the number of further causes like it."""
+    return cause._replace(says=[*cause.says, f"{others} more like it."]) if others else cause
 
 
 def place_of(stack: Stack) -> Optional[Place]:
@@ -56,11 +86,11 @@ def place_of(stack: Stack) -> Optional[Place]:
     return Place(own[0].file, own[0].line) if own else None
 
 
-def named_places(sentences: Sequence[str]) -> Iterator[tuple[Place, str]]:
-    """The first line of a source file that a sentence names, and the sentence, for each sentence that names one."""
-    for sentence in map(plain, sentences):
-        if named := PLACE.search(sentence):
-            yield Place(named[1], int(named[2])), sentence.strip()
+def sentences_of(lines: SourceLines, texts: Iterable[str]) -> tuple[Sentence, ...]:
+    """These texts as sentences. Each text consists of phrases by many functions, so the line that it names is found by
+    the names of the program's files."""
+    found = ((text, lines.named.search(text)) for text in texts)
+    return tuple(Sentence(text, Place(named[1], int(named[2])) if named else None) for text, named in found)
 
 
 def command_of(evidence: Sequence[str], name: object) -> str:
@@ -108,8 +138,8 @@ def paragraph(says: Sequence[str]) -> list[str]:
     return [f"{CAUSE}{first}", *(f"{INDENT}{line}" for line in rest)]
 
 
-def suspect_lines(at: int, finding: Finding) -> list[str]:
+def suspect_lines(at: int, finding: Finding) -> list[Sentence]:
     """The lines of the suspect with this number: its sentence, netrev's lines and answers, notes about answers that the
     rule didn't expect, the program's lines, and the command to type next. Only netrev's output follows `netrev:`."""
-    further = [*finding.details, f"next:   {'; '.join(finding.evidence)}"]
-    return [f"{at}. {finding.sentences[0]}", *(f"   {line}" for line in further)]
+    first, further = finding.sentences[0], [*finding.details, Sentence(f"next:   {'; '.join(finding.evidence)}")]
+    return [Sentence(f"{at}. {first}", first.place), *(Sentence(f"   {line}", line.place) for line in further)]

@@ -3,8 +3,10 @@ a recording works without it."""
 
 import json
 import os
+import re
 import stat
 from array import array
+from functools import cached_property
 from itertools import accumulate
 from pathlib import Path
 from typing import Any, Iterable, NamedTuple, Optional
@@ -226,6 +228,13 @@ class SourceLines(AllGoroutines):
 
     def __bool__(self) -> bool:
         return len(self.steps) > 0
+
+    @cached_property
+    def named(self) -> re.Pattern[str]:
+        """The pattern of a text that names a line of one of the program's files, such as `main.go:12`. The name of the
+        file begins at the start of a word."""
+        files = sorted({call.file for call in self._calls.values()}, key=len, reverse=True)
+        return re.compile(rf"(?<![\w./@+~-])({'|'.join(map(re.escape, files)) or '(?!)'}):(\d+)\b")
 
     def of(self, step: int) -> Stack:
         """The stack of a step; a stack without calls if unknown."""

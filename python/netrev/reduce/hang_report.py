@@ -17,7 +17,7 @@ from netrev.system.command_lines import file_word
 from netrev.text.plain import plain
 from netrev.timeline.drawing import drawing
 from netrev.timeline.stories import causes_data
-from netrev.views.following import Subject, calls_table
+from netrev.views.calls import Subject, calls_table
 from netrev.views.goroutine_stacks import stack_of
 
 from .report import code, shell_words, shown

@@ -2,7 +2,7 @@
 how it ended. nrdb finds the calls in one pass over the recording's steps."""
 
 from collections import defaultdict
-from functools import cached_property, lru_cache, partial
+from functools import partial
 from typing import Any, Callable, Optional
 
 from netrev.recording.call import CLOSE, CLOSE_WRITE, CONTROL, OPEN, Call, Outcome
@@ -12,7 +12,7 @@ from netrev.text.vocabulary import OF_A_GOROUTINE
 
 from .flow import BY_STATUS
 from .notes import CLOSED, Look, Looks, Notes
-from .owners import NONE, Whose
+from .owners import NONE
 
 # A Maker is called with the book, the notes and the step's arguments, the first of which is the step's goroutine.
 Maker = Callable[..., Look]
@@ -34,11 +34,6 @@ class Book:
         self.asleep: dict[int, tuple[int, int]] = {}
         self.descriptor_of: dict[int, int] = {}  # for each open socket, its descriptor
         self.notes = Notes(recording, self._looks())
-
-    @cached_property
-    def whose(self) -> Whose:
-        """The owner of each step."""
-        return Whose(self._recording, self.notes)
 
     def sleeps_at_the_end(self, call: Call) -> bool:
         """Whether the recording ends while a call's goroutine sleeps in it."""
@@ -292,9 +287,3 @@ LOOKS: dict[str, Maker] = {
     "setdeadline": names_control(lambda mode: SETTING[mode]),
     "closewrite": names_control(lambda _: CLOSE_WRITE),
 }
-
-
-@lru_cache(maxsize=2)
-def book_of(recording: Recording) -> Book:
-    """The calls of a recording."""
-    return Book(recording)

@@ -1,9 +1,11 @@
-"""The goroutine, the socket and the descriptor of each step of a recording."""
+"""The goroutine, the socket and the descriptor of each step in a part of a recording."""
 
 from array import array
-from typing import Any, NamedTuple
+from bisect import bisect_right
+from collections import Counter
+from typing import Any, Callable, NamedTuple, Optional
 
-from netrev.recording.recording import Recording
+from netrev.machine.machine import INSIDE
 from netrev.text.vocabulary import KINDS
 
 from .notes import Notes
@@ -44,22 +46,36 @@ def row_of(values: list[Any]) -> StepRow:
     return StepRow(how, named.get("g", NONE), named.get("s", named.get("d", NONE)), kind, arguments)
 
 
-class Whose:
-    """The goroutine, the socket and the descriptor of each step; -1 if the step has none."""
+class NamedPlaces(dict[int, Place]):
+    """The object that each goroutine last named. For a goroutine that has named none, `before` finds it."""
 
-    def __init__(self, recording: Recording, notes: Notes) -> None:
-        self._recording = recording
+    def __init__(self, before: Callable[[int], Place]) -> None:
+        super().__init__()
+        self._before = before
+
+    def __missing__(self, g: int) -> Place:
+        place = self[g] = self._before(g)
+        return place
+
+
+class StepOwners:
+    """The goroutine, the socket and the descriptor of each step from `first` to `last`; -1 if the step has none. The
+    earlier steps aren't read."""
+
+    def __init__(self, notes: Notes, first: int = 1, last: Optional[int] = None) -> None:
+        self._notes, self._begin = notes, max(first, 1) - 1
         self.goroutines, self._sockets, self._descriptors = array("i"), array("i"), array("i")
-        self._of_timers: list[
-            int
-        ] = []  # the steps of timers whose owners haven't been determined, because no caller has needed them
-        self._opened = iter(notes.uses)
-        self._made = 0  # the number of sockets
-        self._named: dict[int, Place] = {}  # the object that a goroutine last named
-        self._descriptor_of: dict[int, int] = {}
-        self._socket_of: dict[int, int] = {}
-        self._tagged: dict[Place, int] = {}  # for a descriptor and the tag of a use, the socket of that use
-        self._go_through()
+        self._of_timers: list[int] = []  # the steps of timers whose owners no caller has needed yet
+        opened = bisect_right(notes.uses, self._begin, key=lambda use: use.opened)
+        before, self._opened = notes.uses[:opened], iter(notes.uses[opened:])
+        self._made = sum(1 for _ in notes.recording.steps_of(("sockopen",), self._begin))  # the number of sockets
+        self._named = NamedPlaces(self._named_before)
+        still_open = (use for use in before if not 0 < use.closed <= self._begin)
+        self._descriptor_of = {use.socket: use.descriptor for use in still_open}
+        self._socket_of = {use.descriptor: use.socket for use in before}
+        # for a descriptor and the tag of a use, the socket of that use
+        self._tagged = {(use.descriptor, use.tag): use.socket for use in before}
+        self._go_through(last)
 
     @property
     def sockets(self) -> "array[int]":
@@ -71,14 +87,20 @@ class Whose:
         self._look_at_timers()
         return self._descriptors
 
-    def _go_through(self) -> None:
+    def used(self) -> Counter[Place]:
+        """For each goroutine and socket, the number of steps that the goroutine made on the socket."""
+        pairs = Counter(zip(self.goroutines, self._sockets))
+        return Counter({pair: many for pair, many in pairs.items() if pair[0] != NONE})
+
+    def _go_through(self, last: Optional[int]) -> None:
         named, descriptor_of, socket_of = self._named, self._descriptor_of, self._socket_of
         is_of, socket_is, descriptor_is = (
             column.append for column in (self.goroutines, self._sockets, self._descriptors)
         )
-        for number, (how, g, which, kind, arguments) in enumerate(self._recording.rows(row_of), 1):
+        rows = self._notes.recording.rows(row_of, self._begin + 1, last)
+        for number, (how, g, which, kind, arguments) in enumerate(rows, self._begin + 1):
             if how == AS_BEFORE:
-                s, d = named.get(g, NOWHERE)
+                s, d = named[g]
             elif how == OF_A_SOCKET:
                 s, d = named[g] = which, descriptor_of.get(which, NONE)
             elif how == OF_A_DESCRIPTOR:
@@ -113,10 +135,23 @@ class Whose:
         self._named[g] = place
         return place
 
+    def _named_before(self, g: int) -> Place:
+        """The object that a goroutine named last before these steps. The goroutine is still in a call on that object,
+        so its status shows the object."""
+        begun, words = 0, ["idle"]
+        for step, status in self._notes.changes.back(f"gor {g}", self._begin):
+            if status == "idle":
+                break
+            begun, words = step, status.split()
+        if words[0] not in INSIDE:
+            return (int(words[1]), self._descriptor_of.get(int(words[1]), NONE)) if words[1:] else NOWHERE
+        d = int(words[1])
+        return next(use.socket for use in reversed(self._notes.uses) if use.descriptor == d and use.opened <= begun), d
+
     def _look_at_timers(self) -> None:
         """Finds the timers' owners, for callers that need the sockets and descriptors of all steps."""
-        timers = timers_of(self._recording) if self._of_timers else {}
+        timers = timers_of(self._notes.recording) if self._of_timers else {}
         for number in self._of_timers:
-            timer = timers[number]
-            self._sockets[number - 1], self._descriptors[number - 1] = timer.socket, timer.descriptor
+            timer, at = timers[number], number - self._begin - 1
+            self._sockets[at], self._descriptors[at] = timer.socket, timer.descriptor
         self._of_timers = []

@@ -7,7 +7,7 @@ from typing import Callable, Hashable, Iterable, NamedTuple, Optional, Sequence,
 from netrev.messages import session as messages
 from netrev.recording.recording import Recording
 from netrev.recording.where import SourceCall, Stack
-from netrev.run.calls import book_of
+from netrev.run.index import run_of
 from netrev.text.vocabulary import KINDS, cell_of
 
 OF_A_LINE = re.compile(r"(.+):(\d{1,9})\Z")
@@ -29,9 +29,9 @@ class Places:
 
     def __init__(self, recording: Recording) -> None:
         self._recording, self._lines = recording, recording.lines
-        book = book_of(recording)
-        self._makers = book.whose.goroutines
-        self._begins = {call.first for call in book.calls}
+        run = run_of(recording)
+        self._makers = run.owners.goroutines
+        self._begins = {call.first for call in run.calls}
 
     def place(self, spelled: str) -> Optional[ProgramPlace]:
         """The place that a word names; None if no recorded step comes from that place."""

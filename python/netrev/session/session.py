@@ -31,7 +31,7 @@ from netrev.recording.words import absent_words, dump_words, in_words
 from netrev.system.interrupts import Interrupts, SearchInterruptedError, SessionAbandonedError
 from netrev.text.text_files import lines_of_script
 from netrev.text.vocabulary import cell_of
-from netrev.views.changed import tables_beside
+from netrev.views.changes import tables_beside
 
 from .attached_commands import Attached
 from .commands import COMMANDS, AmbiguousWordError, is_answered_here, parts_of, whole_words

@@ -9,12 +9,12 @@ from math import inf
 from operator import sub
 from typing import Any, Optional
 
-from netrev.findings.evidence.index import Index, index_of
 from netrev.findings.evidence.waiters import is_waiting
 from netrev.findings.evidence.words import is_by_go, name_of, short
 from netrev.recording.call import Call, Outcome
 from netrev.recording.recording import Recording
 from netrev.recording.where import OF_THE_PROGRAM, Stack
+from netrev.run.index import RunIndex, run_of
 
 from .cell_runs import Window
 
@@ -31,7 +31,7 @@ class IndexedTexts(dict[str, int]):
         return number
 
 
-def state_of(index: Index, call: Call) -> int:
+def state_of(index: RunIndex, call: Call) -> int:
     """The state of a call. A call that Go's own code ended doesn't count as failed."""
     if call.last:
         return FAILED if call.outcome.is_error and not is_by_go(index.recording, call) else DONE
@@ -42,7 +42,7 @@ def state_of(index: Index, call: Call) -> int:
 
 def shown_calls(recording: Recording, window: Window) -> list[Call]:
     """The calls of a window, in the order of their first steps."""
-    calls = index_of(recording).book.calls
+    calls = run_of(recording).calls
     return [call for call in calls if call.first <= window.last and (not call.last or call.last >= window.first)]
 
 
@@ -96,7 +96,7 @@ class CallColumns:
 
     def __init__(self, recording: Recording) -> None:
         self.texts = IndexedTexts({"": 0})
-        self._recording, self._index = recording, index_of(recording)
+        self._recording, self._index = recording, run_of(recording)
         self._lines: dict[int, int] = {}  # the lines of stacks
         self._stacks: dict[int, int] = {}
         self._known: dict[tuple[str, Optional[int], int], tuple[int, ...]] = {}

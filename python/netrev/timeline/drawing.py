@@ -6,11 +6,11 @@ import textwrap
 from html import escape
 from typing import Iterator, Optional
 
-from netrev.findings.evidence.index import index_of
 from netrev.findings.evidence.words import name_of
 from netrev.recording.call import Call
 from netrev.recording.recording import Recording
 from netrev.run.changes import changes_of
+from netrev.run.index import run_of
 from netrev.text.plain import plain
 
 from .calls import DONE, FAILED, HANGS, LISTENS, OPEN, Data, names_data, state_of
@@ -49,7 +49,7 @@ class Drawing:
 
     def __init__(self, recording: Recording, story: Optional[Data]) -> None:
         self._recording, self._story = recording, story
-        self._changes, self._index = changes_of(recording), index_of(recording)
+        self._changes, self._index = changes_of(recording), run_of(recording)
         self._window = Window(0, recording.length)
         self._names = names_data(recording, self._window)
         self._parts: list[str] = []

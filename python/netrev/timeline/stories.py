@@ -7,13 +7,14 @@ from typing import Iterator
 from netrev.connection.scout import Scout
 from netrev.findings.causes.failing import cause_of, failed_at
 from netrev.findings.causes.first import failures_of
-from netrev.findings.evidence.index import Cause, index_of
 from netrev.findings.evidence.words import is_by_go
+from netrev.findings.finding import Cause
 from netrev.findings.hangs.hang_words import hang_looks, hang_says
 from netrev.findings.hangs.wait_graph import Hang, WaitGraph, graph_at
 from netrev.findings.suspects.ranking import all_suspects_of
 from netrev.findings.suspects.table import shown_of, suspects_table
 from netrev.recording.recording import Recording
+from netrev.run.index import run_of
 
 from .calls import Data
 
@@ -42,7 +43,7 @@ def causes_data(recording: Recording) -> Iterator[Data]:
     are in the order of the first output, with the sentences of `info hangs` and `info errors`."""
     graph = graph_at(recording, recording.length)
     hangs = graph.shown[:MOST_CAUSES]
-    index = index_of(recording)
+    index = run_of(recording)
     first = failures_of(recording)[:MOST_CAUSES]
     first_steps = {cause.call.first for cause in first}
     quiet = {hang.root.since for hang in hangs if hang.is_quiet} - {0}  # (hangs that may be normal share one story)

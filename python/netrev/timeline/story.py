@@ -7,9 +7,8 @@ from netrev.connection.shapes import ListedMark
 from netrev.machine.machine import INSIDE
 from netrev.recording.changes import RecordedChanges
 from netrev.recording.recording import Recording
-from netrev.run.calls import book_of
+from netrev.run.index import run_of
 from netrev.run.owners import NONE
-from netrev.run.used_sockets import UsedSockets
 
 from .calls import Data
 from .cell_runs import Runs, Window
@@ -28,14 +27,14 @@ class Connections:
     that it uses most."""
 
     def __init__(self, recording: Recording, window: Window) -> None:
-        self._window, notes = window, book_of(recording).notes
+        self._window, run = window, run_of(recording)
         self.uses: list[list[Any]] = [
             [use.descriptor, use.socket, use.opened, use.closed if 0 < use.closed <= window.last else None]
-            for use in notes.uses
+            for use in run.notes.uses
             if use.opened <= window.last and not 0 < use.closed <= window.first
         ]
         self._touched: dict[int, dict[int, int]] = {}
-        for (g, s), many in sorted(UsedSockets(notes, window.first, window.last).items()):
+        for (g, s), many in sorted(run.sockets_used(window.first, window.last).items()):
             if s != NONE:
                 self._touched.setdefault(g, {})[s] = many
 

@@ -2,12 +2,12 @@
 
 from typing import Any
 
-from netrev.findings.evidence.index import index_of
 from netrev.findings.evidence.words import place_in, short
 from netrev.findings.http.requests import requests_of
 from netrev.recording.recording import Recording
 from netrev.recording.waits import Name, ObjectWait, waits_of
 from netrev.recording.where import OF_THE_PROGRAM
+from netrev.run.index import run_of
 
 from .calls import Data, IndexedTexts, program_calls, runs_in
 
@@ -47,7 +47,7 @@ def waits_data(recording: Recording) -> Data:
 def requests_data(recording: Recording) -> dict[int, list[str]]:
     """For each socket to which net/http's client wrote requests, the lines of these requests, each once."""
     found: dict[int, dict[str, None]] = {}
-    for request in requests_of(index_of(recording)):
+    for request in requests_of(run_of(recording)):
         found.setdefault(request.socket, {})[place_in(request.stack).strip().removeprefix("at ")] = None
     return {socket: list(places) for socket, places in found.items()}
 

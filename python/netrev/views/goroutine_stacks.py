@@ -2,13 +2,10 @@
 
 from typing import NamedTuple, Optional
 
-from netrev.recording.backward_search import last_steps
 from netrev.recording.recording import Recording
 from netrev.recording.waits import Name, waits_of
 from netrev.recording.where import Stack
-from netrev.run.calls import book_of
-
-from .following import calls_at
+from netrev.run.index import run_of
 
 
 class GoroutineStack(NamedTuple):
@@ -35,11 +32,11 @@ def stack_of(recording: Recording, name: Name, position: int) -> Optional[Gorout
     goid = 0 if name.is_goid else recording.lines.reused_goid(name.number, position)
     if wait:
         return GoroutineStack(name, wait.stack, wait.first, f"{wait.does} since step {wait.first}", goid=goid)
-    step = 0 if name.is_goid else last_steps(recording, position, [name.number])[name.number]
+    run = run_of(recording)
+    step = 0 if name.is_goid else run.last_step(name.number, position)
     if not step:
         return None
-    inside = calls_at(book_of(recording), name.number, position)
-    if inside:
-        does = f"in {inside[-1].name} on socket {inside[-1].socket} since step {inside[-1].first}"
+    if call := run.call_at(name.number, position):
+        does = f"in {call.name} on socket {call.socket} since step {call.first}"
         return GoroutineStack(name, recording.lines.of(step), step, does, goid=goid)
     return GoroutineStack(name, recording.lines.of(step), step, f"in no call since step {step}", True, goid)

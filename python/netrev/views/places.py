@@ -1,10 +1,12 @@
-"""`info sockets`, `info descriptors` and `info timers`: the values of each."""
+"""`info sockets`, `info descriptors`, `info timers` and `info holders`: the values of each."""
 
 from typing import Iterable, Optional
 
 from netrev.connection.output import Row, Table, Values
 from netrev.connection.world import PositionValues
 from netrev.recording.words import SIDES, LockWord, info_words, lock_words
+from netrev.run.index import run_of
+from netrev.run.searches import Reference
 from netrev.text.plurals import counted
 from netrev.text.vocabulary import Of
 
@@ -104,3 +106,21 @@ def timers_table(world: PositionValues) -> Table:
         row_values: Values = {"descriptor": descriptor, "side": side, "deadline": deadline}
         rows.append(Row(row_values, f"{deadline:>10}  the {SIDES[side]} deadline of descriptor {descriptor}, {when}"))
     return Table("timers", rows)
+
+
+def holders_table(world: PositionValues, socket: int) -> Table:
+    """The goroutines that hold references to the socket, with what each goroutine does now."""
+    shown = world.value(f"lock {socket}")
+    if shown == "absent":
+        return Table("holders", [], f"socket {socket} doesn't exist yet")
+    held = run_of(world.recording).holders(socket, world.position)
+    rows = [_holder_row(world, reference) for reference in held]
+    return Table("holders", rows, f"lock {socket} = {shown}: {lock_words(shown)}; {counted(len(rows), 'holder')}")
+
+
+def _holder_row(world: PositionValues, held: Reference) -> Row:
+    status = world.value(f"gor {held.goroutine}")
+    step = held.step
+    words = " ".join((step.kind, *(SIDES[side] for side in held.side)))
+    values = {"goroutine": held.goroutine, "step": step.number, "line": step.line, "took": str(step), "status": status}
+    return Row(values, f"gor {held.goroutine:<4} since step {step.number} ({words}), now {status}")

@@ -7,7 +7,6 @@ from collections.abc import Iterable
 from dataclasses import asdict, dataclass, field
 from xml.etree import ElementTree
 
-from netrev.findings.finding import named_places
 from netrev.text.plain import plain
 from netrev_go.log.ran import Ran, Went
 
@@ -77,8 +76,9 @@ class TestResult:
 def causes_in(findings: list[Shown]) -> list[Cause]:
     """Each source line that the report's findings name, with the first line of the report that names it."""
     lines: dict[tuple[str, int], Cause] = {}
-    for place, line in named_places([line for shown in findings for line in shown.lines]):
-        lines.setdefault(place, Cause(*place, line))
+    for line in (line for shown in findings for line in shown.lines):
+        if line.place:
+            lines.setdefault(line.place, Cause(*line.place, plain(line).strip()))
     return list(lines.values())
 
 

@@ -10,7 +10,16 @@ from typing import NamedTuple, TypeVar
 
 from netrev.connection.errors import unexpected
 from netrev.errors import NetrevError
-from netrev.findings.finding import Finding, FirstFindings, Kind, Place, SuspectFindings, command_of, suspect_lines
+from netrev.findings.finding import (
+    Finding,
+    FirstFindings,
+    Kind,
+    Place,
+    Sentence,
+    SuspectFindings,
+    command_of,
+    suspect_lines,
+)
 from netrev.messages import recorder as messages
 from netrev.recording import recording as library
 from netrev.recording.waits import Name
@@ -37,7 +46,7 @@ class Shown(NamedTuple):
     """A finding, and its lines in the report without the label of the first."""
 
     finding: Finding
-    lines: Sequence[str]
+    lines: Sequence[Sentence]
 
 
 @dataclass(frozen=True)
@@ -99,7 +108,9 @@ def wait_of(g: int, status: str, last: int, since: str, calls: Calls | None) -> 
     started = f"; started at {short(calls.made)}" if calls and calls.made else ""
     words = f"{line}: {function + ' ' if function else ''}{in_words(status)} (goroutine {g}, since {since}{started})"
     own = own_line(calls) if calls else None
-    return Finding(Kind.WAIT, (words,), Place(own[0].file, own[0].line) if own else None, (last,), (Name(g),))
+    place = Place(own[0].file, own[0].line) if own else None
+    begun = Place(calls.made.file, calls.made.line) if calls and calls.made else None
+    return Finding(Kind.WAIT, (Sentence(words, place or begun),), place, (last,), (Name(g),))
 
 
 def since_words(recording: NewRecording, step: int) -> str:

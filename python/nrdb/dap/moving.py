@@ -8,7 +8,7 @@ from netrev.connection.shapes import MARK, ListedMark, Move, move_of
 from netrev.findings.causes import root_sentence
 from netrev.recording.recording import Recording
 from netrev.system.interrupts import Interrupts, SearchInterruptedError
-from netrev.views.following import NoDestinationError, finish_goal
+from netrev.views.calls import NoDestinationError, finish_goal
 
 from .go_lines import GoLines
 from .logpoints import LogPoints

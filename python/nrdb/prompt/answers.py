@@ -13,10 +13,9 @@ from netrev.run.timers import timer_words
 from netrev.session.commands import ALL_TOPICS, COMMANDS, FORMS, OF_NETREV, OF_NRDB, TOPICS, Origin, whole_command
 from netrev.session.session import Answering, Session, UsageError
 from netrev.text.vocabulary import CELLS, KINDS, REASONS, Of, cell_of, number_of
-from netrev.views.history import history_table
-from netrev.views.holders import holders_table
-from netrev.views.places import descriptors_table, sockets_table, timers_table
-from netrev.views.waiting import goroutines_table
+from netrev.views.changes import history_table
+from netrev.views.goroutines import goroutines_table
+from netrev.views.places import descriptors_table, holders_table, sockets_table, timers_table
 
 from .answers_of_calls import OF_CALLS, answer_errors, arrive, taken_most, usage
 from .answers_of_files import answer_explore, answer_reduce, answer_report, answer_timeline, answer_trace
@@ -260,7 +259,7 @@ def answer_info(session: Session, words: list[str]) -> None:
         return answer_errors(session, rest)
     number = number_of(rest[0]) if len(rest) == 1 else None
     if topic == "holders" and number is not None:
-        return session.printer.table(holders_table(session.world(), session.changes(), number))
+        return session.printer.table(holders_table(session.world(), number))
     is_all = rest == ["all"]
     if topic not in TABLES or (rest and not is_all and number is None):
         raise UsageError(messages.TOPIC.format(usage=TOPICS[topic].usage, says=TOPICS[topic].says))

@@ -10,7 +10,7 @@ from netrev.session.commands import COMMANDS, TOPICS
 from netrev.session.conditions import Condition
 from netrev.session.session import Answering, Session, UsageError
 from netrev.text.vocabulary import number_of
-from netrev.views.following import (
+from netrev.views.calls import (
     GOALS,
     MOST,
     NoDestinationError,

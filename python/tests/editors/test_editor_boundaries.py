@@ -8,6 +8,7 @@ import pytest
 
 from netrev.connection.shapes import Move
 from netrev.recording.call import Outcome
+from netrev.run.index import RunIndex
 from nrdb.dap import breakpoints, looks, marks as dap_marks, moving
 from nrdb.dap.marks import BreakpointKind, Marks
 from nrdb.dap.moving import AT_THE_END, Moves, Stop, text_of
@@ -110,7 +111,9 @@ def test_what_went_wrong_by_filters(monkeypatch: pytest.MonkeyPatch) -> None:
         )
     ]
     monkeypatch.setattr(filters, "suspects_of", lambda recording: Made(suspects=suspects))
-    monkeypatch.setattr(filters, "book_of", lambda recording: Made(calls=calls))
+    run = RunIndex(cast(Any, None))
+    run.__dict__["_book"] = Made(calls=calls)
+    monkeypatch.setattr(filters, "run_of", lambda recording: run)
     own = Made(_recording=None)
     found = cast(Any, Filters._all).func(own)
     steps = {name: [failure.step for failure in failures] for name, failures in found.items()}

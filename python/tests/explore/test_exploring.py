@@ -22,9 +22,9 @@ from netrev.findings.suspects.ranking import suspects_of
 from netrev.machine.machine import World
 from netrev.machine.steps import apply
 from netrev.recording.recording import Recording
-from netrev.run.calls import book_of
 from netrev.run.flow import OperationType
 from netrev.run.changes import PlayedSteps
+from netrev.run.index import run_of
 from netrev.session.session import UsageError
 from netrev.system.interrupts import SearchInterruptedError
 from netrev.text.contents import Limits
@@ -258,7 +258,7 @@ class Words(unittest.TestCase):
     def setUp(self) -> None:
         self.recording = recording_of(GOOD)
         self.exploring = explored(script_of(self.recording), 40)
-        self.telling = FindingSentences(self.recording, book_of(self.recording), self.exploring.script)
+        self.telling = FindingSentences(self.recording, run_of(self.recording), self.exploring.script)
 
     def test_a_finding_says_who_stands_still_until_when_and_that_it_is_possible(self) -> None:
         finding = self.exploring.found["deadline taken back too soon", 1, 0]

@@ -13,7 +13,7 @@ from netrev.explore.scripts.making import script_of
 from netrev.explore.sentences import FindingSentences
 from netrev.recording.recording import Recording
 from netrev.recording.where import SourceLines
-from netrev.run.calls import book_of
+from netrev.run.index import run_of
 from netrev.session.session import UsageError
 from tests.suspects.test_suspects import OPEN, Steps, recording_of
 from tests.trials.go_caused import NAMES, SOURCE
@@ -124,7 +124,7 @@ class Words(unittest.TestCase):
     def said(self, steps: Steps, why: Why) -> str:
         recording = recording_of(steps)
         exploring = explored(recording)
-        telling = FindingSentences(recording, book_of(recording), exploring.script)
+        telling = FindingSentences(recording, run_of(recording), exploring.script)
         return "\n".join(telling.finding(1, exploring.found[FAILS, (1, 0), why], 1, "x.jsonl"))
 
     def test_which_call_fails_and_by_what(self) -> None:

@@ -15,7 +15,7 @@ from netrev.explore.scripts.scripts import Script
 from netrev.explore.sentences import IF_RAW, LEFT_UNKNOWN, UNLESS, FindingSentences
 from netrev.findings.suspects.ranking import suspects_of
 from netrev.recording.where import SourceLines
-from netrev.run.calls import book_of
+from netrev.run.index import run_of
 from tests.suspects.test_suspects import OPEN, recording_of
 
 from .test_exploring import EXAMPLES, GOOD, answered, explored
@@ -118,7 +118,7 @@ class Raw(unittest.TestCase):
             recording.lines = recording.lines if is_known else SourceLines()
             exploring = explored(script_of(recording), 50)
             said = [
-                FindingSentences(recording, book_of(recording), exploring.script).unless(f)
+                FindingSentences(recording, run_of(recording), exploring.script).unless(f)
                 for f in exploring.found.values()
             ]
             self.assertEqual(said, [f"{UNLESS}{LEFT_UNKNOWN}; {IF_RAW}"] if is_known else [])

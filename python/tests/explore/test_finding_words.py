@@ -16,7 +16,7 @@ from netrev.findings.suspects.found import Suspect, Weight
 from netrev.reduce import report
 from netrev.reduce.reduced import Reduced, Wanted
 from netrev.reduce.units import UnitKind
-from netrev.run.calls import book_of
+from netrev.run.index import run_of
 from tests.suspects.test_suspects import COMES, OPEN, READ, Steps, recording_of
 
 READS: Steps = [*READ, ["rwunlock", 1, 0, "r"]]
@@ -27,7 +27,7 @@ INSIDE: Steps = [*OPEN, ["incref", 1, 0], *READS, *SETS, ["decref", 1, 0], *COME
 
 def telling_of(steps: Steps) -> FindingSentences:
     recording = recording_of(steps)
-    return FindingSentences(recording, book_of(recording), script_of(recording))
+    return FindingSentences(recording, run_of(recording), script_of(recording))
 
 
 @pytest.mark.parametrize(

@@ -8,7 +8,6 @@ from pathlib import Path
 from typing import Any
 
 from netrev.findings.datagrams.datagrams import dropped_datagram
-from netrev.findings.evidence.index import index_of
 from netrev.findings.http.cancels import cancel_before, deferred_says
 from netrev.findings.http.late_answers import is_of_write_timeout, late_answers
 from netrev.findings.locks.new_readers import thrown_away
@@ -16,6 +15,7 @@ from netrev.findings.streams.exchanges import perhaps_why
 from netrev.findings.streams.flushes import ways_round_a_flush, writes_through_a_buffer
 from netrev.recording.recording import Recording
 from netrev.recording.where import OF_GO, SourceCall as LineCall, Stack
+from netrev.run.index import run_of
 from tests.hangs.test_needs import line, put, stored
 from tests.trials.go_caused import source_of
 
@@ -92,11 +92,11 @@ class Flushes(WithFile):
             self.assertIsNone(writes_through_a_buffer(recording, stack))
 
     def test_requests_of_the_same_form_were_answered(self) -> None:
-        index = index_of(stored("unflushed-good"))
+        index = run_of(stored("unflushed-good"))
         calls = [
             call for call in index.by_goroutine[0] if call.name == "Read" and index.other_end(call.socket) is not None
         ]
-        now = next(call for call in index.book.calls if call.name == "Read" and call.goroutine != 0 and call.moved)
+        now = next(call for call in index.calls if call.name == "Read" and call.goroutine != 0 and call.moved)
         stack = index.recording.lines.of(now.first)
         added = LineCall("bufio.(*Scanner).Scan", "bufio/scan.go", 1, OF_GO)
         index.recording.lines.stacks[99] = Stack((added, *stack.calls), None)
@@ -148,7 +148,7 @@ class NewReaders(WithFile):
         lines.stacks[2], lines.stacks[3] = (
             Stack((line(at, name, file),), None) for at, name in ((4, "command"), (9, "answer"))
         )
-        index = index_of(recording)
+        index = run_of(recording)
         for call in index.by_goroutine[1]:
             for step in range(call.first, (call.last or len(steps)) + 1):
                 lines.steps[step - 1] = 2 if call.name == "Read" else 3
@@ -179,28 +179,28 @@ class LateAnswers(unittest.TestCase):
         deadline."""
         recording = stored("overdue-bad")
         lines = recording.lines
-        (call,) = [call for call in index_of(recording).failed(recording.length) if call.name == "Write"]
+        (call,) = [call for call in run_of(recording).failed(recording.length) if call.name == "Write"]
         for step, name in ((call.first, "net/http.(*conn).serve"), (call.cause, function)):
             lines.stacks[90 + step] = Stack((LineCall(name, "net/http/server.go", 1, OF_GO),), None)
             lines.steps[step - 1] = 90 + step
         return recording
 
     def test_the_write_timeout_of_a_server(self) -> None:
-        index = index_of(self.recording("net/http.(*conn).readRequest.func1"))
+        index = run_of(self.recording("net/http.(*conn).readRequest.func1"))
         (found,) = late_answers(index)
         self.assertRegex(found.says[0], r"^An http.Server's WriteTimeout, \d+ ms, had passed before")
         self.assertRegex(found.says[-1], r"slept at main.go:\d+ in overdue")
 
     def test_another_deadline(self) -> None:
-        index = index_of(self.recording("net/http.(*Transport).dialConn"))
+        index = run_of(self.recording("net/http.(*Transport).dialConn"))
         self.assertEqual(list(late_answers(index)), [])
-        self.assertFalse(any(is_of_write_timeout(index, call) for call in index.book.calls))
+        self.assertFalse(any(is_of_write_timeout(index, call) for call in index.calls))
 
 
 class Datagrams(unittest.TestCase):
     def test_one_that_was_read_and_not_answered(self) -> None:
         recording = stored("dropped-bad")
-        index = index_of(recording)
+        index = run_of(recording)
         (call,) = [call for call in index.by_goroutine[0] if call.name == "Read" and not call.last]
         self.assertRegex(
             dropped_datagram(index, replace(call, last=recording.length))[0],
@@ -218,8 +218,8 @@ class Deferred(unittest.TestCase):
     def test_the_line_that_defers_a_cancel_and_the_one_that_makes_the_context(self) -> None:
         recording = stored("cancelled-bad")
         recording.lines.written = float("inf")
-        index = index_of(recording)
-        found = (cancel_before(index, call.first) for call in index.book.calls if call.name == "Close")
+        index = run_of(recording)
+        found = (cancel_before(index, call.first) for call in index.calls if call.name == "Close")
         cancel = next(one for one in found if one)
         with in_the_folder_of_the_source(source_of("cancelled")):
             self.assertRegex(

@@ -7,7 +7,6 @@ import pytest
 
 from netrev.findings.causes import leftovers  # fmt: skip
 from netrev.findings.datagrams import cut_datagrams  # fmt: skip
-from netrev.findings.evidence.index import Index
 from netrev.findings.evidence.need import Certainty
 
 from netrev.findings.handovers import dropped_notices  # fmt: skip
@@ -18,7 +17,9 @@ from netrev.findings.source import locks, package as package_source, functions a
 from netrev.findings.streams import unfinished_replies, unused_sockets  # fmt: skip
 from netrev.recording.call import OPEN
 from netrev.recording.goroutines import FOR_ROOM, FOR_VALUE
+from netrev.recording.waits import Name
 from netrev.recording.where import OF_GO, OF_THE_PROGRAM, SourceCall
+from netrev.run.index import RunIndex
 
 Patch = pytest.MonkeyPatch
 
@@ -62,7 +63,7 @@ def test_several_goroutines_have_waited_for_a_condition(waits: str, have: bool, 
 def test_the_last_line_before_a_read_that_makes_its_buffer(line: int, made: str, monkeypatch: Patch) -> None:
     monkeypatch.setattr(cut_datagrams, "text_at", lambda recording, call: "\tn, _, err := c.ReadFrom(buf)")
     monkeypatch.setattr(cut_datagrams, "found_in", lambda recording, call, makes: [(3, None), (7, None), (10, None)])
-    index = cast(Index, Made(recording=stacks(line_of(line))))
+    index = cast(RunIndex, Made(recording=stacks(line_of(line))))
     assert cut_datagrams.buffer_place(index, cast(Any, Made(first=5))) == made
 
 
@@ -125,7 +126,7 @@ def test_the_bytes_that_calls_of_a_name_moved_up_to_a_step(until: int, moved: in
     rows = [("Read", 1, 7), ("Read", 9, 2), ("Read", 5, None), ("Read", 0, 40), ("Write", 3, 80)]
     calls = [Made(name=name, last=last, moved=count) for name, last, count in rows]
     index = cast(Any, Made(by_socket={3: calls}))
-    assert Index.moved(index, 3, "Read", until) == moved and Index.moved(index, 4, "Read", until) == 0
+    assert RunIndex.moved(index, 3, "Read", until) == moved and RunIndex.moved(index, 4, "Read", until) == 0
 
 
 @pytest.mark.parametrize(
@@ -170,8 +171,8 @@ def test_the_close_after_a_request_was_cancelled(
     monkeypatch.setattr(http_requests, "name_of_goid", lambda lines, goid: goid)
     calls = [Made(name="Close", socket=socket, first=step) for step in closes for socket in (8, 2)]
     calls.append(Made(name="Read", socket=2, first=11))
-    index = Made(recording=Made(lines=Made(stacks={0: None})), by_goroutine={1: calls})
-    name = Made(is_goid=False, number=1)
+    name = Name(1)
+    index = Made(recording=Made(lines=Made(stacks={0: None})), calls_of={name: calls}.get)
     every = [Made(goid=7, time=time, name=name, socket=socket) for time, socket in ((3, 4), (5, 2), (20, 6))]
     close = Made(begin=20, last=9, goid=1, stack=0)
     found = list(http_requests.cancelled(cast(Any, index), cast(Any, every), cast(Any, Made(goid=7)), cast(Any, close)))
@@ -286,7 +287,7 @@ def test_a_goroutine_that_has_answered_and_reads_where_nothing_may_come(
         Made(name=case.last, goroutine=case.by, last=5, moved=4), Made(name="Read", goroutine=1, last=0, moved=4),
         Made(name="Read", goroutine=1, last=6, moved=0), Made(name="Control", goroutine=1, last=7, moved=1),
     ]  # fmt: skip
-    monkeypatch.setattr(wait_graph, "index_of", lambda recording: Made(by_socket={3: [] if case.none else calls}))
+    monkeypatch.setattr(wait_graph, "run_of", lambda recording: Made(by_socket={3: [] if case.none else calls}))
     call = None if "call" in change else Made(name=case.reads, socket=3, goroutine=1)
     own = Made(
         waiters={"a": Made(call=call)},
@@ -508,7 +509,7 @@ def test_a_reply_that_is_not_whole(change: dict[str, Any], says: bool, monkeypat
     monkeypatch.setattr(unfinished_replies, "ways_words", lambda file, ways: "a.go:6 goes on")
     last = {4: wrote, 2: asked}
     index = Made(
-        recording=None, last_use=lambda socket, position, names: last[socket], inside=lambda goroutine, at: now
+        recording=None, last_use=lambda socket, position, names: last[socket], call_at=lambda goroutine, at: now
     )
     found = unfinished_replies.unfinished_reply(cast(Any, index), cast(Any, Made(socket=2, goroutine=1)), 4, 20)
     where = "at a.go:8 in menu, in the loop at a.go:4, where a.go:6 goes on without a.go:8, which writes."

@@ -15,7 +15,6 @@ from dev.fuzz.generators.injections import Traffic
 from netrev.findings.causes import errors_table, first_words
 from netrev.findings.causes.failing import cause_of
 from netrev.findings.causes.tables import hangs_table
-from netrev.findings.evidence.index import index_of
 from netrev.findings.evidence.words import duration
 from netrev.findings.source.source import behind
 from netrev.findings.streams.unpassed_ends import SETTLED
@@ -25,6 +24,7 @@ from netrev.findings.suspects.rules_of_calls.left_open import SINCE
 from netrev.findings.suspects.rules_of_calls.timeout_again import MANY
 from netrev.recording.recording import Recording
 from netrev.recording.where import SourceLines
+from netrev.run.index import run_of
 from tests.suspects.test_suspects import OPEN, Steps, recording_of
 from tests.trials.go_caused import NAMES, SOURCE, bug_line, source_of
 
@@ -226,8 +226,8 @@ class Causes(unittest.TestCase):
     def test_under_a_deadline_are_the_calls_that_ended_since_it_was_set(self) -> None:
         found = 0
         for seed in range(5):
-            index = index_of(Recording(Traffic(seed, None, 800).run().text()))
-            for call in index.book.calls:
+            index = run_of(Recording(Traffic(seed, None, 800).run().text()))
+            for call in index.calls:
                 same_side = [one for one in index.by_socket[call.socket] if one.name == call.name]
                 under = [one for one in same_side if call.cause < one.last <= call.first]
                 self.assertEqual(index.under_its_deadline(call), under)

@@ -8,7 +8,6 @@ from pathlib import Path
 import pytest
 
 from netrev.findings.causes.first import first_words
-from netrev.findings.evidence.index import index_of
 from netrev.findings.evidence.need import Need
 from netrev.findings.evidence.waiters import Waiter
 from netrev.findings.hangs.chains import is_elsewhere, is_still_so
@@ -20,6 +19,7 @@ from netrev.recording.goroutines import A_VALUE, FOR_VALUE, PUT, TOOK, At
 from netrev.recording.recording import Recording
 from netrev.recording.waits import Name, ObjectWait
 from netrev.recording.where import OF_THE_PROGRAM, SourceCall, Stack
+from netrev.run.index import run_of
 from tests.hangs.test_needs import stored, use
 from tests.trials.go_caused import CHAINS, NAMES, bug_line
 
@@ -91,15 +91,13 @@ def test_what_was_put_into_a_channel_later_counts_not_yet(what: str, position: i
     recording.lines.uses[1] = [use(7, what, 0)]  # after step 1
     wait = ObjectWait(Name(0), 0, None, A_VALUE, Stack((), None), None, (At(1, FOR_VALUE),))
     waiter = Waiter(wait.name, 0, wait.stack, None, wait)
-    assert is_still_so(index_of(recording), waiter, position) is is_so
+    assert is_still_so(run_of(recording), waiter, position) is is_so
 
 
 def test_a_goroutine_that_used_the_other_end_and_waits_at_another_connection_is_elsewhere() -> None:
-    index = index_of(stored("probed-bad"))
-    failed = next(call for call in index.book.calls if call.outcome is Outcome.TIMED_OUT)
-    other = next(
-        call for call in index.book.calls if call.socket not in (failed.socket, index.other_end(failed.socket))
-    )
+    index = run_of(stored("probed-bad"))
+    failed = next(call for call in index.calls if call.outcome is Outcome.TIMED_OUT)
+    other = next(call for call in index.calls if call.socket not in (failed.socket, index.other_end(failed.socket)))
     used, opened = "{by} wrote to the other end last", "perhaps {by} should use the other end"
     for call, how, is_so in ((other, used, True), (failed, used, False), (other, opened, False)):
         waiter = Waiter(Name(call.goroutine), call.first, Stack((), None), call)
@@ -190,7 +188,7 @@ def test_channels_of_a_function_alone(tmp_path: Path, line: str, is_so: bool) ->
     recording = stored("fanned-bad")
     recording.lines.written = float("inf")
     made = SourceCall("main.first", str(file), 2, OF_THE_PROGRAM)
-    assert is_local(index_of(recording), made) is is_so
+    assert is_local(run_of(recording), made) is is_so
 
 
 def edited(recording: Recording, folder: Path, line: str, new: str) -> str:

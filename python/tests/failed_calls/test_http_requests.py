@@ -8,10 +8,10 @@ from typing import Any, Callable
 
 from dev.recorder.suites import SAMPLES
 from netrev.findings.causes import errors_table, first_words, requests_table
-from netrev.findings.evidence.index import index_of
 from netrev.findings.http.requests import cancelled_requests, requests_of
 from netrev.recording.goroutines import CLOSED
 from netrev.recording.recording import Recording
+from netrev.run.index import run_of
 
 CAUSED = pathlib.Path(__file__).parents[1] / "caused"
 SOURCE = SAMPLES / "requests" / "main.go"
@@ -32,7 +32,7 @@ def says_with(change: Callable[[Any], None]) -> list[str]:
     """The text about the requests that ended, with changed lines."""
     changed = recording()
     change(changed.lines)
-    return [" ".join(one.says(changed)) for one in cancelled_requests(index_of(changed))]
+    return [" ".join(one.says(changed)) for one in cancelled_requests(run_of(changed))]
 
 
 class Requests(unittest.TestCase):
@@ -52,7 +52,7 @@ class Requests(unittest.TestCase):
         loop = {use.goid for uses in lines.uses.values() for use in uses if use.what == "took"} - {1}
         for number, uses in lines.uses.items():
             lines.uses[number] = [*uses, *(use._replace(goid=max(loop) + 1) for use in uses if use.goid in loop)]
-        self.assertEqual(requests_of(index_of(changed)), [])
+        self.assertEqual(requests_of(run_of(changed)), [])
 
     def test_without_lines_nothing_is_said(self) -> None:
         table = requests_table(Recording((CAUSED / "requests.jsonl").read_bytes()))

@@ -8,7 +8,6 @@ import pytest
 
 from netrev.findings.causes.first import failures_of, first_words, hangs_of, opening_words
 from netrev.findings.evidence.deadlines_ahead import deadline_ahead
-from netrev.findings.evidence.index import index_of
 from netrev.findings.evidence.need import Certainty, Need
 from netrev.findings.evidence.waiters import Waiter
 from netrev.findings.hangs.hang_words import hang_says
@@ -18,6 +17,7 @@ from netrev.recording.goroutines import CLOSED, PUT
 from netrev.recording.recording import Recording
 from netrev.recording.waits import Name, ObjectWait
 from netrev.recording.where import Stack
+from netrev.run.index import run_of
 from tests.hangs.test_needs import stored
 from tests.suspects.test_suspects import Steps
 from tests.trials.go_caused import JOINS, NAMES, bug_line
@@ -178,7 +178,7 @@ def test_calls_with_a_deadline_are_no_deadlock(sets: Steps, is_timed: bool) -> N
     graph = graph_of(with_lines(TWO_ENDS + sets + writes(0) + writes(1)))
     (hang,) = graph.shown
     first, *says = hang_says(graph, hang)
-    ahead = deadline_ahead(index_of(graph.recording), hang.until, graph.position) if hang.until else None
+    ahead = deadline_ahead(run_of(graph.recording), hang.until, graph.position) if hang.until else None
     assert (ahead is not None) is is_timed
     if is_timed:
         assert first == "Two calls wait for one another until the deadline of the Write at a.go:1 passes."

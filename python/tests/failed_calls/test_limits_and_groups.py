@@ -7,7 +7,6 @@ import unittest
 from typing import Any
 
 from netrev.findings.causes.failing import causes_of
-from netrev.findings.evidence.index import index_of
 from netrev.findings.evidence.responses import contains
 from netrev.findings.evidence.waiters import Waiter
 from netrev.findings.http.cancels import Cancel, cancel_says
@@ -16,6 +15,7 @@ from netrev.findings.locks.groups import Groups
 from netrev.recording.goroutines import GoGoroutine
 from netrev.recording.waits import Name, waits_of
 from netrev.recording.where import SourceLines, Stack
+from netrev.run.index import run_of
 from tests.hangs.test_needs import line
 from tests.suspects.test_suspects import OPEN
 
@@ -69,7 +69,7 @@ class OfClients(unittest.TestCase):
         timer = next(one for one in lines.timers[0] if contains(lines.stacks[one.stack], CLIENT_TIMEOUT))
         lines.timers[0] += [timer._replace(time=timer.time - time, due=timer.due - due) for time, due in earlier]
         use = next(use for uses in lines.uses.values() for use in uses)
-        return cancel_says(index_of(made), Cancel(1, use, [timer]))
+        return cancel_says(run_of(made), Cancel(1, use, [timer]))
 
     def test_what_a_redirect_left_is_no_limit(self) -> None:
         begins = r"had found that the Timeout of an http.Client had passed; the request began at main.go:\d+ in \w+ "
@@ -104,7 +104,7 @@ class OfGroups(unittest.TestCase):
         made.lines.goroutines.update(
             {goid: GoGoroutine(goid, -1, go, maker, 0, -1, 0, -1) for goid, maker in [(7, maker), *others]}
         )
-        groups = Groups(index_of(made), waits_of(made), [(name, stack) for name in names], made.length)
+        groups = Groups(run_of(made), waits_of(made), [(name, stack) for name in names], made.length)
         for name in (names[0], names[waiter]):
             need = groups.of(Waiter(name, 1, stack), (), lambda name: "waits for nothing")
         return " ".join(need.says) if need else ""

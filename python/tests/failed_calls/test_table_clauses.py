@@ -12,6 +12,7 @@ from netrev.findings.handovers import ended_hands
 from netrev.recording.goroutines import FOR_ROOM, FOR_VALUE, PUT, TOOK, At, ObjectUse
 from netrev.recording.waits import Name, ObjectWait
 from netrev.recording.where import OF_A_LIBRARY, OF_THE_PROGRAM, Stack
+from netrev.run.index import RunIndex
 
 from .test_cause_boundaries import line_of
 
@@ -30,7 +31,9 @@ def test_the_failed_calls_of_a_table(most: int | None, shown: str, rest: str, of
     error, fine = Made(is_error=True), Made(is_error=False)
     calls = [Made(last=last, outcome=error, go=False) for last in (3, 5, 0, 8, 9, 12)]
     calls += [Made(last=4, outcome=fine, go=False), *[Made(last=4, outcome=error, go=True)] * of_go]
-    monkeypatch.setattr(tables, "book_of", lambda recording: Made(calls=calls))
+    run = RunIndex(cast(Any, None))
+    run.__dict__["_book"] = Made(calls=calls)
+    monkeypatch.setattr(tables, "run_of", lambda recording: run)
     monkeypatch.setattr(tables, "is_by_go", lambda recording, call: call.go)
     monkeypatch.setattr(tables, "call_row", lambda recording, call, position: f"{call.last}")
     monkeypatch.setattr(tables, "later_row", lambda recording, call: f"later{call.last}")

@@ -17,7 +17,7 @@ from xml.etree import ElementTree
 
 import pytest
 from dev.fuzz.generators.logs import binary
-from netrev.findings.finding import Finding, Kind as FindingKind
+from netrev.findings.finding import Finding, Kind as FindingKind, Place, Sentence, sentences_of
 from netrev.recording.where import SourceLines
 from netrev_go import cli
 from netrev_go.cli import ExitStatus
@@ -184,7 +184,8 @@ class Cutting(unittest.TestCase):
 
 
 SUSPECTED = Shown(
-    Finding(FindingKind.SUSPECT, ("lost wake-up: 100%: step 3, so",)), ["1. lost wake-up: 100%: step 3, so"]
+    Finding(FindingKind.SUSPECT, (Sentence("lost wake-up: 100%: step 3, so"),)),
+    [Sentence("1. lost wake-up: 100%: step 3, so")],
 )
 
 
@@ -274,9 +275,8 @@ class Kept(Tested):
 
     def test_each_form_is_read_as_its_consumer_does(self) -> None:
         printed = ["x: ok 9 steps", "  a/b.go:7: net.Dial waits to read", "    1. lost wake-up: 100%: step 3, so"]
-        wait = Shown(
-            Finding(FindingKind.WAIT, ("a/b.go:7: net.Dial waits to read",)), ["a/b.go:7: net.Dial waits to read"]
-        )
+        sentence = Sentence("a/b.go:7: net.Dial waits to read", Place("a/b.go", 7))
+        wait = Shown(Finding(FindingKind.WAIT, (sentence,)), [sentence])
         said = Conversion(True, printed, shown=[wait, SUSPECTED])
         with mock.patch.object(converting, "report", lambda *_: said):
             _, out, _ = self.told("--json", "a.json", "--junit", "a.xml", "--github", "test", ".")
@@ -386,8 +386,10 @@ class Forms(unittest.TestCase):
 
     def test_a_long_line_is_searched_in_no_time(self) -> None:
         begin = time.process_time()
-        lines = Shown(Finding(FindingKind.HANG, ()), ["x" * 100_000, "a.go:7"])
-        self.assertEqual(forms.causes_in([lines]), [Cause("a.go", 7, "a.go:7")])
+        lines = SourceLines()
+        lines._add({"call": 1, "function": "main.f", "file": "a.go", "line": 3, "of": "program"})
+        shown = Shown(Finding(FindingKind.HANG, ()), sentences_of(lines, ["x" * 100_000, "ba.go:9, a.go:7 and a.go:8"]))
+        self.assertEqual(forms.causes_in([shown]), [Cause("a.go", 7, "ba.go:9, a.go:7 and a.go:8")])
         self.assertLess(time.process_time() - begin, 5)
 
     def test_of_several_runs_it_is_said_in_how_many_it_failed(self) -> None:

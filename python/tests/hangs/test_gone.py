@@ -11,7 +11,6 @@ from netrev.findings.causes import first_words
 from netrev.findings.causes.first import failures_of, has_to_do_with, in_order
 from netrev.findings.datagrams.unheard import is_same, unheard
 from netrev.findings.evidence.ended_goroutines import leaves_of
-from netrev.findings.evidence.index import index_of
 from netrev.findings.evidence.ledger import Ledger
 from netrev.findings.handovers.dropped_answers import conditions_round, defaults_behind
 from netrev.findings.handovers.dropped_requests import dropped_request
@@ -28,6 +27,7 @@ from netrev.recording.goroutines import ADDED, DONE, FOR_VALUE, PUT, TOOK, At, G
 from netrev.recording.recording import Recording
 from netrev.recording.waits import Name, ObjectWait, waits_of
 from netrev.recording.where import SourceCall, SourceLines, Stack
+from netrev.run.index import run_of
 from netrev_go.log.beside import GOES_TO, OF_DATAGRAMS, Beside, address_words
 from netrev_go.log.points import Point, PointKind
 from tests.failed_calls.test_causes import TWO_ENDS, in_the_folder_of_the_source, with_lines
@@ -295,7 +295,7 @@ def test_a_datagram_from_another_address(peer: str, is_heard: bool) -> None:
     addresses = recording.lines.addresses
     own, connected = addresses[2]
     addresses[2] = own, {"": "", "the sender's": addresses[1][0], "another": connected}[peer]
-    index = index_of(recording)
+    index = run_of(recording)
     (call,) = [one for one in index.by_socket[2] if one.name == "Read"]
     assert (unheard(index, call, recording.length) is None) == is_heard
 
@@ -333,7 +333,7 @@ def test_lines_of_addresses(text: str, is_good: bool) -> None:
 @pytest.mark.parametrize("has_written", [False, True])
 def test_a_request_that_was_written(has_written: bool) -> None:
     recording = stored("reread-bad")
-    index = index_of(recording)
+    index = run_of(recording)
     (unsent,) = unsent_requests(index)
     assert unsent.before
     if has_written:
@@ -436,7 +436,7 @@ def test_a_request_that_another_goroutine_wrote() -> None:
     recording = stored("unmatched-bad")
     with in_source(recording):
         wait = main_wait(graph_at(recording, recording.length))
-        index = index_of(recording)
+        index = run_of(recording)
         wrote = next(one for one in reversed(index.by_goroutine[0]) if one.name == "Write")
         lines, step = recording.lines, wrote.first - 1
         lines.stacks[10_000] = wait.stack

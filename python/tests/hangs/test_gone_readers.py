@@ -6,7 +6,6 @@ from typing import Any
 
 from netrev.findings.causes.leftovers import leftovers_of
 from netrev.findings.evidence.asked import read_sizes_of
-from netrev.findings.evidence.index import index_of
 from netrev.findings.evidence.waiters import waiters_at
 from netrev.findings.hangs.hang_words import reader_words
 from netrev.findings.streams.exchanges import begin_of_full, lacking
@@ -14,6 +13,7 @@ from netrev.findings.streams.gone_readers import gone_readers
 from netrev.recording.goroutines import GoGoroutine
 from netrev.recording.recording import Recording
 from netrev.recording.waits import Name
+from netrev.run.index import run_of
 from tests.failed_calls.test_causes import GETS, TWO_ENDS, UNLOCKS, with_lines
 
 from .test_needs import put, stored
@@ -35,7 +35,7 @@ def recording_of(steps: list[Any], ended: int = ENDED) -> Recording:
 class GoneReaders(unittest.TestCase):
     def found(self, steps: list[Any], ended: int = ENDED) -> int:
         recording = recording_of(steps, ended)
-        return sum(one.write is not None for one in gone_readers(index_of(recording), recording.length))
+        return sum(one.write is not None for one in gone_readers(run_of(recording), recording.length))
 
     def test_bytes_that_come_after_its_end(self) -> None:
         recording = recording_of([*READS, *put(1, "6869")])
@@ -58,18 +58,18 @@ class GoneReaders(unittest.TestCase):
 
     def test_it_is_said_of_a_hang_of_the_goroutine_that_wrote_there(self) -> None:
         recording = recording_of([*READS, *put(0, "6869"), *put(1, "6869")])
-        index = index_of(recording)
+        index = run_of(recording)
         self.assertRegex(reader_words(index, {Name(0)}, recording.length)[0], r"^Nobody reads on socket 0 any more: ")
         self.assertEqual(reader_words(index, {Name(1)}, recording.length), [])
 
     def test_it_is_said_of_a_hang_also_if_nothing_came_since(self) -> None:
         recording = recording_of([*READS, *put(0, "6869")])
-        self.assertEqual(len(reader_words(index_of(recording), {Name(0)}, recording.length)), 2)
+        self.assertEqual(len(reader_words(run_of(recording), {Name(0)}, recording.length)), 2)
         self.assertEqual([one.says for one in leftovers_of(recording) if "nobody reads" in one.says[0]], [])
 
     def test_its_number_may_be_another_s_since_then(self) -> None:
         recording = recording_of([*READS, *put(1, "6869")])
-        lines, index = recording.lines, index_of(recording)
+        lines, index = recording.lines, run_of(recording)
         self.assertGreater(len(index.by_goid(READER)), 0)
         lines.add_owners([[1, 0, READER], [1, ENDED, READER + 1]])
         lines.goroutines[READER + 1] = GoGoroutine(READER + 1, 1, None, 0, 0, -1, 0, 0)
@@ -83,7 +83,7 @@ class GoneReaders(unittest.TestCase):
 class CutReads(unittest.TestCase):
     def test_the_next_read_says_how_many_bytes_one_got(self) -> None:
         recording = stored("longer-bad")
-        index, asked = index_of(recording), read_sizes_of(recording)
+        index, asked = run_of(recording), read_sizes_of(recording)
         calls = [one.call for one in waiters_at(index, recording.length).values() if one.call]
         (call,) = [call for call in calls if lacking(index, call, index.other_end(call.socket) or 0)]
         before, other = asked.before(call), index.other_end(call.socket) or 0

@@ -6,7 +6,6 @@ from typing import Optional
 
 import pytest
 
-from netrev.findings.evidence.index import index_of
 from netrev.findings.evidence.need import Certainty, Need
 from netrev.findings.evidence.waiters import Waiter, waiters_at
 from netrev.findings.hangs.needs import Needs
@@ -15,6 +14,7 @@ from netrev.recording.goroutines import A_MUTEX, READ, At, HeldMutex
 from netrev.recording.recording import Recording
 from netrev.recording.waits import Name, ObjectWait
 from netrev.recording.where import OF_GO, SourceCall, Stack
+from netrev.run.index import run_of
 from tests.failed_calls.test_causes import TWO_ENDS, in_the_folder_of_the_source, with_lines
 from tests.trials.go_caused import CHAINS
 
@@ -249,9 +249,9 @@ def test_before_the_end_it_is_guessed() -> None:
     said = dict[int, str]()
     with in_the_folder_of_the_source(CHAINS):
         for position in (recording.length - 1, recording.length):
-            waiters = waiters_at(index_of(recording), position)
+            waiters = waiters_at(run_of(recording), position)
             waiter = next(one for one in waiters.values() if one.wait and one.wait.kind == A_MUTEX)
-            need = Needs(index_of(recording), waiters, position).of(waiter)
+            need = Needs(run_of(recording), waiters, position).of(waiter)
             said[position] = " ".join([*need.says, *need.more])
     assert "without unlocking it" in said[recording.length]
     assert "Perhaps nobody unlocked it: (*meter).count locks it at" in said[recording.length - 1]

@@ -215,7 +215,7 @@ def test_goroutines_that_pass_on_what_they_read(change: dict[str, Any], found: A
 def test_requests_are_listed_with_what_ended_them(monkeypatch: Patch) -> None:
     requests = [Made(name=name, socket=socket, stack=3) for name, socket in ((1, 5), (2, 5), (1, 5), (1, 6))]
     ended = [Made(request=requests[2]), Made(request=requests[3])]
-    for name, value in (("index_of", None), ("requests_of", requests), ("cancelled_requests", ended), ("place_in", "")):
+    for name, value in (("run_of", None), ("requests_of", requests), ("cancelled_requests", ended), ("place_in", "")):
         monkeypatch.setattr(tables, name, lambda *rest, value=value: value)
     monkeypatch.setattr(tables, "request_rows", lambda recording, some, ended: [(some, ended)])
     table = tables.requests_table(NOTHING)
@@ -322,7 +322,7 @@ def test_the_goroutine_that_a_reader_started_to_answer(
 def test_the_last_connect_that_failed(
     failed: list[int], connected: list[int], refused: int | None, monkeypatch: Patch
 ) -> None:
-    monkeypatch.setattr(failed_dials, "index_of", lambda recording: None)
+    monkeypatch.setattr(failed_dials, "run_of", lambda recording: None)
     opens = {2: [Made(first=step) for step in connected], -1: [Made(first=99)]}
     monkeypatch.setattr(failed_dials, "connected_by", lambda index, number: opens[number])
     lines = Made(failed_dials={7: [Made(step=step) for step in failed]}, goroutines={7: Made(number=2)})

@@ -4,7 +4,6 @@ it doesn't apply."""
 import unittest
 from typing import Any
 
-from netrev.findings.evidence.index import index_of
 from netrev.findings.evidence.past_tense import in_the_past
 from netrev.findings.evidence.siblings import odd_goroutines
 from netrev.findings.evidence.waiters import waiters_at
@@ -20,6 +19,7 @@ from netrev.recording.goroutines import FOR_VALUE, PUT, TOOK, At, GoGoroutine, O
 from netrev.recording.recording import Recording
 from netrev.recording.waits import Name
 from netrev.recording.where import OF_THE_PROGRAM, SourceCall as LineCall, SourceLines, Stack
+from netrev.run.index import run_of
 from netrev_go.log.beside import Beside
 from netrev_go.log.points import Point, PointKind
 from tests.failed_calls.test_causes import CAUSED, GETS, TWO_ENDS, UNLOCKS, with_lines
@@ -82,16 +82,16 @@ class Balances(unittest.TestCase):
 
 class Exchanges(unittest.TestCase):
     def test_a_server_that_reads_on_lacks_no_request(self) -> None:
-        index = index_of(stored("unflushed-bad"))
+        index = run_of(stored("unflushed-bad"))
         said = [
             unasked(index, call)
-            for call in index.book.calls
+            for call in index.calls
             if call.name == "Read" and not call.last and not index.is_listening(call)
         ]
         self.assertEqual(sorted(map(len, said)), [0, 1])
 
     def test_a_request_that_is_answered(self) -> None:
-        index = index_of(stored("longer-bad"))
+        index = run_of(stored("longer-bad"))
         reads = [
             call for call in index.by_goroutine[0] if call.name == "Read" and index.other_end(call.socket) is not None
         ]
@@ -101,7 +101,7 @@ class Exchanges(unittest.TestCase):
         self.assertEqual(unanswered(index, reads[-2], other, reads[-2].last), [])
 
     def test_what_a_read_looks_for(self) -> None:
-        index = index_of(stored("relay-bad"))
+        index = run_of(stored("relay-bad"))
         waiting = [one.call for one in waiters_at(index, index.recording.length).values() if one.call]
         words = [says for call in waiting for says in end_says(index, call, 1, index.recording.length)]
         self.assertIn("io.Copy has met no end of the stream: nobody has closed socket 1 for writing.", words)
@@ -134,7 +134,7 @@ class Exchanges(unittest.TestCase):
                 self.assertEqual(bound_says(functions, 4), words)
 
     def test_bytes_that_nobody_reads(self) -> None:
-        index = index_of(with_lines([*TWO_ENDS, *put(0, "6869")]))
+        index = run_of(with_lines([*TWO_ENDS, *put(0, "6869")]))
         self.assertEqual([(one.bytes, one.socket) for one in unread(index, index.recording.length)], [(2, 1)])
         index.recording.lines.bytes = 2
         self.assertEqual(list(unread(index, index.recording.length)), [])
@@ -149,7 +149,7 @@ def put(goroutine: int, text: str) -> list[Any]:
 class Connections(unittest.TestCase):
     def waiting(self, recording: Recording) -> Call:
         """The Read on a connection whose other end isn't known."""
-        index = index_of(recording)
+        index = run_of(recording)
         calls = [one.call for one in waiters_at(index, recording.length).values() if one.call]
         (call,) = [call for call in calls if index.other_end(call.socket) is None]
         return call
@@ -157,7 +157,7 @@ class Connections(unittest.TestCase):
     def test_one_that_nobody_has_accepted(self) -> None:
         recording = stored("queued-bad")
         call = self.waiting(recording)
-        need = unaccepted(index_of(recording), call, recording.length)
+        need = unaccepted(run_of(recording), call, recording.length)
         assert need is not None
         self.assertRegex(
             need.says[0],
@@ -165,12 +165,12 @@ class Connections(unittest.TestCase):
         )
         ends = dict(recording.lines.ends)
         recording.lines.ends.clear()
-        need = unaccepted(index_of(recording), call, recording.length)
+        need = unaccepted(run_of(recording), call, recording.length)
         assert need is not None
         self.assertTrue(need.says[0].startswith("Perhaps nobody has accepted its connection"), need.says)
         own, other = ends[call.socket]
         recording.lines.ends.update({**ends, 99: (other, own)})
-        self.assertIsNone(unaccepted(index_of(recording), call, recording.length))
+        self.assertIsNone(unaccepted(run_of(recording), call, recording.length))
 
     def test_names_of_ends_are_numbered(self) -> None:
         beside = Beside()
@@ -183,10 +183,10 @@ class Connections(unittest.TestCase):
         self.assertTrue(SourceLines(f'{{"where":2,"steps":{steps}}}\n{{"ends":[[1,"1",2]]}}', steps).fault)
 
     def test_dials_that_fail(self) -> None:
-        said = [cause.says for cause in failed_dials(index_of(stored("undone-bad")))]
+        said = [cause.says for cause in failed_dials(run_of(stored("undone-bad")))]
         self.assertEqual(len(said), 1)
         self.assertRegex(said[0][0], r"^Dial at main.go:\d+ in .* failed: socket \d+ was never connected\.$")
-        self.assertEqual(list(failed_dials(index_of(stored("uncounted-bad")))), [])
+        self.assertEqual(list(failed_dials(run_of(stored("uncounted-bad")))), [])
 
 
 class Timed(unittest.TestCase):
@@ -198,7 +198,7 @@ class Timed(unittest.TestCase):
             lines.stacks[2] = Stack((LineCall(function, "time/tick.go", 1, "go"), line(3, "main")), None)
             lines.parks[9] = [Park(9, 1, -1, 100, -1, "a value from a channel", 2, 0, (At(4, FOR_VALUE),))]
             lines.timers[4] = [Timer(4, 9, 2, 1, 1, due)]
-            found = waiters_at(index_of(recording), recording.length)
+            found = waiters_at(run_of(recording), recording.length)
             with self.subTest(function, due=due):
                 self.assertEqual(sum(one.wait is not None for one in found.values()), waits)
 
@@ -212,7 +212,7 @@ class Words(unittest.TestCase):
 
     def test_bytes_that_are_cut(self) -> None:
         recording = with_lines([*TWO_ENDS, *GETS, *UNLOCKS])
-        call = next(one for one in index_of(recording).book.calls if one.name == "Read")
+        call = next(one for one in run_of(recording).calls if one.name == "Read")
         self.assertEqual(result_words(recording, call), "got 2 bytes")
         recording.lines.bytes = 2
         self.assertEqual(result_words(recording, call), "got at least 2 bytes")

@@ -4,7 +4,6 @@ serves the awaited request."""
 import unittest
 
 from netrev.findings.causes.first import left_by
-from netrev.findings.evidence.index import index_of
 from netrev.findings.evidence.need import Certainty, Need
 from netrev.findings.evidence.responses import socket_of
 from netrev.findings.hangs.wait_graph import graph_at
@@ -12,6 +11,7 @@ from netrev.recording.goroutines import FOR_VALUE, PUT, TOOK, At, GoGoroutine, P
 from netrev.recording.recording import Recording
 from netrev.recording.waits import Name, ObjectWait
 from netrev.recording.where import Stack
+from netrev.run.index import run_of
 from tests.failed_calls.test_causes import GETS, TWO_ENDS, UNLOCKS, with_lines
 from tests.suspects.test_suspects import Steps
 
@@ -81,7 +81,7 @@ class EndedWithAFailure(unittest.TestCase):
         lines.uses[4] = [use(GONE, PUT, 3, number=4)]
         lines.goroutines[GONE] = GoGoroutine(GONE, 1, None, 0, 0, ended, 0, 0)
         lines._goids[1] = GONE
-        (call,) = index_of(recording).by_goroutine[1]
+        (call,) = run_of(recording).by_goroutine[1]
         return left_by(graph_at(recording, recording.length), call)
 
     def test_others_wait_for_the_goroutine_of_a_failed_call(self) -> None:
@@ -99,14 +99,14 @@ class Responses(unittest.TestCase):
     def test_a_connection_that_another_goroutine_used_since_is_not_that_of_the_request(self) -> None:
         recording = stored("requests")
         wait = ObjectWait(Name(0), 420, None, "a select", Stack((), None))
-        before = socket_of(index_of(recording), wait, recording.length)
+        before = socket_of(run_of(recording), wait, recording.length)
         first = recording.lines.uses[7]
         put, took = first[0]._replace(goid=99, begin=10**9, end=10**9), first[1]._replace(
             begin=10**9, end=10**9
         )
         self.assertEqual((put.what, took.what), (PUT, TOOK))
         recording.lines.uses[7] = [*first, put, took]
-        self.assertEqual(socket_of(index_of(recording), wait, recording.length), before)
+        self.assertEqual(socket_of(run_of(recording), wait, recording.length), before)
         self.assertIsNotNone(before)
 
 

@@ -15,7 +15,7 @@ from xml.etree import ElementTree
 import pytest
 
 from dev.fuzz.generators.logs import binary
-from netrev.findings.finding import Finding, Kind as FindingKind, SuspectFindings
+from netrev.findings.finding import Finding, Kind as FindingKind, Sentence, SuspectFindings
 from netrev.messages import recorder as messages
 from netrev.recording.recording import NotARecordingError
 from netrev.system.time_limits import LateError
@@ -507,7 +507,7 @@ def report_with(suspects: Callable[[], SuspectFindings]) -> tuple[SuspectFinding
     ],
 )  # fmt: skip
 def test_the_suspects_of_a_report(count: int, rest: str, lines_of_report: list[str]) -> None:
-    findings = [Finding(FindingKind.SUSPECT, ("rule: a\x07",), evidence=("goto 7",))] * count
+    findings = [Finding(FindingKind.SUSPECT, (Sentence("rule: a\x07"),), evidence=("goto 7",))] * count
     found = SuspectFindings(findings, rest)
     assert report_with(lambda: found) == (found, lines_of_report)
 
@@ -516,7 +516,8 @@ def test_the_suspects_of_a_report(count: int, rest: str, lines_of_report: list[s
     "count, details, shown", [(0, 0, []), (1, 0, [2]), (7, 0, [2] * 6), (2, 9, [11, 1]), (3, 12, [12])]
 )
 def test_a_report_has_few_lines_about_suspects(count: int, details: int, shown: list[int]) -> None:
-    findings = [Finding(FindingKind.SUSPECT, ("a",), evidence=("goto 7",), details=("netrev: x",) * details)] * count
+    more = (Sentence("netrev: x"),) * details
+    findings = [Finding(FindingKind.SUSPECT, (Sentence("a"),), evidence=("goto 7",), details=more)] * count
     assert [len(lines) for _, lines in report.shown_suspects(findings)] == shown
     _, lines = report_with(lambda: SuspectFindings(findings, ""))
     assert len(lines) == sum(shown) + (count > 0)

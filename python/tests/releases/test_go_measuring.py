@@ -14,7 +14,7 @@ from dev.recorder import building, costs, fetching, real, suites
 from dev.recorder.readiness import Readiness
 from dev.recorder.results import read_results
 from dev.recorder.suites import Sample, Suite
-from netrev.findings.finding import Finding, Kind, SuspectFindings
+from netrev.findings.finding import Finding, Kind, Sentence, SuspectFindings
 from netrev_go.go_command import toolchain
 from netrev_go.go_command.toolchain import Go, RecorderError
 from tests.support.folders import folder_of
@@ -67,7 +67,7 @@ class Suspects:
     """Stands in for the analysis of each recording, and finds suspects with these sentences."""
 
     def __init__(self, *sentences: str) -> None:
-        self.findings = [Finding(Kind.SUSPECT, (sentence,)) for sentence in sentences]
+        self.findings = [Finding(Kind.SUSPECT, (Sentence(sentence),)) for sentence in sentences]
 
     def __call__(self, netrev: str, name: pathlib.Path) -> contextlib.nullcontext["Suspects"]:
         return contextlib.nullcontext(self)

@@ -16,7 +16,7 @@ from mutating.topics import OVERRIDES, Test, Topics, digest, read_overrides
 from mutating.trying import all_mutants, drawn
 
 ROOT = Path(__file__).resolve().parents[3]
-HOLDERS = "python/netrev/views/holders.py"
+HOLDERS = "python/netrev/run/searches.py"
 SOURCE = '''
 """A docstring with 1 < 2."""
 MOST = 3
@@ -65,7 +65,7 @@ def test_a_draw_is_of_its_seed_and_has_each_kind() -> None:
     mutants = list(
         all_mutants(
             ROOT,
-            ["python/netrev/views/holders.py", "python/netrev/run/timers.py", "python/netrev_go/steps/converter.py"],
+            ["python/netrev/run/searches.py", "python/netrev/run/timers.py", "python/netrev_go/steps/converter.py"],
         )
     )
     first, second = ([mutant.name() for mutant in drawn(mutants, 25, seed)] for seed in (1, 2))

@@ -5,7 +5,6 @@ import unittest
 from typing import Any
 
 from netrev.findings.causes import first_words
-from netrev.findings.evidence.index import index_of
 from netrev.findings.evidence.waiters import waiters_at
 from netrev.findings.evidence.words import place_of_step, since_begin
 from netrev.findings.handovers.givers import only_itself, untouched
@@ -14,6 +13,7 @@ from netrev.recording.goroutines import FOR_ROOM, At, ObjectUse
 from netrev.recording.recording import Recording
 from netrev.recording.waits import Name, ObjectWait
 from netrev.recording.where import Stack
+from netrev.run.index import run_of
 from tests.failed_calls.test_causes import READS_ON, TWO_ENDS, with_lines
 
 NOBODY_WROTE = "Nobody has written anything on this connection"
@@ -30,7 +30,7 @@ class Before(unittest.TestCase):
     def said(self, begins: int) -> str:
         """nrdb's text about a Read that still waits when the recording ends. No goroutine has written to its other end."""
         recording = begun(begins, [*TWO_ENDS, *READS_ON])
-        index = index_of(recording)
+        index = run_of(recording)
         (call,) = [one.call for one in waiters_at(index, recording.length).values() if one.call]
         (says,) = end_says(index, call, 0, recording.length)
         return says

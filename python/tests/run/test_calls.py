@@ -10,8 +10,8 @@ from dev.fuzz.generators.little_go import Turns
 from netrev.findings.causes import errors_table
 from netrev.recording.call import Call, Outcome
 from netrev.recording.recording import Recording
-from netrev.run.calls import book_of
-from netrev.views.following import GOALS, NoDestinationError, Subject, calls_table, goroutine_at, steps_table
+from netrev.run.index import run_of
+from netrev.views.calls import GOALS, NoDestinationError, Subject, calls_table, goroutine_at, steps_table
 
 SEEDS = range(300, 312)
 LENGTH = 1_500
@@ -93,7 +93,7 @@ class Calls(unittest.TestCase):
         for seed in SEEDS:
             traffic = Telling(seed)
             traffic.run()
-            found = {call.first: call for call in book_of(Recording(traffic.text())).calls}
+            found = {call.first: call for call in run_of(Recording(traffic.text())).calls}
             for made in traffic.told:
                 with self.subTest(seed=seed, step=made.first):
                     self.compare(found.get(made.first), made)

@@ -18,7 +18,7 @@ from netrev.recording.recording import NotARecordingError, check_size
 from netrev.run import calls
 from netrev.run.calls import Book
 from netrev.session import text_hints
-from netrev.views import groups
+from netrev.views import goroutines
 from nrdb import cli
 
 Patch = pytest.MonkeyPatch
@@ -213,4 +213,4 @@ def test_a_failed_check_ends_the_innermost_call(monkeypatch: Patch) -> None:
     ],
 )  # fmt: skip
 def test_goroutines_in_a_row_are_a_range_and_eight_ranges_are_shown(numbers: list[int], text: str) -> None:
-    assert groups._runs(numbers) == text
+    assert goroutines._runs(numbers) == text

@@ -2,8 +2,8 @@
 
 import pytest
 from netrev.recording.recording import Recording
-from netrev.run.returns import function_at
-from netrev.views.following import Goal, NoDestinationError, finish_goal
+from netrev.run.index import run_of
+from netrev.views.calls import Goal, NoDestinationError, finish_goal
 from tests.failed_calls.test_causes import CAUSED
 from tests.support.examples import EXAMPLES
 
@@ -15,7 +15,7 @@ STEP_OUTSIDE = 98
 
 @pytest.mark.parametrize(("position", "function"), [(67, "main.ask"), (97, "main.ask"), (63, "main.pool.func1")])
 def test_between_calls_it_goes_on_to_the_first_step_outside_of_the_function(position: int, function: str) -> None:
-    assert function_at(POOL, 0, position) == function
+    assert run_of(POOL).function_at(0, position) == function
     assert finish_goal(POOL, 0, position) == Goal(STEP_OUTSIDE - 1)
 
 

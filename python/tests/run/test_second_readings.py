@@ -13,15 +13,15 @@ from netrev.machine.machine import World
 from netrev.machine.steps import apply
 from netrev.recording.notes import Use
 from netrev.recording.recording import Recording
-from netrev.run.calls import book_of
 from netrev.run.changes import changes_of
+from netrev.run.index import run_of
 from netrev.run.notes import Notes
+from netrev.run.searches import holders_of
 from netrev.run.timers import timers_of
 from netrev.text.contents import Contents as Text, Limits
 from netrev.text.reading import read_text
 from netrev.text.vocabulary import KINDS, OF_A_GOROUTINE
 from netrev.text.writing import write_plain
-from netrev.views.holders import holders_of
 from netrev_go.steps.making import NewRecording as Made, NothingRecordedError, make
 from tests.support.modelled import changes_in
 from tests.suspects.test_suspects import OPEN, recording_of
@@ -131,7 +131,7 @@ def test_calls_are_those_that_goroutines_made(seed: int) -> None:
     step_of = {point.number: step for (point, _), step in zip(made.points, made.ended)}
     socket_of = {point.number: socket.number for point, socket in made.points}
     known = [one for one in sorted(program.calls, key=lambda one: one.first) if one.first in step_of]
-    found = [call for call in book_of(Recording(text_of(made))).calls if call.name != "Open"]
+    found = [call for call in run_of(Recording(text_of(made))).calls if call.name != "Open"]
     assert len(found) == len(known)
     for call, one in zip(found, known):
         expected = made.numbers[one.goroutine], one.name, socket_of[one.fd.first], step_of[one.first], one.moved
@@ -141,7 +141,7 @@ def test_calls_are_those_that_goroutines_made(seed: int) -> None:
         assert call.last == step_of[one.last] if one.last >= 0 else call.last in (0, newest)
         assert one.is_in_doubt or one.last < 0 or call.outcome.value == one.outcome
     sleeps = sleeps_of(made)
-    for call in book_of(Recording(text_of(made))).calls:
+    for call in run_of(Recording(text_of(made))).calls:
         own = [one for at, g, *one in sleeps if g == call.goroutine and call.first < at <= (call.last or at)]
         assert [call.waited, call.slept] == [sum(steps for steps, _ in own), sum(time for _, time in own)]
 
@@ -348,5 +348,5 @@ def test_each_step_is_of_the_socket_that_it_names(seed: int) -> None:
         if g >= 0 and (s, d) != (-1, -1):
             named[g] = s, d
         expected.append((g, s, d))
-    whose = book_of(recording).whose
+    whose = run_of(recording).owners
     assert [*zip(whose.goroutines, whose.sockets, whose.descriptors)][: len(expected)] == expected

@@ -4,10 +4,10 @@ the two ends of one connection."""
 import pytest
 
 from netrev.findings.datagrams.cut_datagrams import cut_datagrams
-from netrev.findings.evidence.index import index_of
 from netrev.findings.evidence.sizes import are_known, moved_at, size_of
 from netrev.recording.recording import Recording
 from netrev.recording.where import SourceLines
+from netrev.run.index import run_of
 from netrev_go.log.beside import OF_UNIX, Beside
 from netrev_go.log.points import Point, PointKind
 from tests.hangs.test_needs import stored
@@ -31,21 +31,21 @@ def test_unix_sockets_of_one_connection(order: str, peers: list[tuple[int, int]]
 
 def calls_of(recording: Recording, name: str) -> list[int]:
     """The sizes of the calls with this name on the sockets of a recording, in order."""
-    index = index_of(recording)
-    return [size_of(index, call) for call in index.book.calls if call.name == name and call.moved]
+    index = run_of(recording)
+    return [size_of(index, call) for call in index.calls if call.name == name and call.moved]
 
 
 def test_sizes_are_those_that_were_moved() -> None:
     recording = stored("partly-bad")
-    index = index_of(recording)
-    wrote = next(call for call in index.book.calls if call.name == "Write" and call.moved)
+    index = run_of(recording)
+    wrote = next(call for call in index.calls if call.name == "Write" and call.moved)
     assert are_known(index) and (wrote.moved, size_of(index, wrote)) == (64, 1 << 20)
     assert moved_at(index, wrote.socket, "Write", recording.length) == 1 << 20
     assert moved_at(index, wrote.socket, "Write", wrote.last - 1) == 0
     recording.lines.sizes.clear()
     again = stored("partly-bad")
     again.lines.sizes.clear()
-    index = index_of(again)
+    index = run_of(again)
     assert not are_known(index) and max(calls_of(again, "Write")) == 64
 
 
@@ -57,16 +57,16 @@ def test_lines_of_sizes(text: str, is_good: bool) -> None:
 
 
 def test_datagrams_that_were_cut() -> None:
-    index = index_of(stored("datagram-bad"))
+    index = run_of(stored("datagram-bad"))
     found = [(size_of(index, one.write), size_of(index, one.read)) for one in cut_datagrams(index)]
     assert found == [(20, 16)]
-    assert not cut_datagrams(index_of(stored("datagram-good")))
+    assert not cut_datagrams(run_of(stored("datagram-good")))
 
 
 def test_datagrams_of_which_one_was_lost_are_no_pairs() -> None:
     recording = stored("datagram-bad")
-    index = index_of(recording)
-    first = next(call for call in index.book.calls if call.name == "Write" and call.moved)
+    index = run_of(recording)
+    first = next(call for call in index.calls if call.name == "Write" and call.moved)
     index.by_socket[first.socket].remove(first)  # as if it belonged to another socket
     cut_datagrams.cache_clear()
     assert not cut_datagrams(index)

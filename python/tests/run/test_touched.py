@@ -6,10 +6,9 @@ from collections import Counter
 from dev.fuzz.generators.injections import Bug, Traffic
 from dev.fuzz.generators.random_steps import Author
 from netrev.recording.recording import Recording
-from netrev.run.calls import book_of
 from netrev.run.changes import PlayedSteps
+from netrev.run.index import run_of
 from netrev.run.owners import NONE
-from netrev.run.used_sockets import UsedSockets
 
 SEEDS = range(40)
 PARTS = 12
@@ -25,15 +24,13 @@ def recording_of(seed: int) -> Recording:
 def test_a_part_alone_tells_whose_its_steps_are() -> None:
     met = 0
     for seed in SEEDS:
-        book, dice = book_of(recording_of(seed)), random.Random(seed)
-        whose, length = book.whose, book.notes.step
+        run, dice = run_of(recording_of(seed)), random.Random(seed)
+        whose, length = run.owners, run.notes.step
         for _ in range(PARTS):
             first = dice.randint(0, length)
             last = dice.randint(first, length)
             steps = slice(max(first - 1, 0), last)
             pairs = Counter(zip(whose.goroutines[steps], whose.sockets[steps]))
-            assert UsedSockets(book.notes, first, last) == {
-                pair: many for pair, many in pairs.items() if pair[0] != NONE
-            }
+            assert run.sockets_used(first, last) == {pair: many for pair, many in pairs.items() if pair[0] != NONE}
             met += len(pairs)
     assert met > 1_000

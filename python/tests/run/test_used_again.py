@@ -2,7 +2,7 @@
 
 import unittest
 
-from netrev.run.calls import book_of
+from netrev.run.index import run_of
 from netrev.run.owners import NONE
 from netrev.run.timers import timers_of
 from tests.suspects.test_suspects import OPEN, USED_AGAIN, Steps, recording_of
@@ -19,16 +19,16 @@ class UsedAgain(unittest.TestCase):
         self.assertEqual(
             [(one.socket, one.descriptor, one.is_stale) for one in timers.values()], [(0, 0, False), (0, 0, True)]
         )
-        book = book_of(recording).whose
+        book = run_of(recording).owners
         self.assertEqual((book.sockets[-1], book.descriptors[-1]), (0, 0))
 
     def test_an_event_that_comes_late_is_of_the_socket_of_its_tag(self) -> None:
-        book = book_of(recording_of(OPEN + USED_AGAIN + [["pollevent", 0, tag, "rw", 0] for tag in (1, 2, 7)])).whose
+        book = run_of(recording_of(OPEN + USED_AGAIN + [["pollevent", 0, tag, "rw", 0] for tag in (1, 2, 7)])).owners
         self.assertEqual(list(book.sockets)[-3:], [0, 1, NONE])
 
     def test_what_comes_to_a_closed_socket_is_of_no_descriptor(self) -> None:
-        book = book_of(
+        book = run_of(
             recording_of(OPEN + [["arrive", 0, "00"], *USED_AGAIN, ["arrive", 0, "00"], ["arrive", 1, "00"]])
-        ).whose
+        ).owners
         arrived = [at for at, s in enumerate(book.sockets) if at in (3, len(book.sockets) - 2, len(book.sockets) - 1)]
         self.assertEqual([(book.sockets[at], book.descriptors[at]) for at in arrived], [(0, 0), (0, NONE), (1, 0)])

@@ -15,12 +15,11 @@ from dev.fuzz.companion import visit
 from netrev.connection.output import JsonPrinter
 from netrev.connection.scout import Scout
 from netrev.connection.world import PositionValues
-from netrev.recording.backward_search import OF_A_GOROUTINE, last_steps, takings
 from netrev.recording.recording import Recording
+from netrev.run.searches import OF_A_GOROUTINE, holders_of, last_steps, takings
 from netrev.session.session import Session
 from netrev.system.interrupts import Interrupts
-from netrev.views.holders import holders_of
-from netrev.views.waiting import goroutines_table
+from netrev.views.goroutines import goroutines_table
 from nrdb.prompt.answers import ANSWERS
 from tests.support.folders import folder_of
 from tests.support.modelled import Modelled, changes_at, changes_in, recording_at

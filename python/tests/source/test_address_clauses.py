@@ -80,7 +80,7 @@ def test_the_call_that_a_close_waits_for(change: dict[str, Any], by: int, monkey
     calls = [Made(goroutine=5, first=4, last=0), Made(goroutine=case.goroutine, first=case.first, last=case.last)]
     closes = Made(socket=3, goroutine=1)
     index = Made(
-        inside=lambda number, position: closes if case.inside and (number, position) == (1, 20) else None,
+        call_at=lambda number, position: closes if case.inside and (number, position) == (1, 20) else None,
         by_socket={3: calls},
     )
     whole = Made(_index=index, _position=20, _recording=None)

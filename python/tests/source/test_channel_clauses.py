@@ -181,12 +181,12 @@ def test_an_end_that_a_relay_didn_t_pass_on(change: dict[str, Any], says: bool, 
     monkeypatch.setattr(unpassed_ends, "reader_of", lambda index, socket: case.reader if not case.told else reader)
     case.told = False
     index = Made(
-        recording=Made(length=20), book=Made(calls=[call]),
+        recording=Made(length=20), calls=[call],
         closing=lambda socket, step: "close" if socket == 4 and 0 < case.closing <= step else None,
     )  # fmt: skip
     found = list(unpassed_ends.unpassed_ends(cast(Any, index)))
     assert [(one.met, one.write, one.waits) for one in found] == [(call, wrote, reader)] * says
-    index.book.calls = [call, other]
+    index.calls = [call, other]
     case.told, case.closing = True, 0
     assert [one.met for one in unpassed_ends.unpassed_ends(cast(Any, index))][-1] is other
 
@@ -368,7 +368,7 @@ def test_a_goroutine_that_ended_after_a_failure(change: dict[str, Any], whose: s
     case = Made(**(usual | change))
     call = Made(goroutine=4, first=6, last=8)
     later = [Made(first=case.later, name=case.name)] if case.later else []
-    monkeypatch.setattr(first, "index_of", lambda recording: Made(by_goroutine={4: [call, *later]}))
+    monkeypatch.setattr(first, "run_of", lambda recording: Made(by_goroutine={4: [call, *later]}))
     monkeypatch.setattr(first, "ended_behind", lambda index, one, position: case.ended if position == 20 else None)
     monkeypatch.setattr(first, "goid_of", lambda recording, name: 7)
     monkeypatch.setattr(first, "waits_words", lambda wait: "waits")
@@ -409,7 +409,7 @@ def test_a_send_on_a_channel_whose_receivers_have_ended(ended: tuple[int, ...], 
     monkeypatch.setattr(needs_of_channels, "place_in", lambda stack: f" at {stack}")
     monkeypatch.setattr(needs_of_channels, "GIVES_WORDS", {TOOK: "took"})
     monkeypatch.setattr(needs_of_channels, "have_ended", lambda recording, wait: [f"object {wait.objects[0].object}"])
-    monkeypatch.setattr(needs_of_channels, "index_of", lambda recording: None)
+    monkeypatch.setattr(needs_of_channels, "run_of", lambda recording: None)
     monkeypatch.setattr(needs_of_channels, "ended_giver", lambda index, wait: None)
     given = [
         Made(name=Name(4), what=TOOK, stack="a.go:4", last=14),

@@ -9,11 +9,10 @@ from pathlib import Path
 
 import pytest
 
-from netrev.findings.evidence.index import index_of
 from netrev.findings.evidence.waiters import is_waiting
 from netrev.recording.recording import Recording
 from netrev.recording.where import SourceCall, Stack
-from netrev.run.calls import book_of
+from netrev.run.index import run_of
 from netrev.timeline.calls import FAILED, HANGS
 from netrev.timeline.drawing import CLASS, EDGE, LEFT, LETTER, WIDE, drawing, fitted
 from netrev.timeline.sequence import MOST, sequence, spelled
@@ -49,9 +48,9 @@ class Drawings(unittest.TestCase):
             story = next(causes_data(recording), None)
             picture = drawing(recording, story)
             kinds = Counter(node.get("class") for node in elements(picture, "rect"))
-            calls = [one for one in book_of(recording).calls if one.socket >= 0]
+            calls = [one for one in run_of(recording).calls if one.socket >= 0]
             self.assertEqual(sum(kinds[kind] for kind in CLASS.values()), len(calls), name)
-            hanging = [one for one in calls if not one.last and is_waiting(index_of(recording), one)]
+            hanging = [one for one in calls if not one.last and is_waiting(run_of(recording), one)]
             self.assertEqual(kinds[CLASS[HANGS]], len(hanging), name)
             heads = [node.text for node in elements(picture, "text") if (node.text or "").startswith("connection ")]
             self.assertEqual(len(heads), len({one.socket for one in calls}))
@@ -67,7 +66,7 @@ class Drawings(unittest.TestCase):
         (hangs,) = [node for node in elements(picture, "rect") if node.get("class") == CLASS[HANGS]]
         ticks = {node.text: node for node in elements(picture, "text") if node.get("class") == "tick"}
         self.assertTrue(all(ticks))
-        (call,) = [one for one in book_of(recording).calls if not one.last and one.name == "Read"]
+        (call,) = [one for one in run_of(recording).calls if not one.last and one.name == "Read"]
         per = float(ticks["5"].get("x", 0)) - float(ticks["0"].get("x", 0))
         begin = float(ticks["0"].get("x", 0)) - 3 + per * (call.first - 1) / 5
         self.assertAlmostEqual(float(hangs.get("x", 0)), begin, delta=0.1)

@@ -20,7 +20,7 @@ from netrev.machine.machine import World
 from netrev.machine.steps import apply
 from netrev.recording.changes import RecordedChanges
 from netrev.recording.recording import Recording
-from netrev.run.calls import book_of
+from netrev.run.index import run_of
 from netrev.text.writing import write_plain
 from netrev.timeline.events_beside import beside
 from netrev.timeline.searched_cells import DEADLINES_AND_CLOCK, STATUSES, searched
@@ -182,7 +182,7 @@ class Trace(unittest.TestCase):
             events = traced(recording)
             changes = changes_in(recording.data)
             calls = [(one["tid"], one["ts"] + 1, one["dur"]) for one in events if one.get("cat") == "call"]
-            book = [one for one in book_of(recording).calls if one.last != one.first]
+            book = [one for one in run_of(recording).calls if one.last != one.first]
             end = recording.length + 1
             self.assertEqual(calls, [(one.goroutine, one.first, (one.last or end) - one.first + 1) for one in book])
             clock = [(one["ts"], str(one["args"]["ns"])) for one in events if one["ph"] == "C"]

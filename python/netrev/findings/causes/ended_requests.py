@@ -3,13 +3,14 @@
 from collections import defaultdict
 from typing import Hashable
 
-from netrev.findings.evidence.index import Cause, Index, index_of, with_others
 from netrev.findings.evidence.past_tense import in_the_past
+from netrev.findings.finding import Cause, with_others
 from netrev.findings.hangs.chains import chain_says
 from netrev.findings.http.ended_contexts import of_a_handler
 from netrev.findings.http.requests import CancelledRequest, cancelled_requests
 from netrev.findings.streams.unaccepted import unaccepted
 from netrev.recording.recording import Recording
+from netrev.run.index import RunIndex, run_of
 
 from .failing import served_says
 
@@ -18,7 +19,7 @@ def requests_that_ended(recording: Recording, is_late: bool) -> list[Cause]:
     """The requests of net/http's client that ended because a deadline of their context passed or a goroutine cancelled
     the context. Requests with the same lines are merged."""
     alike: dict[Hashable, list[CancelledRequest]] = defaultdict(list)
-    for request in cancelled_requests(index_of(recording)):
+    for request in cancelled_requests(run_of(recording)):
         if request.is_late is is_late:
             alike[request.places(recording)].append(request)
     return [with_others(of_request(recording, first), len(others)) for first, *others in alike.values()]
@@ -27,13 +28,13 @@ def requests_that_ended(recording: Recording, is_late: bool) -> list[Cause]:
 def of_request(recording: Recording, ended: CancelledRequest) -> Cause:
     """The cause for a request that ended because its context ended."""
     steps, looks = [ended.request.last, ended.step], [f"goto {ended.step}", f"calls sock {ended.request.socket}"]
-    index = index_of(recording)
+    index = run_of(recording)
     served = served_says(index, ended.closed, ended.closed.first) or unserved_says(index, ended)
     handler = [] if ended.is_late else of_a_handler(recording, ended.request.goid)
     return Cause(ended.closed, [*ended.says(recording), *handler, *served], steps, looks)
 
 
-def unserved_says(index: Index, ended: CancelledRequest) -> list[str]:
+def unserved_says(index: RunIndex, ended: CancelledRequest) -> list[str]:
     """Sentences about a request on a connection that no goroutine had accepted. The sentences say what the goroutine
     that should have accepted the connection did instead."""
     step = ended.closed.first

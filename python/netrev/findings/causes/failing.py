@@ -7,13 +7,13 @@ from netrev.findings.datagrams.cut_datagrams import cut_says
 from netrev.findings.datagrams.datagrams import dropped_datagram
 from netrev.findings.datagrams.shared_sockets import shared_says
 from netrev.findings.evidence.asked import read_sizes_of
-from netrev.findings.evidence.index import READING, Cause, Index, index_of, went_well
 from netrev.findings.evidence.long_lines import long_line_says
 from netrev.findings.evidence.need import Need
 from netrev.findings.evidence.past_tense import in_the_past
 from netrev.findings.evidence.responses import server_of
 from netrev.findings.evidence.sizes import are_known, moved_at, size_of
 from netrev.findings.evidence.words import ENDED, duration, name_of, place_of_step, text_of_call, waits_words
+from netrev.findings.finding import Cause
 from netrev.findings.hangs.chains import chain_says
 from netrev.findings.hangs.needs import Needs
 from netrev.findings.hangs.unmet_needs import endless_says, found_says, given_up_says
@@ -27,6 +27,7 @@ from netrev.recording.call import CLOSE, Call, Outcome
 from netrev.recording.recording import Recording
 from netrev.recording.waits import Name, waits_of
 from netrev.recording.where import Stack
+from netrev.run.index import READING, RunIndex, run_of, went_well
 from netrev.text.plurals import counted
 
 OF_A_SERVER = ("net/http.(*conn).readRequest", "net/http.(*conn).serve")
@@ -38,16 +39,16 @@ DEEP = 3  # the most links in a chain of causes
 
 def causes_of(recording: Recording, position: int) -> list[Cause]:
     """The calls that had failed at a position, in the order in which they ended, each with its cause."""
-    index = index_of(recording)
+    index = run_of(recording)
     return [cause_of(index, call) for call in failed_at(index, position)]
 
 
-def failed_at(index: Index, position: int) -> list[Call]:
+def failed_at(index: RunIndex, position: int) -> list[Call]:
     """The calls that had failed at a position, in the order in which they ended."""
     return sorted(index.failed(position), key=lambda call: call.last)
 
 
-def cause_of(index: Index, call: Call, deep: int = 0) -> Cause:
+def cause_of(index: RunIndex, call: Call, deep: int = 0) -> Cause:
     """The cause of a call's error."""
     recording = index.recording
     ended = ENDED.get(call.outcome, f"ended with {call.error}")
@@ -61,7 +62,7 @@ def cause_of(index: Index, call: Call, deep: int = 0) -> Cause:
     return Cause(call, [f"{begins}."], [call.first], [f"goto {call.last}", f"calls sock {call.socket}"])
 
 
-def of_timeout(index: Index, call: Call, begins: str) -> Cause:
+def of_timeout(index: RunIndex, call: Call, begins: str) -> Cause:
     """The cause of a timeout. The text says which goroutine set the deadline and when, which calls succeeded under that
     deadline before, and what the call waited for."""
     recording = index.recording
@@ -108,7 +109,7 @@ def is_of_a_server(stack: Stack) -> bool:
     return next(outside, "").startswith(OF_A_SERVER)
 
 
-def between(index: Index, call: Call) -> str:
+def between(index: RunIndex, call: Call) -> str:
     """What a call's goroutine last waited for outside the poller, between the step that set the deadline and the
     call."""
     waits = waits_of(index.recording).of.get(Name(call.goroutine), [])
@@ -127,11 +128,11 @@ def under(well: list[Call], late: list[Call], name: str) -> str:
     return f"; {' and '.join(did)}, and nobody has moved it since." if did else "."
 
 
-def of_close(index: Index, call: Call, begins: str, deep: int) -> Cause:
+def of_close(index: RunIndex, call: Call, begins: str, deep: int) -> Cause:
     """The cause of a call that a Close ended: which goroutine closed the descriptor or its write side, and whether the
     call was in progress at the time."""
     recording = index.recording
-    by = index.at(call.cause)
+    by = index.call_of(call.cause)
     goroutine = recording.step(call.cause).argument("g")
     what = "Its write side was closed" if call.outcome is Outcome.BROKEN_PIPE else "It was closed"
     when = ", while the call was under way" if call.first < call.cause else ", before the call began"
@@ -150,7 +151,7 @@ def of_close(index: Index, call: Call, begins: str, deep: int) -> Cause:
     return Cause(call, [*says, *before.says], [call.first, call.cause], looks, 0, before.calls)
 
 
-def context_says(index: Index, call: Call, by: Optional[Call]) -> list[str]:
+def context_says(index: RunIndex, call: Call, by: Optional[Call]) -> list[str]:
     """Sentences about a descriptor that was closed because a request's context had ended or because a channel was
     closed. The sentences name the goroutine that cancelled the context or closed the channel, or the timeout that had
     passed. The sentences also say what the goroutine that served the request did."""
@@ -170,14 +171,14 @@ def context_says(index: Index, call: Call, by: Optional[Call]) -> list[str]:
     return [*says, *served_says(index, call, call.cause)]
 
 
-def served_says(index: Index, call: Call, step: int) -> list[str]:
+def served_says(index: RunIndex, call: Call, step: int) -> list[str]:
     """Describes what the goroutine that served the request was doing at a step; empty if that is unknown."""
     server, served = server_of(index, call.socket, step), under_way(index, call, step)
     chain = chain_says(index, call, Need([served], server), step) if server else []
     return list(map(in_the_past, [*([served] if served else []), *chain]))
 
 
-def of_the_other_end(index: Index, call: Call, begins: str, deep: int) -> Cause:
+def of_the_other_end(index: RunIndex, call: Call, begins: str, deep: int) -> Cause:
     """The cause of a call whose other end was closed: the goroutine that closed it, if that Close is in the
     recording."""
     recording, other = index.recording, index.other_end(call.socket)
@@ -204,7 +205,7 @@ def of_the_other_end(index: Index, call: Call, begins: str, deep: int) -> Cause:
     return Cause(call, says, [call.first, by.first], looks, 0, before.calls)
 
 
-def part_says(index: Index, call: Call, last: Call) -> list[str]:
+def part_says(index: RunIndex, call: Call, last: Call) -> list[str]:
     """Sentences about a connection whose other end was closed before all bytes were read: the last Read got fewer bytes
     than it asked for. The list is empty unless the program itself called Read."""
     recording, own = index.recording, index.recording.lines.of(last.first).own()
@@ -222,7 +223,7 @@ def part_says(index: Index, call: Call, last: Call) -> list[str]:
     ]
 
 
-def late_write(index: Index, call: Call, by: Call) -> Optional[Call]:
+def late_write(index: RunIndex, call: Call, by: Call) -> Optional[Call]:
     """The last Write on a call's socket before the call, if the call's goroutine made that Write after `by` had closed
     the other end; else None."""
     write = index.last_use(call.socket, call.first, ("Write",))
@@ -233,7 +234,7 @@ def late_write(index: Index, call: Call, by: Call) -> Optional[Call]:
     )
 
 
-def is_late(index: Index, call: Call) -> bool:
+def is_late(index: RunIndex, call: Call) -> bool:
     """Whether a Read reached the end of a stream after its goroutine, a client, had sent a request to an end that was
     already closed."""
     if call.outcome is not Outcome.EOF or not is_client(index, call.goroutine, call.socket):
@@ -250,7 +251,7 @@ class EarlierFailures(NamedTuple):
     calls: list[Call]
 
 
-def why(index: Index, by: Optional[Call], deep: int) -> EarlierFailures:
+def why(index: RunIndex, by: Optional[Call], deep: int) -> EarlierFailures:
     """The failure just before a Close, with its own cause. The end of a file isn't a failure."""
     before = index.before(by) if by else None
     if before is None or deep >= DEEP or not (before.outcome.is_error or before.outcome is Outcome.EOF):
@@ -261,6 +262,6 @@ def why(index: Index, by: Optional[Call], deep: int) -> EarlierFailures:
     return EarlierFailures([f"Before that, {cause.says[0]}", *cause.says[1:]], [before, *cause.chain])
 
 
-def is_of_a_file(index: Index, call: Call) -> bool:
+def is_of_a_file(index: RunIndex, call: Call) -> bool:
     """Whether a call is on a file rather than on a connection."""
     return any(frame.function.startswith(OF_A_FILE) for frame in index.recording.lines.of(call.first).calls)

@@ -6,9 +6,20 @@ from collections import defaultdict
 from typing import Callable, Hashable, Union
 
 from netrev.findings.evidence.ended_goroutines import goid_of
-from netrev.findings.evidence.index import READING, WRITING, Cause, Index, index_of, with_more, with_others
 from netrev.findings.evidence.words import is_of_go, place_in, waits_words
-from netrev.findings.finding import CAUSE, NEXT, Finding, FirstFindings, Kind, paragraph, place_of
+from netrev.findings.finding import (
+    CAUSE,
+    NEXT,
+    Cause,
+    Finding,
+    FirstFindings,
+    Kind,
+    paragraph,
+    place_of,
+    sentences_of,
+    with_more,
+    with_others,
+)
 from netrev.findings.hangs.hang_words import hang_looks, hang_says, tree_lines
 from netrev.findings.hangs.joins import Topic, joined
 from netrev.findings.hangs.wait_graph import Hang, WaitGraph, graph_at, is_at_mutex, waiters_of
@@ -24,6 +35,7 @@ from netrev.recording.call import CLOSE, Call, Outcome
 from netrev.recording.goroutines import FOR_VALUE, FailedDial
 from netrev.recording.recording import Recording
 from netrev.recording.waits import Name, name_of_goid
+from netrev.run.index import READING, WRITING, RunIndex, run_of
 from netrev.text.plurals import counted
 
 from .ended_requests import requests_that_ended
@@ -63,19 +75,21 @@ def finding_of_topic(graph: WaitGraph, topic: Topic, shown: set[int]) -> Finding
     roots = topic.hang.roots if topic.hang else []
     place = place_of(roots[0].stack) if roots else None
     steps, names = tuple(root.since for root in roots), tuple(root.name for root in roots)
-    return Finding(Kind.HANG, tuple(sentences), place, steps, names, tuple(evidence))
+    said = sentences_of(graph.recording.lines, sentences)
+    return Finding(Kind.HANG, said, place, steps, names, tuple(evidence))
 
 
 def finding_of_cause(kind: Kind, recording: Recording, cause: Cause) -> Finding:
     """The finding for a cause, with its sentences."""
     place = place_of(recording.lines.of(cause.call.first))
     names = (Name(cause.call.goroutine),)
-    return Finding(kind, tuple(cause.says), place, tuple(cause.steps), names, tuple(cause.looks))
+    said = sentences_of(recording.lines, cause.says)
+    return Finding(kind, said, place, tuple(cause.steps), names, tuple(cause.looks))
 
 
 def perhaps_of(recording: Recording, sentences: list[str]) -> list[Finding]:
     """What may be wrong if no call failed, unless one of these sentences says so already."""
-    index = index_of(recording)
+    index = run_of(recording)
     left = list(failed_dials(index)) or leftovers_of(recording)
     cancelled = [*requests_that_ended(recording, False), *causes_of_ended(index)]
     late = list(late_answers(index))
@@ -89,7 +103,7 @@ def perhaps_of(recording: Recording, sentences: list[str]) -> list[Finding]:
 
 def finding_of_dial(recording: Recording, dial: FailedDial) -> Finding:
     """The finding for a dial that the system refused."""
-    sentences = (f"{refused_words(recording, dial)}.", *ended_says(recording, dial))
+    sentences = sentences_of(recording.lines, (f"{refused_words(recording, dial)}.", *ended_says(recording, dial)))
     place, name = place_of(recording.lines.stacks[dial.stack]), name_of_goid(recording.lines, dial.goid)
     return Finding(Kind.REFUSED_DIAL, sentences, place, (dial.step,), (name,), (f"goto {dial.step}", "info goroutines"))
 
@@ -143,7 +157,7 @@ def is_of_main(graph: WaitGraph, hang: Hang) -> bool:
 def has_to_do_with(graph: WaitGraph, hang: Hang, call: Call) -> bool:
     """Whether a failed call may be related to a hang: its goroutine hangs, or ended without doing what another
     goroutine needs, or its connection is open and in use by a goroutine that hangs."""
-    index, names = index_of(graph.recording), {waiter.name for waiter in waiters_of(hang)}
+    index, names = run_of(graph.recording), {waiter.name for waiter in waiters_of(hang)}
     needs = [graph.needs[name] for name in names]
     of_needs = {name for need in needs for name in (need.gone, *need.ended)}
     if Name(call.goroutine) in names | of_needs or left_by(graph, call):
@@ -157,7 +171,7 @@ def has_to_do_with(graph: WaitGraph, hang: Hang, call: Call) -> bool:
 def left_by(graph: WaitGraph, call: Call) -> list[str]:
     """Sentences about the goroutine of a failed call, if that call was its last. The sentences say that the goroutine
     has ended since, and which goroutine waits for it."""
-    name, index = Name(call.goroutine), index_of(graph.recording)
+    name, index = Name(call.goroutine), run_of(graph.recording)
     left = next((waiter for waiter in graph.waiters.values() if graph.needs[waiter.name].gone == name), None)
     ended = ended_behind(index, call, graph.position)
     later = [one for one in index.by_goroutine[call.goroutine] if one.first > call.last and one.name != CLOSE]
@@ -197,7 +211,7 @@ def is_waited_for(hang: Hang) -> bool:
 def failures_of(recording: Recording) -> list[Cause]:
     """The failures of a program besides its hangs: ends of streams that weren't passed on, failed calls, and net/http
     requests whose deadlines passed."""
-    index = index_of(recording)
+    index = run_of(recording)
     ends = [
         Cause(
             one.met,
@@ -219,7 +233,7 @@ def failures_of(recording: Recording) -> list[Cause]:
 def telling_failures(recording: Recording) -> list[Cause]:
     """Causes for the failed calls that are worth printing. Failures with the same stack that were caused by the same
     step share a cause, because a program may loop on a closed descriptor."""
-    index, alike = index_of(recording), dict[Hashable, list[Call]]()
+    index, alike = run_of(recording), dict[Hashable, list[Call]]()
     of_line: dict[Hashable, list[Call]] = defaultdict(list)
     stacks = recording.lines.steps
     for call in [*late_reads(index), *cut_bodies(index), *failed_at(index, recording.length)]:
@@ -241,10 +255,10 @@ def telling_failures(recording: Recording) -> list[Cause]:
     return once(recording, [cause for cause, _ in apart], [many for _, many in apart])
 
 
-def late_reads(index: Index) -> list[Call]:
+def late_reads(index: RunIndex) -> list[Call]:
     """The Reads that reached the end of a stream instead of an answer, because their goroutine had written to an end
     that was already closed."""
-    return [call for call in index.book.calls if call.outcome is Outcome.EOF and call.last and is_late(index, call)]
+    return [call for call in index.calls if call.outcome is Outcome.EOF and call.last and is_late(index, call)]
 
 
 def opening_words(recording: Recording) -> list[str]:
@@ -301,7 +315,7 @@ def is_telling(recording: Recording, call: Call) -> bool:
     code alone, and it isn't the Accept of a listener that was closed."""
     if is_of_go(recording, call) or call.name not in READING + WRITING:
         return False
-    return not (call.outcome is Outcome.CLOSED and index_of(recording).is_listening(call))
+    return not (call.outcome is Outcome.CLOSED and run_of(recording).is_listening(call))
 
 
 def once(recording: Recording, causes: list[Cause], counts: list[int]) -> list[Cause]:

@@ -5,10 +5,10 @@ goroutine. None of these is a fault by itself, so each text begins with `Perhaps
 from typing import Iterator, NamedTuple, Optional
 
 from netrev.findings.datagrams.cut_datagrams import causes_of_cuts
-from netrev.findings.evidence.index import MOVING, Cause, Index, index_of, went_well
 from netrev.findings.evidence.responses import SERVE, contains
 from netrev.findings.evidence.sizes import are_known, moved_at, size_of
 from netrev.findings.evidence.words import is_of_go, place_of_step, result_words, text_of_call, waits_words
+from netrev.findings.finding import Cause
 from netrev.findings.pools.given_up_waits import given_up_waits
 from netrev.findings.streams.exchanges import is_cut
 from netrev.findings.streams.gone_readers import without_reader
@@ -17,6 +17,7 @@ from netrev.recording.call import CLOSE, Call, Outcome
 from netrev.recording.recording import Recording
 from netrev.recording.waits import Name, waits_of
 from netrev.recording.where import OF_THE_PROGRAM
+from netrev.run.index import MOVING, RunIndex, run_of, went_well
 from netrev.text.plurals import counted
 
 from .failing import cause_of
@@ -35,7 +36,7 @@ class FunctionLine(NamedTuple):
 def leftovers_of(recording: Recording) -> list[Cause]:
     """All findings at the end of a recording. The findings of each kind are in the order of their steps. Findings about
     Go's own code alone are left out."""
-    index = index_of(recording)
+    index = run_of(recording)
     found = [
         *causes_of_cuts(index),
         *without_reader(index),
@@ -49,14 +50,14 @@ def leftovers_of(recording: Recording) -> list[Cause]:
     return [cause._replace(says=[f"Perhaps: {cause.says[0]}", *cause.says[1:]]) for cause in found]
 
 
-def ends_of(index: Index) -> Iterator[tuple[int, int]]:
+def ends_of(index: RunIndex) -> Iterator[tuple[int, int]]:
     """Each socket with its other end, if both are in the recording."""
     for socket, other in sorted(index.recording.lines.peers.items()):
         if socket in index.by_socket and other in index.by_socket:
             yield socket, other
 
 
-def never_read(index: Index) -> Iterator[Cause]:
+def never_read(index: RunIndex) -> Iterator[Cause]:
     """Bytes that were written at one end of a connection and not read at the other end before that end was closed."""
     recording, length = index.recording, index.recording.length
     for socket, other in ends_of(index):
@@ -86,7 +87,7 @@ def never_read(index: Index) -> Iterator[Cause]:
         yield Cause(last, says, [write.first, last.first, by.first], looks)
 
 
-def first_beyond(index: Index, socket: int, count: int) -> Optional[Call]:
+def first_beyond(index: RunIndex, socket: int, count: int) -> Optional[Call]:
     """The first Write with which more than `count` bytes had been written to a socket."""
     together = 0
     for call in index.by_socket[socket]:
@@ -96,7 +97,7 @@ def first_beyond(index: Index, socket: int, count: int) -> Optional[Call]:
     return None
 
 
-def left_open(index: Index) -> Iterator[Cause]:
+def left_open(index: RunIndex) -> Iterator[Cause]:
     """A socket that no goroutine closes or uses although its other end is closed."""
     recording, length = index.recording, index.recording.length
     for socket, other in ends_of(index):
@@ -127,9 +128,9 @@ def serves_on(recording: Recording, last: Call) -> list[str]:
     return [f"Goroutine {last.goroutine}, which serves it, {waits_words(wait)} since step {wait.first}{alone}."]
 
 
-def early_ends(index: Index) -> Iterator[Cause]:
+def early_ends(index: RunIndex) -> Iterator[Cause]:
     """The program's Reads that reached the end of a stream instead of an answer, because the other end was closed."""
-    for call in index.book.calls:
+    for call in index.calls:
         other = index.other_end(call.socket)
         if call.outcome is not Outcome.EOF or other is None or is_of_go(index.recording, call):
             continue
@@ -138,7 +139,7 @@ def early_ends(index: Index) -> Iterator[Cause]:
             yield cause_of(index, call)
 
 
-def is_asking(index: Index, call: Call) -> bool:
+def is_asking(index: RunIndex, call: Call) -> bool:
     """Whether a Read waits for an answer: its goroutine has written to the socket, and no bytes have come since."""
     moved = [
         transfer
@@ -150,7 +151,7 @@ def is_asking(index: Index, call: Call) -> bool:
     )
 
 
-def mixed_writes(index: Index) -> Iterator[Cause]:
+def mixed_writes(index: RunIndex) -> Iterator[Cause]:
     """Writes of one goroutine between two Writes of another goroutine to the same socket. One function of the program
     makes all three Writes. Since the other goroutine's two Writes are at different lines, they may be pieces of one
     message."""

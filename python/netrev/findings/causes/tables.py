@@ -4,7 +4,6 @@ from collections import defaultdict
 from typing import Optional
 
 from netrev.connection.output import Row, Table
-from netrev.findings.evidence.index import index_of
 from netrev.findings.evidence.words import is_by_go, place_in
 from netrev.findings.hangs.hang_words import hang_looks, hang_says, tree_lines
 from netrev.findings.hangs.wait_graph import Hang, WaitGraph, graph_at
@@ -12,9 +11,9 @@ from netrev.findings.http.requests import CancelledRequest, ClientRequests, canc
 from netrev.recording.call import Call
 from netrev.recording.recording import Recording
 from netrev.recording.waits import Name
-from netrev.run.calls import book_of
+from netrev.run.index import run_of
 from netrev.text.plurals import counted
-from netrev.views.following import call_row
+from netrev.views.calls import call_row
 
 from .failing import cause_of
 
@@ -23,7 +22,7 @@ def errors_table(recording: Recording, position: int, most: Optional[int]) -> Ta
     """The calls of the whole recording that ended with a timeout, a close, a broken pipe or an event error. Calls that
     end after the position are marked. The table has at most `most` calls: the last calls up to the position, and then
     as many later calls as fit."""
-    failed = [call for call in book_of(recording).calls if call.last and call.outcome.is_error]
+    failed = run_of(recording).failed()
     found = [call for call in failed if not is_by_go(recording, call)]
     past = [call for call in found if call.last <= position]
     later = [call for call in found if call.last > position]
@@ -51,7 +50,7 @@ def later_row(recording: Recording, call: Call) -> Row:
 
 def error_rows(recording: Recording, call: Call, row: Row) -> list[Row]:
     """The row of a call that failed, followed by the sentences that give its cause."""
-    cause = cause_of(index_of(recording), call)
+    cause = cause_of(run_of(recording), call)
     values = row.values | {"says": cause.says, "cause": call.cause or None, "looks": cause.looks}
     return [Row(values, row.text), *(Row({}, f"     {says}") for says in cause.says[1:])]
 
@@ -90,7 +89,7 @@ def rows_of(graph: WaitGraph, hang: Hang) -> list[Row]:
 def requests_table(recording: Recording) -> Table:
     """The requests of net/http's client whose connection is certain, grouped by line, goroutine and connection. Each
     group is followed by its requests that ended because their contexts ended."""
-    index = index_of(recording)
+    index = run_of(recording)
     alike: dict[tuple[Name, int, str], list[ClientRequests]] = defaultdict(list)
     for request in requests_of(index):
         alike[request.name, request.socket, place_in(request.stack)].append(request)

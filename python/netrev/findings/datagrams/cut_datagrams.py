@@ -8,14 +8,15 @@ from operator import attrgetter
 from typing import Iterator, NamedTuple
 
 from netrev.findings.evidence.asked import read_sizes_of
-from netrev.findings.evidence.index import Cause, Index
 from netrev.findings.evidence.sizes import size_of
 from netrev.findings.evidence.words import text_of_call
+from netrev.findings.finding import Cause
 from netrev.findings.source.functions import found_in, text_at
 from netrev.findings.streams.flushes import ways_without_an_answer
 from netrev.findings.streams.unaccepted import is_datagram
 from netrev.recording.call import Call
 from netrev.recording.where import Stack
+from netrev.run.index import RunIndex
 from netrev.text.plurals import counted
 
 from .unheard import is_same, sent_at
@@ -30,7 +31,7 @@ class CutDatagram(NamedTuple):
     write: Call
     read: Call
 
-    def says(self, index: Index) -> list[str]:
+    def says(self, index: RunIndex) -> list[str]:
         """The sentences about the datagram."""
         recording, length = index.recording, counted(size_of(index, self.read), "byte")
         sentence = (
@@ -45,7 +46,7 @@ class CutDatagram(NamedTuple):
         return [f"{sentence}; {read}: the rest was thrown away."]
 
 
-def buffer_place(index: Index, read: Call) -> str:
+def buffer_place(index: RunIndex, read: Call) -> str:
     """The line at which a function makes the buffer that a Read fills: ` (a.go:30)`; empty if unknown."""
     own = index.recording.lines.of(read.first).own()
     into = INTO.search(text_at(index.recording, own[0])) if own else None
@@ -57,14 +58,14 @@ def buffer_place(index: Index, read: Call) -> str:
 
 
 @lru_cache(maxsize=2)
-def cut_datagrams(index: Index) -> tuple[CutDatagram, ...]:
+def cut_datagrams(index: RunIndex) -> tuple[CutDatagram, ...]:
     """The truncated datagrams of a recording, in the order of their Reads. The Reads of each socket are paired with the
     datagrams sent to its address, as long as the lengths fit."""
     found = [pair for socket in sorted(index.by_socket) for pair in cut_at(index, socket)]
     return tuple(sorted(found, key=lambda pair: pair.read.last))
 
 
-def cut_at(index: Index, socket: int) -> Iterator[CutDatagram]:
+def cut_at(index: RunIndex, socket: int) -> Iterator[CutDatagram]:
     """The datagrams that were longer than the buffers of the Reads on a socket."""
     sizes = read_sizes_of(index.recording)
     reads = [read for read in index.by_socket[socket] if read.name == "Read" and read.moved and read.last]
@@ -77,7 +78,7 @@ def cut_at(index: Index, socket: int) -> Iterator[CutDatagram]:
             yield CutDatagram(write, read)
 
 
-def sent_to(index: Index, socket: int) -> list[Call]:
+def sent_to(index: RunIndex, socket: int) -> list[Call]:
     """The Writes of datagrams to a socket's address, in order."""
     own, peer = index.recording.lines.addresses.get(socket, ("", ""))
     if not own:
@@ -90,7 +91,7 @@ def sent_to(index: Index, socket: int) -> list[Call]:
     return sorted((datagram.write for datagram in found), key=attrgetter("first"))
 
 
-def causes_of_cuts(index: Index) -> list[Cause]:
+def causes_of_cuts(index: RunIndex) -> list[Cause]:
     """Possible causes from truncated datagrams: for each line that read truncated datagrams, a cause about the first of
     them."""
     found: dict[object, list[CutDatagram]] = defaultdict(list)
@@ -99,14 +100,14 @@ def causes_of_cuts(index: Index) -> list[Cause]:
     return [cause_of(index, first, len(others)) for first, *others in found.values()]
 
 
-def cause_of(index: Index, pair: CutDatagram, others: int) -> Cause:
+def cause_of(index: RunIndex, pair: CutDatagram, others: int) -> Cause:
     """The cause for a truncated datagram, with the number of further truncated datagrams."""
     more = [f"{others} more like it."] if others else []
     looks = [f"goto {pair.read.last}", f"calls sock {pair.read.socket}"]
     return Cause(pair.read, [*pair.says(index), *more], [pair.write.first, pair.read.first], looks)
 
 
-def cut_says(index: Index, call: Call, position: int) -> list[str]:
+def cut_says(index: RunIndex, call: Call, position: int) -> list[str]:
     """Sentences about a Read that waits for a datagram. If the last datagram that the Read's goroutine sent was
     truncated, the sentences say so, and say what the receiver did next. Otherwise they say so if the last datagram that
     the goroutine received was truncated."""
@@ -127,7 +128,7 @@ def cut_says(index: Index, call: Call, position: int) -> list[str]:
     return says
 
 
-def writes_of(index: Index, read: Call) -> set[Stack]:
+def writes_of(index: RunIndex, read: Call) -> set[Stack]:
     """The stacks of the Writes that a Read's goroutine made to the same socket."""
     calls = (
         write for write in index.by_socket[read.socket] if write.goroutine == read.goroutine and write.name == "Write"
@@ -135,7 +136,7 @@ def writes_of(index: Index, read: Call) -> set[Stack]:
     return {index.recording.lines.of(write.first) for write in calls}
 
 
-def last_cut(index: Index, call: Call) -> list[str]:
+def last_cut(index: RunIndex, call: Call) -> list[str]:
     """A sentence about the last datagram that was read on a socket before a call, if that datagram was truncated."""
     reads = [
         read for read in index.by_socket[call.socket] if read.name == "Read" and read.moved and read.first < call.first

@@ -4,16 +4,16 @@ looks for the only Read on another socket that got as many bytes."""
 from typing import Optional
 
 from netrev.findings.evidence.asked import read_sizes_of
-from netrev.findings.evidence.index import Index, back
 from netrev.findings.evidence.words import text_of_call
 from netrev.findings.streams.exchanges import FEWEST
 from netrev.findings.streams.unaccepted import is_datagram
 from netrev.recording.call import Call
+from netrev.run.index import RunIndex, back
 
 DEADLINES = ("SetReadDeadline", "SetDeadline")
 
 
-def unanswered_datagram(index: Index, call: Call, position: int) -> list[str]:
+def unanswered_datagram(index: RunIndex, call: Call, position: int) -> list[str]:
     """Sentences about a Read that waits for a datagram. The sentences name the goroutine that perhaps read the request
     and sent no answer, and say so if no deadline was set."""
     if not is_datagram(index, call.socket):
@@ -24,7 +24,7 @@ def unanswered_datagram(index: Index, call: Call, position: int) -> list[str]:
         return []
     recording, calls = index.recording, index.by_goroutine[read.goroutine]
     answers = [write for write in calls if write.name == "Write" and write.socket == read.socket and write.moved]
-    now = index.inside(read.goroutine, position)
+    now = index.call_at(read.goroutine, position)
     if len(answers) < FEWEST or answers[-1].first > read.last or now is None or now.socket != read.socket:
         return []
     says = [
@@ -39,7 +39,7 @@ def unanswered_datagram(index: Index, call: Call, position: int) -> list[str]:
     return says
 
 
-def dropped_datagram(index: Index, call: Call) -> list[str]:
+def dropped_datagram(index: RunIndex, call: Call) -> list[str]:
     """Sentences about a Read of a datagram that timed out. The sentences name the goroutine that perhaps read the
     request and sent no answer, and say so if the request filled the whole buffer."""
     request = index.last_use(call.socket, call.first, ("Write",)) if is_datagram(index, call.socket) else None
@@ -68,7 +68,7 @@ def dropped_datagram(index: Index, call: Call) -> list[str]:
     ]
 
 
-def reader_of(index: Index, call: Call, request: Call, position: int) -> Optional[Call]:
+def reader_of(index: RunIndex, call: Call, request: Call, position: int) -> Optional[Call]:
     """The only Read on another datagram socket since a Write; None if several Reads got data, or if the Read and the
     Write have different lengths."""
     found = [

@@ -3,10 +3,10 @@ address."""
 
 from typing import Iterator, NamedTuple, Optional
 
-from netrev.findings.evidence.index import Index
 from netrev.findings.evidence.need import Need
 from netrev.findings.evidence.words import place_in, text_of_call
 from netrev.recording.call import OPEN, Call
+from netrev.run.index import RunIndex
 
 UNSPECIFIED = ("0.0.0.0:", "[::]:")
 
@@ -19,7 +19,7 @@ class Sent(NamedTuple):
     target: str
 
 
-def unheard(index: Index, call: Call, position: int) -> Optional[Need]:
+def unheard(index: RunIndex, call: Call, position: int) -> Optional[Need]:
     """What a Read on a connected socket needs, if a datagram came to the socket from another address; else None."""
     own, peer = index.recording.lines.addresses.get(call.socket, ("", ""))
     if not peer:
@@ -51,7 +51,7 @@ def unheard(index: Index, call: Call, position: int) -> Optional[Need]:
     return Need(says, is_odd=True)
 
 
-def opened_at(index: Index, socket: int) -> str:
+def opened_at(index: RunIndex, socket: int) -> str:
     """The line that opened a socket: `, which was opened at a.go:41 in answer`; empty if unknown."""
     opened = next((call for call in index.by_socket.get(socket, ()) if call.name == OPEN), None)
     stack = index.recording.lines.of(opened.first) if opened else None
@@ -65,7 +65,7 @@ def is_same(address: str, other_address: str) -> bool:
     return address == other_address
 
 
-def sent_at(index: Index) -> Iterator[Sent]:
+def sent_at(index: RunIndex) -> Iterator[Sent]:
     """The datagrams whose source and destination addresses are known: their socket is connected, or their Write names
     the address."""
     lines = index.recording.lines
@@ -74,6 +74,6 @@ def sent_at(index: Index) -> Iterator[Sent]:
             if call.name == "Write" and call.moved:
                 yield Sent(call, own, peer)
     for step, target in lines.sent.items():
-        write = index.at(step) if 0 < step <= index.recording.length else None
+        write = index.call_of(step) if 0 < step <= index.recording.length else None
         if write and write.name == "Write" and write.moved and write.socket in lines.addresses:
             yield Sent(write, lines.addresses[write.socket][0], target)

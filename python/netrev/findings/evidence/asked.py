@@ -5,8 +5,8 @@ from typing import Optional
 
 from netrev.recording.call import Call
 from netrev.recording.recording import Recording
+from netrev.run.index import RunIndex, run_of
 
-from .index import Index, index_of
 
 SYSREAD = "sysread"
 
@@ -15,7 +15,7 @@ class ReadSizes:
     """For each Read, the number of bytes that its first system call asked for, and the goroutine's previous Read on
     that socket."""
 
-    def __init__(self, index: Index) -> None:
+    def __init__(self, index: RunIndex) -> None:
         self._sizes: dict[int, int] = {}  # keyed by the first step of the Read
         self._before: dict[int, Call] = {}
         begun: dict[int, int] = {}  # the number of calls that each goroutine had begun
@@ -32,7 +32,7 @@ class ReadSizes:
             if call is not None and call.name == "Read" and (not call.last or call.last >= number):
                 sizes.setdefault(call.first, count)
         latest: dict[tuple[int, int], Call] = {}
-        for call in index.book.calls:
+        for call in index.calls:
             if call.name == "Read":
                 key = call.goroutine, call.socket
                 if key in latest:
@@ -63,4 +63,4 @@ class ReadSizes:
 @lru_cache(maxsize=2)
 def read_sizes_of(recording: Recording) -> ReadSizes:
     """The numbers of bytes that the Reads of a recording asked for."""
-    return ReadSizes(index_of(recording))
+    return ReadSizes(run_of(recording))

@@ -7,8 +7,8 @@ from typing import NamedTuple, Optional
 from netrev.recording.call import Call
 from netrev.recording.recording import Recording
 from netrev.recording.words import duration
+from netrev.run.index import READING, RunIndex
 
-from .index import READING, Index
 from .words import name_of, place_of_step
 
 
@@ -33,7 +33,7 @@ def settings_of(recording: Recording) -> dict[int, list[DeadlineSetting]]:
     return found
 
 
-def deadline_ahead(index: Index, call: Call, position: int) -> Optional[DeadlineSetting]:
+def deadline_ahead(index: RunIndex, call: Call, position: int) -> Optional[DeadlineSetting]:
     """The deadline of a call that waits at a position; None if the call has no deadline."""
     side, begin = "r" if call.name in READING else "w", index.by_socket[call.socket][0].first
     settings = (
@@ -45,14 +45,14 @@ def deadline_ahead(index: Index, call: Call, position: int) -> Optional[Deadline
     return last if last and last.time > 0 else None
 
 
-def until_words(index: Index, call: Call) -> str:
+def until_words(index: RunIndex, call: Call) -> str:
     """Text for the end of a wait with a deadline: `until the deadline of the Read at a.go:3 passes`."""
     place = index.recording.lines.of(call.first).place()
     at = f" at {place}" if place and not place.startswith("in ") else f" {place}".rstrip()
     return f"until the deadline of the {name_of(index.recording, call)}{at} passes"
 
 
-def setting_says(index: Index, setting: DeadlineSetting) -> str:
+def setting_says(index: RunIndex, setting: DeadlineSetting) -> str:
     """A sentence that names the line that set a deadline, and the time until the deadline."""
     at = place_of_step(index.recording, setting.step, setting.goroutine)
     return f"Its deadline was set{at}, {duration(setting.time)} ahead, and hasn't passed."

@@ -10,8 +10,8 @@ from netrev.recording.call import Call as OneCall
 from netrev.recording.recording import Recording
 from netrev.recording.waits import Name
 from netrev.recording.where import OF_THE_PROGRAM, SourceCall, Stack
+from netrev.run.index import RunIndex
 
-from .index import Index
 from .words import place_in, short
 
 DEFERRED, WRAPPED = ".deferwrap", ".gowrap"
@@ -33,16 +33,16 @@ def goid_of(recording: Recording, name: Name) -> int:
 
 
 @lru_cache(maxsize=1024)
-def last_stack(index: Index, name: Name) -> Optional[Stack]:
+def last_stack(index: RunIndex, name: Name) -> Optional[Stack]:
     """The last known stack of a goroutine that isn't in a deferred function."""
     last = max(passed_by(index, name), key=lambda passage: (passage.step, passage.time), default=None)
     return last.stack if last else None
 
 
-def passed_by(index: Index, name: Name) -> Iterator[Passed]:
+def passed_by(index: RunIndex, name: Name) -> Iterator[Passed]:
     """The stacks of a goroutine that have a line of the program."""
     recording, goid = index.recording, goid_of(index.recording, name)
-    lines, calls = recording.lines, index.by_goroutine.get(name.number, []) if not name.is_goid else []
+    lines, calls = recording.lines, index.calls_of(name)
     found = [Passed(call.first, time_of(recording, call.first), lines.of(call.first)) for call in calls[-3:]]
     found += [Passed(park.last, park.end, lines.stacks[park.stack]) for park in lines.parks.get(goid, ())[-3:]]
     found += [Passed(dial.step, dial.time, lines.stacks[dial.stack]) for dial in lines.failed_dials.get(goid, ())[-3:]]
@@ -60,7 +60,7 @@ def time_of(recording: Recording, step: int) -> int:
     return times[step - 1] if 0 < step <= len(times) else 0
 
 
-def ended_where(index: Index, name: Name, known: Optional[Stack] = None) -> str:
+def ended_where(index: RunIndex, name: Name, known: Optional[Stack] = None) -> str:
     """Text for the last known place of a goroutine that ended, such as `, last known at a.go:15 in parse`, followed by
     the text of `ways_out` for its loop. The text is empty if the place is unknown, and omits the place if it is the
     known line."""
@@ -97,7 +97,7 @@ def ways_out(recording: Recording, call: SourceCall) -> str:
     return f", from whose loop only {ways} {lead}" if leaves else ""
 
 
-def left_by(index: Index, call: OneCall) -> str:
+def left_by(index: RunIndex, call: OneCall) -> str:
     """The line at which a goroutine left the loop around a call that it had made, in the form of `ended_where`. The
     goroutine has ended. If several lines are possible, the result is the first line after the goroutine's last line in
     that function."""

@@ -7,13 +7,13 @@ from netrev.recording.call import Call
 from netrev.recording.goroutines import PUT, TOOK
 from netrev.recording.waits import Name, ObjectWait
 from netrev.recording.where import Stack
+from netrev.run.index import MOVING, RunIndex, back
 
-from .index import MOVING, Index, back
 
 WRITE_LOOP, SERVE = "net/http.(*persistConn).writeLoop", "net/http.(*conn).serve"
 
 
-def socket_of(index: Index, wait: ObjectWait, position: int) -> Optional[int]:
+def socket_of(index: RunIndex, wait: ObjectWait, position: int) -> Optional[int]:
     """The socket to which the waiter's request was written. The socket belongs to the connection whose goroutine last
     took a request from the waiter. That goroutine may have taken requests from other goroutines since."""
     lines = index.recording.lines
@@ -33,7 +33,7 @@ def socket_of(index: Index, wait: ObjectWait, position: int) -> Optional[int]:
     return call.socket if call else None
 
 
-def server_of(index: Index, socket: int, position: int) -> Optional[Name]:
+def server_of(index: RunIndex, socket: int, position: int) -> Optional[Name]:
     """The goroutine that serves the other end of a socket: the last goroutine that read a request there."""
     other = index.other_end(socket)
     used = back(index.by_socket.get(other, ()), position) if other is not None else iter(())
@@ -42,7 +42,7 @@ def server_of(index: Index, socket: int, position: int) -> Optional[Name]:
     return Name(call.goroutine) if call else None
 
 
-def is_by_server(index: Index, call: Call) -> bool:
+def is_by_server(index: RunIndex, call: Call) -> bool:
     return contains(index.recording.lines.of(call.first), SERVE)
 
 

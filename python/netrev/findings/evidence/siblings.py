@@ -9,7 +9,7 @@ from netrev.findings.source.functions import text_at
 from netrev.recording.recording import Recording
 from netrev.recording.waits import Name, name_of_goid, of_names
 from netrev.recording.where import OF_THE_PROGRAM, SourceCall, Stack
-from netrev.run.calls import book_of
+from netrev.run.index import run_of
 from netrev.text.plurals import counted
 
 from .words import short
@@ -38,7 +38,7 @@ class PassedLines:
     def _stacks(self) -> dict[Name, set[int]]:
         """The stacks of each goroutine at its steps, waits and uses of channels."""
         lines, found = self._recording.lines, defaultdict[Name, set[int]](set)
-        for goroutine, stack in zip(book_of(self._recording).whose.goroutines, lines.steps):
+        for goroutine, stack in zip(run_of(self._recording).owners.goroutines, lines.steps):
             found[Name(goroutine)].add(stack)
         for goid, parks in lines.parks.items():
             found[name_of_goid(lines, goid)].update(park.stack for park in parks)

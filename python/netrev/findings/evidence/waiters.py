@@ -8,8 +8,8 @@ from netrev.recording.call import Call
 from netrev.recording.recording import Recording
 from netrev.recording.waits import ALL_REQUESTS, Name, ObjectWait, waits_of
 from netrev.recording.where import OF_THE_PROGRAM, Stack
+from netrev.run.index import READING, WRITING, RunIndex
 
-from .index import READING, WRITING, Index
 from .words import is_of_a_lock, is_of_the_program
 
 TICKERS = ("time.NewTicker", "time.Tick", "time.(*Ticker).Reset")
@@ -31,13 +31,13 @@ class Waiter(NamedTuple):
         return bool(self.stack.calls) and not any(call.of == OF_THE_PROGRAM for call in self.stack.calls)
 
 
-def is_waiting(index: Index, call: Call) -> bool:
+def is_waiting(index: RunIndex, call: Call) -> bool:
     """Whether a call, other than one on a listener, still waits for its peer or for a lock when the recording ends."""
-    is_asleep = call.name in READING + WRITING and index.book.sleeps_at_the_end(call)
+    is_asleep = call.name in READING + WRITING and index.sleeps_at_the_end(call)
     return is_asleep and not index.is_listening(call)
 
 
-def waiters_at(index: Index, position: int) -> dict[Name, Waiter]:
+def waiters_at(index: RunIndex, position: int) -> dict[Name, Waiter]:
     """The goroutines that wait at a position and don't go on in the recording. Listeners, sleepers, and goroutines
     outside the poller that run only Go's own code are left out."""
     recording, found = index.recording, dict[Name, Waiter]()
@@ -49,14 +49,14 @@ def waiters_at(index: Index, position: int) -> dict[Name, Waiter]:
             and not is_timed(recording, wait)
         ):
             found[wait.name] = Waiter(wait.name, wait.first, wait.stack, None, wait)
-    for call in index.book.calls:
+    for call in index.calls:
         if not call.last and call.first <= position and is_waiting(index, call):
             name = Name(call.goroutine)
             found[name] = Waiter(name, call.first, recording.lines.of(call.first), call)
     return found
 
 
-def waiters_during(index: Index, position: int) -> dict[Name, Waiter]:
+def waiters_during(index: RunIndex, position: int) -> dict[Name, Waiter]:
     """The goroutines that wait at a position, whether or not they go on later. Listeners, sleepers, and goroutines
     outside the poller that run only Go's own code are left out."""
     recording, found = index.recording, dict[Name, Waiter]()
@@ -64,7 +64,7 @@ def waiters_during(index: Index, position: int) -> dict[Name, Waiter]:
         if is_of_the_program(wait.stack) and not is_of_a_lock(wait.stack) and not wait.is_asleep:
             found[wait.name] = Waiter(wait.name, wait.first, wait.stack, None, wait)
     for goroutine in index.by_goroutine:
-        call = index.inside(goroutine, position)
+        call = index.call_at(goroutine, position)
         if call and call.name in READING + WRITING and not index.is_listening(call):
             found[Name(goroutine)] = Waiter(Name(goroutine), call.first, recording.lines.of(call.first), call)
     return found

@@ -1,12 +1,12 @@
 """Goroutines that read for other goroutines and pass on what they read. The module finds a goroutine that got bytes
 after a request and has passed nothing on since then."""
 
-from netrev.findings.evidence.index import index_of
 from netrev.findings.evidence.waiters import Waiter
 from netrev.findings.evidence.words import text_of_call
 from netrev.recording.goroutines import PUT
 from netrev.recording.recording import Recording
 from netrev.recording.waits import Name, ObjectWait
+from netrev.run.index import run_of
 from netrev.text.plurals import counted
 
 
@@ -16,7 +16,7 @@ def perhaps_dropped(recording: Recording, wait: ObjectWait, by: Waiter) -> list[
     reader = by.call
     if reader is None or reader.name != "Read" or wait.name.is_goid or len(wait.objects) != 1:
         return []
-    calls = [call for call in index_of(recording).by_socket[reader.socket] if call.last and call.moved]
+    calls = [call for call in run_of(recording).by_socket[reader.socket] if call.last and call.moved]
     writes = [
         call
         for call in calls

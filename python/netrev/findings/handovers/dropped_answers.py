@@ -5,7 +5,6 @@ import re
 from collections import defaultdict
 from typing import Mapping, NamedTuple, Optional
 
-from netrev.findings.evidence.index import MOVING, Index
 from netrev.findings.evidence.need import Need
 from netrev.findings.evidence.waiters import Waiter
 from netrev.findings.evidence.words import text_of_call
@@ -18,6 +17,7 @@ from netrev.recording.goroutines import FOR_VALUE, PUT, TOOK
 from netrev.recording.recording import Recording
 from netrev.recording.waits import Name, ObjectWait, name_of_goid
 from netrev.recording.where import OF_THE_PROGRAM, SourceCall as LineCall, Stack
+from netrev.run.index import MOVING, RunIndex
 from netrev.text.plurals import counted
 
 from .handed_over import sockets_of_request, written_for
@@ -41,7 +41,7 @@ def is_for_values(wait: ObjectWait) -> bool:
     return bool(wait.objects) and all(at.use == FOR_VALUE for at in wait.objects)
 
 
-def dropped_answer(index: Index, wait: ObjectWait, hands: Mapping[int, list[Hand]]) -> Optional[Need]:
+def dropped_answer(index: RunIndex, wait: ObjectWait, hands: Mapping[int, list[Hand]]) -> Optional[Need]:
     """What a waiting goroutine needs: an answer that a goroutine in `hands` (keyed by socket) read and passed to no
     other goroutine. None if unknown."""
     sockets = sockets_of_request(index, wait) if hands else set()
@@ -107,16 +107,16 @@ def by_source(recording: Recording, wait: ObjectWait, readers: Mapping[Name, Wai
     return found
 
 
-def request_of(index: Index, wait: ObjectWait, socket: int) -> Optional[Call]:
+def request_of(index: RunIndex, wait: ObjectWait, socket: int) -> Optional[Call]:
     """The last Write of a goroutine to a socket before it waits. If the waiter made no Write, the result is the first
     Write of a goroutine that got the request from the waiter."""
-    calls = [] if wait.name.is_goid else index.by_goroutine.get(wait.name.number, [])
+    calls = index.calls_of(wait.name)
     writes = [call for call in calls if call.name == "Write" and call.socket == socket and call.moved and call.last]
     own = next((write for write in reversed(writes) if write.first <= wait.first), None)
     return own or written_for(index, wait, socket)
 
 
-def read_since(index: Index, hand: Hand, request: Call) -> Optional[Call]:
+def read_since(index: RunIndex, hand: Hand, request: Call) -> Optional[Call]:
     """The last Read, after a Write, that got bytes for a goroutine; the Read in which the goroutine waits now doesn't
     count."""
     calls = [call for call in index.by_goroutine.get(hand.call.goroutine, []) if call.socket == hand.call.socket]
@@ -130,7 +130,7 @@ def has_put(recording: Recording, wait: ObjectWait, read: Call) -> bool:
     return any(use.what == PUT and use.last >= read.last for use in uses)
 
 
-def is_answered(index: Index, request: Call) -> bool:
+def is_answered(index: RunIndex, request: Call) -> bool:
     """Whether, as far as known, all requests at a socket were answered. Either a goroutine at the other end read after
     the request, wrote, and now reads again, or the other end made as many Writes as this end."""
     other = index.other_end(request.socket)
@@ -147,13 +147,13 @@ def is_answered(index: Index, request: Call) -> bool:
     return is_serial or sum(call.name == "Write" for call in moved) >= len(requests)
 
 
-def reads_on(index: Index, goroutine: int, socket: int) -> bool:
+def reads_on(index: RunIndex, goroutine: int, socket: int) -> bool:
     """Whether a goroutine is in a Read on a socket at the end of the recording."""
-    now = index.inside(goroutine, index.recording.length)
+    now = index.call_at(goroutine, index.recording.length)
     return now is not None and now.name == "Read" and now.socket == socket
 
 
-def says_of(index: Index, wait: ObjectWait, hand: Hand, request: Call, read: Call) -> list[str]:
+def says_of(index: RunIndex, wait: ObjectWait, hand: Hand, request: Call, read: Call) -> list[str]:
     """The sentences about the request, the goroutine that read the answer, and the lines at which that goroutine
     continues without passing the answer on."""
     recording, name = index.recording, hand.reader.name

@@ -5,7 +5,6 @@ import re
 from typing import Iterator, Optional
 
 from netrev.findings.evidence.ended_goroutines import ended_where, goid_of
-from netrev.findings.evidence.index import Index
 from netrev.findings.evidence.need import Need
 from netrev.findings.evidence.siblings import lines_of
 from netrev.findings.pools.closed_later import DONE, channels_of
@@ -15,13 +14,14 @@ from netrev.recording.goroutines import A_SELECT, FOR_VALUE
 from netrev.recording.recording import Recording
 from netrev.recording.waits import ObjectWait, name_of_goid, of_names
 from netrev.recording.where import OF_THE_PROGRAM, SourceCall
+from netrev.run.index import RunIndex
 
 STARTS = re.compile(r"\bgo (?:[\w.]+\.)?(\w+)\(")
 FUNCTION = re.compile(r"func (?:\([^)]*\) )?(\w+)[(\[]")
 MOST = 50  # the most goroutines to examine
 
 
-def ended_giver(index: Index, wait: ObjectWait) -> Optional[Need]:
+def ended_giver(index: RunIndex, wait: ObjectWait) -> Optional[Need]:
     """What a waiting goroutine needs: a value, or room for one. Other goroutines ended before they provided it, and
     perhaps should have. None if no such goroutine is found."""
     own, recording = wait.stack.own(), index.recording
@@ -49,7 +49,7 @@ def givings_of_select(recording: Recording, call: SourceCall) -> list[Giving]:
     return [giving for name in names for giving in givings_of(lines, call, name, PUTS)] if lines else []
 
 
-def need_of(index: Index, wait: ObjectWait, found: list[int], own: SourceCall, number: int) -> Need:
+def need_of(index: RunIndex, wait: ObjectWait, found: list[int], own: SourceCall, number: int) -> Need:
     """What a waiting goroutine needs. The goroutines in `found` ended before they reached the line that would have
     ended the wait."""
     lines, names = index.recording.lines, [name_of_goid(index.recording.lines, goid) for goid in found]

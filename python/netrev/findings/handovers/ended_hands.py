@@ -6,7 +6,6 @@ from functools import lru_cache
 from typing import NamedTuple, Optional, Sequence
 
 from netrev.findings.evidence.ended_goroutines import ended_where, ways_out
-from netrev.findings.evidence.index import Index
 from netrev.findings.evidence.ledger import END
 from netrev.findings.evidence.need import Need
 from netrev.findings.evidence.words import ENDED, text_of_call
@@ -16,6 +15,7 @@ from netrev.recording.call import Call as OneCall
 from netrev.recording.goroutines import FOR_VALUE, PUT, TOOK, ObjectUse
 from netrev.recording.waits import Name, ObjectWait, name_of_goid, of_names
 from netrev.recording.where import OF_THE_PROGRAM, SourceCall
+from netrev.run.index import RunIndex
 
 MOST_NAMED = 4
 
@@ -29,7 +29,7 @@ class EndedHand(NamedTuple):
     line: SourceCall
 
 
-def ended_hand(index: Index, wait: ObjectWait) -> Optional[Need]:
+def ended_hand(index: RunIndex, wait: ObjectWait) -> Optional[Need]:
     """What a goroutine needs if it waits for a value, and all goroutines that provided values for its line have ended.
     The result is None if one of these goroutines hasn't ended, or if no goroutine provided values."""
     lines, own = index.recording.lines, wait.stack.own()
@@ -46,7 +46,7 @@ def ended_hand(index: Index, wait: ObjectWait) -> Optional[Need]:
 
 
 @lru_cache(maxsize=256)
-def hands_at(index: Index, line: SourceCall) -> tuple[EndedHand, ...]:
+def hands_at(index: RunIndex, line: SourceCall) -> tuple[EndedHand, ...]:
     """The goroutines that put values into the channels from which a line received, in the order of their last puts."""
     lines, found = index.recording.lines, dict[Name, EndedHand]()
     taken = [
@@ -61,7 +61,7 @@ def hands_at(index: Index, line: SourceCall) -> tuple[EndedHand, ...]:
     return tuple(found.values())
 
 
-def says_of(index: Index, hands: Sequence[EndedHand]) -> list[str]:
+def says_of(index: RunIndex, hands: Sequence[EndedHand]) -> list[str]:
     """Sentences about the lines at which these goroutines put values for others, and about the last call of each."""
     last, recording = hands[-1], index.recording
     if len(hands) > 1:
@@ -84,8 +84,7 @@ def says_of(index: Index, hands: Sequence[EndedHand]) -> list[str]:
     return [says[0].upper() + says[1:], *([how] if how else [])]
 
 
-def failed_last(index: Index, name: Name) -> Optional[OneCall]:
+def failed_last(index: RunIndex, name: Name) -> Optional[OneCall]:
     """The last Read or Write of a goroutine, if it failed or reached the end of the stream."""
-    calls = [] if name.is_goid else index.by_goroutine.get(name.number, [])
-    moving = [call for call in calls if call.name in ("Read", "Write") and call.last]
+    moving = [call for call in index.calls_of(name) if call.name in ("Read", "Write") and call.last]
     return moving[-1] if moving and (moving[-1].outcome.is_error or moving[-1].outcome in ENDED) else None

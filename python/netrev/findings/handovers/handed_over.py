@@ -6,13 +6,13 @@ from functools import lru_cache
 from typing import Optional
 
 from netrev.findings.evidence.ended_goroutines import goid_of
-from netrev.findings.evidence.index import Index
 from netrev.findings.evidence.ledger import END
 from netrev.recording.call import Call
 from netrev.recording.goroutines import PUT, TOOK, ObjectUse
 from netrev.recording.recording import Recording
 from netrev.recording.waits import ObjectWait
 from netrev.recording.where import OF_THE_PROGRAM, Stack
+from netrev.run.index import RunIndex
 
 
 def put_before(recording: Recording, wait: ObjectWait) -> Optional[ObjectUse]:
@@ -38,13 +38,12 @@ def puts_of(recording: Recording) -> dict[int, list[ObjectUse]]:
     return found
 
 
-def sockets_of_request(index: Index, wait: ObjectWait) -> set[int]:
+def sockets_of_request(index: RunIndex, wait: ObjectWait) -> set[int]:
     """The sockets to which a goroutine wrote, and the sockets to which other goroutines wrote after they took its
     request from a channel."""
     lines, put = index.recording.lines, put_before(index.recording, wait)
     takers = {use.goid for use in lines.uses.get(put.object, ()) if use.what == TOOK} if put else set()
-    own = [] if wait.name.is_goid else index.by_goroutine.get(wait.name.number, [])
-    calls = [*own, *(call for goid in takers for call in index.by_goid(goid))]
+    calls = [*index.calls_of(wait.name), *(call for goid in takers for call in index.by_goid(goid))]
     return {call.socket for call in calls if call.name == "Write"}
 
 
@@ -52,7 +51,7 @@ def functions_of(stack: Stack) -> set[str]:
     return {call.function for call in stack.calls if call.of == OF_THE_PROGRAM}
 
 
-def written_for(index: Index, wait: ObjectWait, socket: int) -> Optional[Call]:
+def written_for(index: RunIndex, wait: ObjectWait, socket: int) -> Optional[Call]:
     """The first Write on a socket by a goroutine that had taken what the waiter put into a channel."""
     put = put_before(index.recording, wait)
     if put is None:

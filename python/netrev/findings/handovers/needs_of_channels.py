@@ -6,7 +6,6 @@ from typing import Any, Callable, Hashable, Iterable, Iterator, Mapping, Optiona
 
 
 from netrev.findings.evidence.ended_goroutines import loop_words
-from netrev.findings.evidence.index import index_of
 from netrev.findings.evidence.ledger import GAVE_BEFORE, GIVES, GIVES_WORDS, Ledger, Operation
 from netrev.findings.evidence.loop_variables import shared_variables
 from netrev.findings.evidence.need import Certainty, Need
@@ -28,6 +27,7 @@ from netrev.recording.goroutines import FOR_ROOM, FOR_VALUE, PUT, TOOK, At
 from netrev.recording.recording import Recording
 from netrev.recording.waits import Name, ObjectWait, Waits, name_of_goid
 from netrev.recording.where import OF_THE_PROGRAM, Stack
+from netrev.run.index import run_of
 
 from .dispatchers import perhaps_dropped
 from .dropped_notices import dropped_notices
@@ -216,7 +216,7 @@ class NeedsOfChannels:
                 )
                 ended = have_ended(self._recording, wait._replace(objects=(at,)))
                 return Need([f"{did}; it {self._does(latest.name, stack)}.", *ended], is_odd=True)
-        return ended_giver(index_of(self._recording), wait) or Need([])
+        return ended_giver(run_of(self._recording), wait) or Need([])
 
     def _of_the_past(self, wait: ObjectWait, operations: list[Operation], closing: Optional[Need]) -> Need:
         """What a goroutine needs if no waiting goroutine did the awaited operation. The need says which other goroutine did it last, if any."""
@@ -239,7 +239,7 @@ class NeedsOfChannels:
         later = self._by_source("later", later_giver, wait)
         if later is None or not later.by:
             return (
-                ended_giver(index_of(self._recording), wait) or later or Need([], more=untouched(self._recording, wait))
+                ended_giver(run_of(self._recording), wait) or later or Need([], more=untouched(self._recording, wait))
             )
         return later
 

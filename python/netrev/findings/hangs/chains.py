@@ -1,13 +1,13 @@
 """The chain of waits that led to a failed call, at the step at which the call failed. The call waited for a goroutine,
 which itself waited for another, and so on."""
 
-from netrev.findings.evidence.index import Index
 from netrev.findings.evidence.ledger import GIVES
 from netrev.findings.evidence.need import Need
 from netrev.findings.evidence.waiters import Waiter, waiters_during
 from netrev.findings.evidence.words import capital, place_in
 from netrev.recording.call import Call
 from netrev.recording.waits import Name
+from netrev.run.index import RunIndex
 
 from .hang_words import waiter_words
 from .needs import Needs
@@ -15,7 +15,7 @@ from .needs import Needs
 MOST_LINKS = 4
 
 
-def chain_says(index: Index, call: Call, need: Need, position: int) -> list[str]:
+def chain_says(index: RunIndex, call: Call, need: Need, position: int) -> list[str]:
     """The sentences about the goroutines of the chain, starting with the goroutine that the failed call needed."""
     waiters = waiters_during(index, position)
     needs, known = Needs(index, waiters, position), list(need.says)
@@ -32,14 +32,14 @@ def chain_says(index: Index, call: Call, need: Need, position: int) -> list[str]
     return says
 
 
-def is_elsewhere(index: Index, call: Call, waiter: Waiter, need: Need) -> bool:
+def is_elsewhere(index: RunIndex, call: Call, waiter: Waiter, need: Need) -> bool:
     """Whether a goroutine counts as needed only because it used the other end, although it is now in a call on another
     connection."""
     ends = (call.socket, index.other_end(call.socket))
     return waiter.call is not None and waiter.call.socket not in ends and need.how.endswith("the other end last")
 
 
-def is_still_so(index: Index, waiter: Waiter, position: int) -> bool:
+def is_still_so(index: RunIndex, waiter: Waiter, position: int) -> bool:
     """Whether the waiter still needs the same goroutines: after `position`, no goroutine did the awaited operation on
     the waiter's channels."""
     lines, objects = index.recording.lines, waiter.wait.objects if waiter.wait else ()
@@ -48,7 +48,7 @@ def is_still_so(index: Index, waiter: Waiter, position: int) -> bool:
     )
 
 
-def link_says(index: Index, waiter: Waiter, need: Need, is_back: bool, known: list[str]) -> list[str]:
+def link_says(index: RunIndex, waiter: Waiter, need: Need, is_back: bool, known: list[str]) -> list[str]:
     """The sentences about one goroutine of the chain. `is_back` means that it waits for a goroutine that is already in
     the chain. The sentences then leave out `need.how`. If the goroutine waits in a call, they also leave out
     `need.says`."""

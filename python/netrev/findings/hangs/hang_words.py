@@ -5,7 +5,6 @@ from collections import defaultdict
 from typing import Sequence
 
 from netrev.findings.evidence.deadlines_ahead import deadline_ahead, setting_says, until_words
-from netrev.findings.evidence.index import READING, Index, index_of
 from netrev.findings.evidence.need import GOES_FIRST
 from netrev.findings.evidence.waiters import Waiter
 from netrev.findings.evidence.words import capital, name_of, place_in, text_of_call, waits_words
@@ -15,6 +14,7 @@ from netrev.recording.goroutines import FOR_VALUE
 from netrev.recording.recording import Recording
 from netrev.recording.waits import Name, listed, of_names
 from netrev.recording.words import SIDES
+from netrev.run.index import READING, RunIndex, run_of
 from netrev.text.plurals import counted
 
 from .missing_cases import missing_case_says
@@ -85,7 +85,7 @@ def of_waiters(graph: WaitGraph, hang: Hang) -> list[str]:
 
 def ahead_says(graph: WaitGraph, hang: Hang) -> list[list[str]]:
     """Sentences about the deadlines that the roots' calls still have."""
-    index = index_of(graph.recording)
+    index = run_of(graph.recording)
     settings = (deadline_ahead(index, root.call, graph.position) if root.call else None for root in hang.roots)
     return [[setting_says(index, setting)] if setting else [] for setting in settings]
 
@@ -107,7 +107,7 @@ def beside_words(graph: WaitGraph, hang: Hang) -> list[str]:
 def unread_words(graph: WaitGraph, hang: Hang) -> list[str]:
     """Sentences about bytes that a hanging goroutine wrote and no goroutine reads. The list is empty if the hang's root
     waits for room, because the root's sentence already names those bytes."""
-    call, index, names = hang.root.call, index_of(graph.recording), {waiter.name for waiter in waiters_of(hang)}
+    call, index, names = hang.root.call, run_of(graph.recording), {waiter.name for waiter in waiters_of(hang)}
     if any(root.call and root.call.name == "Write" for root in hang.roots) or (call and call.is_asking):
         return []
     is_one = not hang.waiting and not hang.is_deadlock
@@ -122,7 +122,7 @@ def wants_value(waiter: Waiter) -> bool:
     return waiter.wait is not None and any(at.use == FOR_VALUE for at in waiter.wait.objects)
 
 
-def reader_words(index: Index, names: set[Name], position: int) -> list[str]:
+def reader_words(index: RunIndex, names: set[Name], position: int) -> list[str]:
     """Sentences about a socket whose only reader has ended, if a goroutine that waits for a value wrote to that socket
     last."""
     for reader in gone_readers(index, position):
@@ -195,7 +195,7 @@ def deadlock_words(graph: WaitGraph, hang: Hang) -> str:
     what = "calls" if all(root.call for root in hang.roots) else "goroutines"
     is_perhaps = hang.certainty == Certainty.PERHAPS
     if hang.until:
-        until, perhaps = until_words(index_of(graph.recording), hang.until), "perhaps " if is_perhaps else ""
+        until, perhaps = until_words(run_of(graph.recording), hang.until), "perhaps " if is_perhaps else ""
         return f"{capital(perhaps + many)} {what} wait for one another{behind_it(hang)} {until}."
     begins = "Perhaps a deadlock" if is_perhaps else "Deadlock"
     if hang.is_of_mutexes and hang.is_loose:
@@ -230,9 +230,9 @@ def for_what(recording: Recording, waiter: Waiter) -> str:
         return ""
     if call.is_asking:
         return f", for socket {call.socket}'s {SIDES[call.side]} lock"
-    needs, other = "bytes from" if call.name in READING else "room, which a read makes at", index_of(
-        recording
-    ).other_end(call.socket)
+    needs, other = "bytes from" if call.name in READING else "room, which a read makes at", run_of(recording).other_end(
+        call.socket
+    )
     return f", for {needs} the other end, socket {other}" if other is not None else ""
 
 

@@ -3,12 +3,13 @@ or of goroutines that wait for the call's goroutine."""
 
 from typing import Iterator, NamedTuple, Optional
 
-from netrev.findings.evidence.index import READING, WRITING, Cause, index_of
 from netrev.findings.evidence.responses import server_of
 from netrev.findings.evidence.waiters import Waiter
 from netrev.findings.evidence.words import name_of
+from netrev.findings.finding import Cause
 from netrev.recording.call import CLOSE, Call
 from netrev.recording.waits import Name
+from netrev.run.index import READING, WRITING, run_of
 
 from .wait_graph import Hang, WaitGraph, waiters_of
 
@@ -61,7 +62,7 @@ def because_of(graph: WaitGraph, hang: Hang, cause: Optional[Cause]) -> str:
 def has_stopped(graph: WaitGraph, waiter: Waiter, call: Call) -> bool:
     """Whether the goroutine of a failed call began to wait outside the poller after that call, and has since then used
     no socket except to close it."""
-    calls = index_of(graph.recording).by_goroutine[call.goroutine]
+    calls = run_of(graph.recording).by_goroutine[call.goroutine]
     later = [later_call for later_call in calls if later_call.first > call.last and later_call.name != CLOSE]
     return waiter.wait is not None and waiter.since >= call.last and not later
 
@@ -69,7 +70,7 @@ def has_stopped(graph: WaitGraph, waiter: Waiter, call: Call) -> bool:
 def others_of(graph: WaitGraph, call: Call) -> Iterator[Name]:
     """The goroutines at the other end of a call's connection: the goroutine that served a request there, and the
     goroutine that last used that end before the call ended."""
-    index = index_of(graph.recording)
+    index = run_of(graph.recording)
     if server := server_of(index, call.socket, call.first):
         yield server
     other = index.other_end(call.socket)

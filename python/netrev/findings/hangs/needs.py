@@ -8,7 +8,6 @@ from netrev.findings.datagrams.cut_datagrams import cut_says
 from netrev.findings.datagrams.datagrams import unanswered_datagram
 from netrev.findings.datagrams.shared_sockets import shared_says
 from netrev.findings.datagrams.unheard import unheard
-from netrev.findings.evidence.index import READING, Index
 from netrev.findings.evidence.need import Certainty, Need
 from netrev.findings.evidence.waiters import Waiter
 from netrev.findings.evidence.words import place_of_step, result_words, since_begin, text_of_call, waits_words
@@ -27,6 +26,7 @@ from netrev.findings.streams.unread import unread_answers
 from netrev.recording.call import CLOSE, Call
 from netrev.recording.waits import Name, Waits, name_of_goid, waits_of
 from netrev.recording.words import SIDES
+from netrev.run.index import READING, RunIndex
 
 from .needs_elsewhere import NeedsElsewhere
 
@@ -36,7 +36,7 @@ DID = {"Write": "wrote to", "Read": "read at"}
 class Needs:
     """Finds what each waiting goroutine needs at a position."""
 
-    def __init__(self, index: Index, waiters: dict[Name, Waiter], position: int) -> None:
+    def __init__(self, index: RunIndex, waiters: dict[Name, Waiter], position: int) -> None:
         self._index, self._recording, self._position = index, index.recording, position
         self._waits, self._waiters = waits_of(index.recording), waiters
         self._elsewhere = NeedsElsewhere(index, self._waits, waiters, position)
@@ -122,7 +122,7 @@ class Needs:
                 return Need(says, started, "perhaps {by} should use the other end", Certainty.PERHAPS)
             by = Name(opened.goroutine) if opened else None
             return Need(says, by, "perhaps {by} should use the other end, which it opened", Certainty.PERHAPS)
-        if did and index.inside(last.goroutine, self._position) is did and not did.is_asking:
+        if did and index.call_at(last.goroutine, self._position) is did and not did.is_asking:
             return Need(
                 [*says, f"There {text_of_call(self._recording, last)} is itself under way since step {last.first}."]
             )
@@ -150,10 +150,7 @@ class Needs:
         if known is None or known.made is None or known.last < 0 or not known.maker:
             return None
         maker = name_of_goid(lines, known.maker)
-        if maker.is_goid or not any(
-            call.name == "Read" and call.socket == write.socket
-            for call in self._index.by_goroutine.get(maker.number, ())
-        ):
+        if not any(call.name == "Read" and call.socket == write.socket for call in self._index.calls_of(maker)):
             return None
         alike = (
             goroutine
@@ -233,7 +230,7 @@ class Needs:
 
     def _stopped(self, last: Call) -> int:
         """The first step of a goroutine's last call; 0 if the goroutine is in a call or waits elsewhere."""
-        is_busy = self._index.inside(last.goroutine, self._position) or self._waits.at(
+        is_busy = self._index.call_at(last.goroutine, self._position) or self._waits.at(
             Name(last.goroutine), self._position
         )
         return 0 if is_busy else last.first
@@ -241,7 +238,7 @@ class Needs:
     def _since_then(self, last: Call) -> list[str]:
         """A sentence about the goroutine that last used the other end. It names the goroutine's last call there, and
         says what the goroutine does now."""
-        recording, now = self._recording, self._index.inside(last.goroutine, self._position)
+        recording, now = self._recording, self._index.call_at(last.goroutine, self._position)
         if now is last:
             return [f"There {text_of_call(recording, last)} is itself under way since step {last.first}."]
         result = f", {result_words(recording, last)}" if last.came() and last.last <= self._position else ""
@@ -254,7 +251,7 @@ class Needs:
         return [f"{did}; {doing(self._index, self._waits, last.goroutine, self._position)}."]
 
 
-def doing(index: Index, waits: Waits, goroutine: int, position: int) -> str:
+def doing(index: RunIndex, waits: Waits, goroutine: int, position: int) -> str:
     """What a goroutine that is in no call does: `it sleeps at a.go:63 in client since step 9`."""
     if wait := waits.at(Name(goroutine), position):
         return f"it {waits_words(wait)} since step {wait.first}"

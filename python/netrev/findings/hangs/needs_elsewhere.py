@@ -4,7 +4,6 @@ for a mutex, a channel, a WaitGroup, a descriptor in use, or a connection of net
 from typing import Hashable, Iterator, Optional
 
 from netrev.findings.evidence.ended_goroutines import ended_where
-from netrev.findings.evidence.index import READING, Index, back
 from netrev.findings.evidence.ledger import Ledger
 from netrev.findings.evidence.need import Certainty, Need
 from netrev.findings.evidence.responses import SERVE, contains, server_of, socket_of
@@ -30,12 +29,13 @@ from netrev.findings.streams.unaccepted import is_dialed
 from netrev.recording.goroutines import A_CONDITION, A_SELECT, A_WAIT_GROUP, MUTEXES
 from netrev.recording.waits import ALL_REQUESTS, A_CONNECTION, A_RESPONSE, LAST_USE, Name, ObjectWait, Waits
 from netrev.recording.where import OF_THE_PROGRAM, Stack
+from netrev.run.index import READING, RunIndex, back
 
 
 class NeedsElsewhere:
     """Finds what each goroutine needs while it waits outside the poller at a given position."""
 
-    def __init__(self, index: Index, waits: Waits, waiters: dict[Name, Waiter], position: int) -> None:
+    def __init__(self, index: RunIndex, waits: Waits, waiters: dict[Name, Waiter], position: int) -> None:
         self._index, self._recording, self._position = index, index.recording, position
         self._waiters, self._waits, self._ledger = waiters, waits, Ledger(index.recording, waits)
         stacks = list(self._stacks())
@@ -155,7 +155,7 @@ class NeedsElsewhere:
 
     def _of_close(self, waiter: Waiter) -> Need:
         """What a Close waits for: the call that still uses the descriptor."""
-        closes = None if waiter.name.is_goid else self._index.inside(waiter.name.number, self._position)
+        closes = None if waiter.name.is_goid else self._index.call_at(waiter.name.number, self._position)
         if closes is None:
             return Need([])
         users = [

@@ -5,11 +5,11 @@ earlier calls; and Reads that didn't get the end of the stream."""
 import re
 from typing import Optional
 
-from netrev.findings.evidence.index import READING, Index
 from netrev.findings.evidence.past_tense import in_the_past
 from netrev.findings.evidence.words import is_of_go, place_of_step
 from netrev.findings.source.package import places_with
 from netrev.recording.call import Call
+from netrev.run.index import READING, RunIndex
 
 from .chains import chain_says
 from .needs import Needs
@@ -17,7 +17,7 @@ from .needs import Needs
 DUPLICATES = re.compile(r"\.File\(\)|\bsyscall\.Dup")
 
 
-def given_up_says(index: Index, call: Call, by: Optional[Call]) -> list[str]:
+def given_up_says(index: RunIndex, call: Call, by: Optional[Call]) -> list[str]:
     """Sentences about what a call waited for when Go's own code closed its descriptor, as Go does if a connection's
     context has ended."""
     if by is None or not call.first < call.cause or not is_of_go(index.recording, by) or by.goroutine == call.goroutine:
@@ -26,7 +26,7 @@ def given_up_says(index: Index, call: Call, by: Optional[Call]) -> list[str]:
     return list(map(in_the_past, [*need.says, *need.more, *chain_says(index, call, need, call.cause)]))
 
 
-def found_says(index: Index, call: Call) -> list[str]:
+def found_says(index: RunIndex, call: Call) -> list[str]:
     """Further sentences about a Read or a Write that timed out. Its deadline was set while it waited, or earlier calls
     had ended under the same deadline. The sentences say why the bytes, or the room, that the call waited for didn't
     come."""
@@ -36,7 +36,7 @@ def found_says(index: Index, call: Call) -> list[str]:
     return list(map(in_the_past, [*([] if need.is_plain else need.more), *chain_says(index, call, need, call.last)]))
 
 
-def endless_says(index: Index, call: Call) -> list[str]:
+def endless_says(index: RunIndex, call: Call) -> list[str]:
     """Sentences about a Read that didn't get the end of the stream, although its other end was closed before the Read
     ended. Perhaps another descriptor keeps the connection open."""
     other = index.other_end(call.socket)

@@ -6,7 +6,6 @@ from functools import lru_cache
 from typing import Callable, Hashable, Iterable, Iterator, NamedTuple, Optional
 
 from netrev.findings.evidence.deadlines_ahead import deadline_ahead
-from netrev.findings.evidence.index import MOVING, READING, index_of
 from netrev.findings.evidence.need import Certainty, Need
 from netrev.findings.evidence.waiters import Waiter, waiters_at
 from netrev.findings.evidence.words import name_of, place_in
@@ -14,6 +13,7 @@ from netrev.recording.call import Call
 from netrev.recording.goroutines import A_CONDITION, MUTEXES
 from netrev.recording.recording import Recording
 from netrev.recording.waits import Name, name_of_goid, waits_of
+from netrev.run.index import MOVING, READING, run_of
 
 from .needs import Needs
 
@@ -112,7 +112,7 @@ class WaitGraph:
     """The graph at a position: the waiters, their needs, the edges, and the hangs in order."""
 
     def __init__(self, recording: Recording, position: int) -> None:
-        index = index_of(recording)
+        index = run_of(recording)
         self.recording, self.position = recording, position
         self.waiters = waiters_at(index, position)
         needs = Needs(index, self.waiters, position)
@@ -158,7 +158,7 @@ class WaitGraph:
         call = self.waiters[name].call
         if call is None or call.name not in READING or not self.needs[by].is_kept:
             return False
-        index = index_of(self.recording)
+        index = run_of(self.recording)
         before = [
             transfer
             for transfer in index.by_socket[call.socket]
@@ -195,7 +195,7 @@ class WaitGraph:
         for name in every:
             others = [other for other in self.needs[name].others if other not in every and other in self.edges]
             every += [other for other in others if is_at_mutex(self.waiters[other]) and self.edges[other].on in every]
-        hang, index = self._hang([self.waiters[name] for name in every or ring], []), index_of(self.recording)
+        hang, index = self._hang([self.waiters[name] for name in every or ring], []), run_of(self.recording)
         calls = [root.call for root in hang.roots if root.call]
         timed = next((call for call in calls if deadline_ahead(index, call, self.position)), None)
         return hang._replace(is_loose=len(every) > len(ring), until=timed)

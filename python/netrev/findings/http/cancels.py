@@ -7,7 +7,6 @@ from functools import lru_cache
 from operator import attrgetter
 from typing import Iterator, NamedTuple, Optional
 
-from netrev.findings.evidence.index import Index
 from netrev.findings.evidence.responses import contains, server_of
 from netrev.findings.evidence.words import place_in, waits_words
 from netrev.findings.source.functions import found_in, text_at
@@ -17,6 +16,7 @@ from netrev.recording.recording import Recording
 from netrev.recording.waits import name_of_goid, waits_of
 from netrev.recording.where import Stack
 from netrev.recording.words import duration
+from netrev.run.index import RunIndex
 
 OF_A_CONTEXT = "context.(*cancelCtx).cancel"
 OF_CONTEXTS = ("context.", "runtime.")
@@ -45,7 +45,7 @@ class Cancel(NamedTuple):
     timers: list[Timer]
 
 
-def cancel_before(index: Index, step: int) -> Optional[Cancel]:
+def cancel_before(index: RunIndex, step: int) -> Optional[Cancel]:
     """Why a goroutine made a step: one of the functions on its stack found a channel closed, and the goroutine has used
     no socket since."""
     recording = index.recording
@@ -91,7 +91,7 @@ def looker_of(stack: Stack) -> str:
     return next((call.function for call in stack.calls if not call.function.startswith(OF_CONTEXTS)), "")
 
 
-def last_step_before(index: Index, goroutine: int, step: int) -> int:
+def last_step_before(index: RunIndex, goroutine: int, step: int) -> int:
     """The last step of a goroutine's previous call, before the call that contains a step."""
     calls = [call for call in index.by_goroutine.get(goroutine, ()) if 0 < call.last < step]
     return max((call.last for call in calls), default=0)
@@ -117,7 +117,7 @@ def limits_before(recording: Recording, time: int, goid: int) -> list[Timer]:
     return sorted(mine, key=attrgetter("due"), reverse=True)
 
 
-def cancel_says(index: Index, cancel: Cancel) -> str:
+def cancel_says(index: RunIndex, cancel: Cancel) -> str:
     """A sentence that names the goroutine that cancelled, or the timeout that had passed."""
     lines, found = index.recording.lines, f"Goroutine {cancel.goroutine} had found"
     if not cancel.timers:
@@ -142,12 +142,12 @@ def cancel_says(index: Index, cancel: Cancel) -> str:
     return f"{found} that {limit_says(index, cancel.timers)}"
 
 
-def perhaps_of(index: Index, timers: list[Timer]) -> str:
+def perhaps_of(index: RunIndex, timers: list[Timer]) -> str:
     """`perhaps ` if the timers were made at several places; else empty."""
     return "perhaps " if len({place_in(index.recording.lines.stacks[timer.stack]) for timer in timers}) > 1 else ""
 
 
-def limit_says(index: Index, timers: list[Timer]) -> str:
+def limit_says(index: RunIndex, timers: list[Timer]) -> str:
     """A sentence which says that a context's timeout had passed. One of the timers belonged to that context."""
     lines, timer = index.recording.lines, timers[0]
     return (
@@ -167,7 +167,7 @@ def is_of_a_rest(recording: Recording, timer: Timer) -> bool:
     )
 
 
-def deferred_says(index: Index, cancel: Cancel) -> list[str]:
+def deferred_says(index: RunIndex, cancel: Cancel) -> list[str]:
     """Sentences about a context that was cancelled when a function returned: the line that defers the cancel, and the
     line that makes the context. The list is empty unless the source has exactly one such `defer`."""
     own = index.recording.lines.stacks[cancel.use.stack].own()
@@ -181,14 +181,14 @@ def deferred_says(index: Index, cancel: Cancel) -> list[str]:
     return [f"{file}:{number} defers that, of the context that {file}:{makes[name]} makes."]
 
 
-def under_way(index: Index, call: Call, step: int) -> str:
+def under_way(index: RunIndex, call: Call, step: int) -> str:
     """What the goroutine that serves the other end of a net/http connection did at a step; empty if unknown."""
     server = server_of(index, call.socket, step)
     wait = waits_of(index.recording).at(server, step) if server else None
     return f"{str(server).capitalize()}, which serves the request, {waits_words(wait)}." if wait else ""
 
 
-def after_says(index: Index, step: int, goroutine: int) -> list[str]:
+def after_says(index: RunIndex, step: int, goroutine: int) -> list[str]:
     """Sentences about a step of a goroutine that context.AfterFunc started. The sentences name the goroutine and line
     that had cancelled the context, or the timeout that had passed."""
     lines = index.recording.lines

@@ -4,11 +4,11 @@ stream."""
 import re
 from typing import Iterator
 
-from netrev.findings.evidence.index import Index
 from netrev.findings.source.package import places_with
 from netrev.recording.call import Call, Outcome
 from netrev.recording.recording import Recording
 from netrev.recording.where import OF_THE_PROGRAM
+from netrev.run.index import RunIndex
 
 OF_A_BODY, OF_A_LENGTH = "net/http.(*body).", "io.(*LimitedReader).Read"
 SETS_LENGTH = re.compile(r"[\"']Content-Length[\"']|\bContentLength *=")
@@ -16,9 +16,9 @@ OF_A_CLIENT = "net/http.(*persistConn)."
 MOST = 2
 
 
-def cut_bodies(index: Index) -> Iterator[Call]:
+def cut_bodies(index: RunIndex) -> Iterator[Call]:
     """The Reads that reached the end of the stream inside a body of known length."""
-    for call in index.book.calls:
+    for call in index.calls:
         if call.outcome is Outcome.EOF and call.last and is_of_a_body(index.recording, call):
             yield call
 

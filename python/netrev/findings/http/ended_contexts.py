@@ -4,16 +4,17 @@ goroutines use after the handler returned. The module reads the program's source
 import re
 from typing import Iterator, NamedTuple, Optional
 
-from netrev.findings.evidence.index import Cause, Index, back
 from netrev.findings.evidence.ledger import Ledger
 from netrev.findings.evidence.responses import SERVE
 from netrev.findings.evidence.words import place_in
+from netrev.findings.finding import Cause
 from netrev.findings.source.functions import range_of, source_of
 from netrev.findings.source.package import places_with
 from netrev.recording.goroutines import ENDED, ObjectUse
 from netrev.recording.recording import Recording
 from netrev.recording.waits import A_CONNECTION, name_of_goid, waits_of
 from netrev.recording.where import OF_THE_PROGRAM, Stack
+from netrev.run.index import RunIndex, back
 
 from .bodies_left_open import open_bodies
 from .requests import CAUSE_OF_END
@@ -43,7 +44,7 @@ class EndedBefore(NamedTuple):
         return [says, *(of_a_handler(recording, self.use.goid) or kept_by_a_handler(recording, stack))]
 
 
-def ended_before(index: Index) -> Iterator[EndedBefore]:
+def ended_before(index: RunIndex) -> Iterator[EndedBefore]:
     """The requests of the program that weren't sent because their contexts had ended."""
     lines = index.recording.lines
     for uses in lines.uses.values():
@@ -89,14 +90,14 @@ def kept_by_a_handler(recording: Recording, stack: Stack) -> list[str]:
     return [f"Perhaps it is the one that {found[0]} keeps of a request: net/http ends that as its handler returns."]
 
 
-def causes_of_ended(index: Index) -> list[Cause]:
+def causes_of_ended(index: RunIndex) -> list[Cause]:
     """Causes for the requests that weren't sent because their contexts had ended."""
     return [cause for request in ended_before(index) if (cause := cause_of(index, request))]
 
 
-def cause_of(index: Index, ended: EndedBefore) -> Optional[Cause]:
+def cause_of(index: RunIndex, ended: EndedBefore) -> Optional[Cause]:
     """The cause for a request that wasn't sent, attached to the last call before the request; None if no call came
     before it."""
-    near = next(back(index.book.calls, ended.use.last), None)
+    near = next(back(index.calls, ended.use.last), None)
     looks = [f"goto {ended.use.last}", "info goroutines"]
     return Cause(near, ended.says(index.recording), [ended.use.last], looks) if near else None

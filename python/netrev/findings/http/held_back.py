@@ -5,7 +5,6 @@ import re
 from typing import Iterator, Optional
 
 from netrev.findings.evidence.ended_goroutines import loop_round
-from netrev.findings.evidence.index import Index, back
 from netrev.findings.evidence.responses import SERVE, contains, server_of
 from netrev.findings.evidence.words import text_of_call
 from netrev.findings.source.functions import Lines, indent_of, range_of, source_of
@@ -14,6 +13,7 @@ from netrev.recording.call import Call
 from netrev.recording.recording import Recording
 from netrev.recording.waits import Name, waits_of
 from netrev.recording.where import OF_THE_PROGRAM, SourceCall as LineCall, Stack
+from netrev.run.index import RunIndex, back
 from netrev.text.plurals import counted
 
 WRITER = re.compile(r"\b(\w+) http\.ResponseWriter\b")
@@ -21,7 +21,7 @@ FLUSHES = re.compile(r"\.Flush\(\)|NewResponseController\(")
 PROXY = "net/http/httputil.(*ReverseProxy).copyResponse"
 
 
-def held_back(index: Index, socket: int, position: int) -> list[str]:
+def held_back(index: RunIndex, socket: int, position: int) -> list[str]:
     """Sentences about a goroutine that waits for an answer on a socket: the handler perhaps wrote an answer and didn't
     flush it."""
     other, server = index.other_end(socket), server_of(index, socket, position)
@@ -46,15 +46,15 @@ def held_back(index: Index, socket: int, position: int) -> list[str]:
     ]
 
 
-def stack_of(index: Index, name: Name, position: int) -> Optional[Stack]:
+def stack_of(index: RunIndex, name: Name, position: int) -> Optional[Stack]:
     """The stack in which a goroutine waits at a position."""
     if wait := waits_of(index.recording).at(name, position):
         return wait.stack
-    inside = None if name.is_goid else index.inside(name.number, position)
+    inside = None if name.is_goid else index.call_at(name.number, position)
     return index.recording.lines.of(inside.first) if inside else None
 
 
-def has_written(index: Index, server: Name, socket: int, position: int) -> bool:
+def has_written(index: RunIndex, server: Name, socket: int, position: int) -> bool:
     """Whether a goroutine has written to a socket since it last read from that socket."""
     moved = (
         call
@@ -65,7 +65,7 @@ def has_written(index: Index, server: Name, socket: int, position: int) -> bool:
     return last is not None and last.name == "Write"
 
 
-def unpassed_says(index: Index, server: Name, socket: int, position: int) -> list[str]:
+def unpassed_says(index: RunIndex, server: Name, socket: int, position: int) -> list[str]:
     """Sentences about a goroutine that, since it last read from a socket, has got bytes from another socket and has
     written nothing to the first."""
     calls = [call for call in index.by_goroutine.get(server.number, []) if call.first <= position]

@@ -3,15 +3,16 @@ own code wrote these answers."""
 
 from typing import Iterator
 
-from netrev.findings.evidence.index import Cause, Index
 from netrev.findings.evidence.words import duration, is_of_go, text_of_call, waits_words
+from netrev.findings.finding import Cause
 from netrev.recording.call import Call, Outcome
 from netrev.recording.waits import Name, ObjectWait, waits_of
+from netrev.run.index import RunIndex
 
 READS_A_REQUEST = "net/http.(*conn).readRequest"  # on return, this function sets the deadline for the answer
 
 
-def is_of_write_timeout(index: Index, call: Call) -> bool:
+def is_of_write_timeout(index: RunIndex, call: Call) -> bool:
     """Whether a Write failed because the WriteTimeout of an http.Server had passed."""
     if call.name != "Write" or call.outcome is not Outcome.TIMED_OUT or not call.cause:
         return False
@@ -20,7 +21,7 @@ def is_of_write_timeout(index: Index, call: Call) -> bool:
     return ahead > 0 and any(frame.function.startswith(READS_A_REQUEST) for frame in stack.calls)
 
 
-def late_answers(index: Index) -> Iterator[Cause]:
+def late_answers(index: RunIndex) -> Iterator[Cause]:
     """Causes for the answers that were cut off. Each says what the goroutine did when the timeout passed."""
     recording = index.recording
     for call in index.failed(recording.length):
@@ -36,13 +37,13 @@ def late_answers(index: Index) -> Iterator[Cause]:
         yield Cause(call, says, [call.first, call.cause], [f"goto {call.cause}", f"calls sock {call.socket}"])
 
 
-def at_work(index: Index, call: Call) -> list[str]:
+def at_work(index: RunIndex, call: Call) -> list[str]:
     """What the goroutine that served the request did when the timeout passed. If that isn't known, the result is what
     the goroutine last waited for; empty if that isn't known either."""
     passed, server = call.passed, f"goroutine {call.goroutine}, which serves the request,"
     if not call.cause < passed < call.first:
         return []
-    inside, waits = index.inside(call.goroutine, passed), waits_of(index.recording)
+    inside, waits = index.call_at(call.goroutine, passed), waits_of(index.recording)
     if inside and not is_of_go(index.recording, inside):
         return [
             f"As it passed, in step {passed}, {server} was in {text_of_call(index.recording, inside)}, since step "

@@ -5,7 +5,6 @@ from functools import lru_cache
 from operator import attrgetter
 from typing import Iterator, NamedTuple, Optional
 
-from netrev.findings.evidence.index import Index
 from netrev.findings.evidence.responses import WRITE_LOOP, contains
 from netrev.findings.evidence.words import place_in
 from netrev.recording.call import Call
@@ -14,6 +13,7 @@ from netrev.recording.recording import Recording
 from netrev.recording.waits import Name, name_of_goid
 from netrev.recording.where import Stack
 from netrev.recording.words import duration
+from netrev.run.index import RunIndex
 
 from .cancels import is_of_a_rest
 
@@ -75,7 +75,7 @@ class CancelledRequest(NamedTuple):
         return [f"{begins} the deadline of its context passed (step {self.step}).", set_at]
 
 
-def requests_of(index: Index) -> list[ClientRequests]:
+def requests_of(index: RunIndex) -> list[ClientRequests]:
     """The requests whose connection is certain. Each request was put into a channel from which only one connection's
     goroutine took values, and that goroutine wrote to only one socket."""
     lines, found = index.recording.lines, []
@@ -96,14 +96,14 @@ def request_of(recording: Recording, use: ObjectUse, socket: int) -> ClientReque
     )
 
 
-def written_by(index: Index, goid: int) -> Optional[int]:
+def written_by(index: RunIndex, goid: int) -> Optional[int]:
     """The only socket to which a goroutine has written; None if it has written to none or to several."""
     sockets = {call.socket for call in index.by_goid(goid) if call.name == "Write"}
     return sockets.pop() if len(sockets) == 1 else None
 
 
 @lru_cache(maxsize=2)
-def cancelled_requests(index: Index) -> tuple[CancelledRequest, ...]:
+def cancelled_requests(index: RunIndex) -> tuple[CancelledRequest, ...]:
     """The requests that ended because their contexts ended, and whose goroutines then closed the connections."""
     lines, every, found = index.recording.lines, requests_of(index), list[CancelledRequest]()
     for uses in lines.uses.values():
@@ -122,18 +122,21 @@ def is_by_context(stack: Stack) -> bool:
 
 
 def cancelled(
-    index: Index, every: list[ClientRequests], ended: ObjectUse, close: ObjectUse
+    index: RunIndex, every: list[ClientRequests], ended: ObjectUse, close: ObjectUse
 ) -> Iterator[CancelledRequest]:
     """The request that a cancelled context ended: the last request that its goroutine wrote before the context was
     cancelled. The result is empty unless that goroutine then closed the connection."""
     lines = index.recording.lines
     own = [request for request in every if request.goid == ended.goid and request.time < close.begin]
-    if not own or own[-1].name.is_goid:
+    if not own:
         return
     request = own[-1]
-    calls = index.by_goroutine.get(request.name.number, [])
     closed = next(
-        (call for call in calls if call.name == "Close" and call.socket == request.socket and call.first > close.last),
+        (
+            call
+            for call in index.calls_of(request.name)
+            if call.name == "Close" and call.socket == request.socket and call.first > close.last
+        ),
         None,
     )
     if closed is not None:

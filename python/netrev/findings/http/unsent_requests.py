@@ -5,16 +5,17 @@ ContentLength, or was read by an earlier request."""
 import re
 from typing import Iterator, NamedTuple, Optional
 
-from netrev.findings.evidence.index import Cause, Index
 from netrev.findings.evidence.ledger import END
 from netrev.findings.evidence.responses import WRITE_LOOP, contains
 from netrev.findings.evidence.words import place_in
+from netrev.findings.finding import Cause
 from netrev.findings.source.functions import found_in
 from netrev.recording.call import CLOSE, Call
 from netrev.recording.goroutines import PUT, TOOK, ObjectUse
 from netrev.recording.recording import Recording
 from netrev.recording.waits import Name, name_of_goid
 from netrev.recording.where import OF_THE_PROGRAM, SourceCall as LineCall
+from netrev.run.index import RunIndex
 
 from .requests import ROUND_TRIP, cancelled_requests
 
@@ -60,7 +61,7 @@ def reading_line(recording: Recording, call: LineCall) -> int:
     return next((number for number, _ in found_in(recording, call, READS) if number < call.line), 0)
 
 
-def unsent_requests(index: Index) -> Iterator[Unsent]:
+def unsent_requests(index: RunIndex) -> Iterator[Unsent]:
     """The program's requests that were never written."""
     lines, cancelled = index.recording.lines, {request.closed.first for request in cancelled_requests(index)}
     for calls in index.by_socket.values():
@@ -71,7 +72,7 @@ def unsent_requests(index: Index) -> Iterator[Unsent]:
                     yield Unsent(use, name_of_goid(lines, use.goid), call, step_before(index.recording, use))
 
 
-def request_of(index: Index, closed: Call) -> Optional[ObjectUse]:
+def request_of(index: RunIndex, closed: Call) -> Optional[ObjectUse]:
     """The last request that a goroutine took before it closed a connection."""
     lines, goid = index.recording.lines, index.recording.lines.goid_of(closed.goroutine, closed.first)
     found = list[ObjectUse]()
@@ -81,7 +82,7 @@ def request_of(index: Index, closed: Call) -> Optional[ObjectUse]:
     return max((use for use in found if use.last < closed.first), key=END, default=None)
 
 
-def has_written(index: Index, closed: Call, use: ObjectUse) -> bool:
+def has_written(index: RunIndex, closed: Call, use: ObjectUse) -> bool:
     """Whether the goroutine that closed a connection had written to it since it took a request."""
     calls = index.by_goroutine[closed.goroutine]
     return any(call.name == "Write" and use.last <= call.first <= closed.first for call in calls)
@@ -108,7 +109,7 @@ def step_before(recording: Recording, last: ObjectUse) -> int:
     return max(steps, default=0)
 
 
-def causes_of_unsent(index: Index) -> list[Cause]:
+def causes_of_unsent(index: RunIndex) -> list[Cause]:
     """Causes for the requests that were never written."""
     return [
         Cause(

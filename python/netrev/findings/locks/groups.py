@@ -5,7 +5,6 @@ others."""
 import re
 from typing import Callable, Container, NamedTuple, Optional
 
-from netrev.findings.evidence.index import Index
 from netrev.findings.evidence.need import Certainty, Need
 from netrev.findings.evidence.siblings import lines_words, odd_goroutines
 from netrev.findings.evidence.waiters import Waiter
@@ -15,6 +14,7 @@ from netrev.findings.source.functions import found_in, indent_of, is_last_line, 
 from netrev.findings.streams.failed_dials import failed_dial, refused, refused_words
 from netrev.recording.waits import Name, Waits, name_of_goid, of_names
 from netrev.recording.where import OF_THE_PROGRAM, SourceCall, Stack
+from netrev.run.index import RunIndex
 
 from .group_counts import Count, count_of, count_says, ended_names, ended_says, started_by
 from .skipped_done import skipped_done
@@ -44,7 +44,7 @@ class Groups:
     """The goroutines for which the waiters of WaitGroups wait. `stacks` has the stacks of all goroutines that wait or
     sleep."""
 
-    def __init__(self, index: Index, waits: Waits, stacks: list[tuple[Name, Stack]], position: int) -> None:
+    def __init__(self, index: RunIndex, waits: Waits, stacks: list[tuple[Name, Stack]], position: int) -> None:
         self._index, self._recording, self._waits = index, index.recording, waits
         self._stacks, self._position = stacks, position
         self._members: dict[

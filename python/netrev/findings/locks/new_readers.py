@@ -4,11 +4,11 @@ had read ahead are lost with that reader, and the other end waits for answers to
 import re
 from typing import Optional
 
-from netrev.findings.evidence.index import Index, back
 from netrev.findings.evidence.words import result_words, text_of_call
 from netrev.findings.source.functions import range_of, source_of, text_at
 from netrev.recording.call import Call
 from netrev.recording.where import OF_THE_PROGRAM, SourceCall as LineCall, Stack
+from netrev.run.index import RunIndex, back
 
 from .groups import outermost
 
@@ -19,7 +19,7 @@ AT_ONCE = re.compile(r"\b(?:bufio\.New(?:Reader|ReaderSize|Scanner)|json\.NewDec
 MAKES = re.compile(r"\b(bufio\.NewReader|bufio\.NewReaderSize|bufio\.NewScanner|json\.NewDecoder)\(")
 
 
-def thrown_away(index: Index, call: Call, other: int, position: int) -> list[str]:
+def thrown_away(index: RunIndex, call: Call, other: int, position: int) -> list[str]:
     """Sentences about a waiting Read whose goroutine has left its function since the last Read. The function makes a
     new reader in each call, and the other end has got an answer and waits for more."""
     lines = index.recording.lines
@@ -50,7 +50,7 @@ def thrown_away(index: Index, call: Call, other: int, position: int) -> list[str
     ]
 
 
-def left_reader(index: Index, call: Call, other: int, position: int) -> list[str]:
+def left_reader(index: RunIndex, call: Call, other: int, position: int) -> list[str]:
     """Sentences about a waiting Read, if a buffered reader made an earlier Read. The function that made that reader has
     dropped it, and the other end has written nothing more."""
     stacks, calls = index.recording.lines, index.by_socket[call.socket]
@@ -75,7 +75,7 @@ def left_reader(index: Index, call: Call, other: int, position: int) -> list[str
     return []
 
 
-def past_a_reader(index: Index, call: Call, other: int, read: Call, position: int) -> list[str]:
+def past_a_reader(index: RunIndex, call: Call, other: int, read: Call, position: int) -> list[str]:
     """Sentences about a Read without a buffer, if a buffered reader made the last Read there and the other end waits to
     read. The goroutine is still in the function that made the reader, or that function started the goroutine."""
     lines = index.recording.lines
@@ -96,7 +96,7 @@ def past_a_reader(index: Index, call: Call, other: int, read: Call, position: in
     return []
 
 
-def lines_in(index: Index, call: Call) -> tuple[LineCall, ...]:
+def lines_in(index: RunIndex, call: Call) -> tuple[LineCall, ...]:
     """The lines of a call's stack."""
     return tuple(index.recording.lines.of(call.first).calls)
 
@@ -107,7 +107,7 @@ def since_an_answer(reads: list[Call], calls: list[Call]) -> list[Call]:
     return [read for read in reversed(reads) if read is reads[-1] or read.last > last_write]
 
 
-def lost_with(index: Index, file: str, line: int, read: Call, last: Call, why: str) -> str:
+def lost_with(index: RunIndex, file: str, line: int, read: Call, last: Call, why: str) -> str:
     """A sentence that says that bytes in a reader's buffer may be lost."""
     since = "since" if read is last else f"since step {last.last}"
     return (
@@ -117,7 +117,7 @@ def lost_with(index: Index, file: str, line: int, read: Call, last: Call, why: s
     )
 
 
-def may_have_more(index: Index, read: Call, other: int) -> bool:
+def may_have_more(index: RunIndex, read: Call, other: int) -> bool:
     """Whether a Read may have got more than one message: it got the bytes of two Writes, or at least as many bytes as
     the recorder counts."""
     most, moved = index.recording.lines.bytes, read.moved or 0
@@ -131,7 +131,7 @@ def may_have_more(index: Index, read: Call, other: int) -> bool:
     return writes > 1
 
 
-def is_of_one_statement(index: Index, frame: LineCall) -> bool:
+def is_of_one_statement(index: RunIndex, frame: LineCall) -> bool:
     """Whether one statement makes a reader and reads from it, so that nothing can read from it later."""
     return AT_ONCE.search(text_at(index.recording, frame)) is not None
 
@@ -141,7 +141,7 @@ def is_buffered(stack: Stack) -> bool:
     return any(frame.function.startswith(BUFFERED) for frame in stack.calls)
 
 
-def own_reader(index: Index, frame: LineCall) -> int:
+def own_reader(index: RunIndex, frame: LineCall) -> int:
     """The line at which a function makes a reader, if the function assigns the reader to a variable and doesn't pass it
     on; else 0."""
     source, line = source_of(index.recording, frame.file), maker_line(index, frame)
@@ -153,7 +153,7 @@ def own_reader(index: Index, frame: LineCall) -> int:
     return line if name and not any(re.search(HANDED_ON.format(name=name[1]), text) for text in rest) else 0
 
 
-def maker_line(index: Index, own: LineCall) -> int:
+def maker_line(index: RunIndex, own: LineCall) -> int:
     """The line at which a function first makes a reader; 0 if it makes none before or at the line that reads."""
     source = source_of(index.recording, own.file) if own.of == OF_THE_PROGRAM else None
     within = range_of(source, own) if source else None
@@ -161,11 +161,11 @@ def maker_line(index: Index, own: LineCall) -> int:
     return next((at for at in numbers if source and MAKES.search(source[at - 1].partition("//")[0])), 0)
 
 
-def functions_of(index: Index, call: Call) -> set[str]:
+def functions_of(index: RunIndex, call: Call) -> set[str]:
     return {frame.function for frame in index.recording.lines.of(call.first).calls}
 
 
-def waits_on(index: Index, other: int, read: Call, answer: Call, position: int) -> bool:
+def waits_on(index: RunIndex, other: int, read: Call, answer: Call, position: int) -> bool:
     """Whether a goroutine at the other end got the answer, waits to read more, and has written nothing since the
     Read."""
     calls = list(back(index.by_socket.get(other, ()), position))

@@ -4,12 +4,13 @@ empty, and stays so until the end of the recording."""
 from operator import attrgetter
 from typing import Iterator
 
-from netrev.findings.evidence.index import Cause, Index
 from netrev.findings.evidence.words import place_in
+from netrev.findings.finding import Cause
 from netrev.recording.goroutines import A_SELECT, FOR_ROOM, FOR_VALUE, PUT, TOOK, At
 from netrev.recording.recording import Recording
 from netrev.recording.waits import ObjectWait, waits_of
 from netrev.recording.where import OF_THE_PROGRAM
+from netrev.run.index import RunIndex
 from netrev.text.plurals import counted
 
 from .balances import balances_of
@@ -19,14 +20,14 @@ from .kept_ways import ways_with_an_error
 A_WHILE = 20_000_000  # nanoseconds, the shortest wait that counts
 
 
-def given_up_waits(index: Index) -> Iterator[Cause]:
+def given_up_waits(index: RunIndex) -> Iterator[Cause]:
     """For each buffered channel, the first wait that ended in vain: the goroutine's select went on with another
     case."""
     recording, seen = index.recording, set[int]()
     every = [wait for some in waits_of(recording).of.values() for wait in some]
     for wait in sorted(every, key=attrgetter("first", "begin")):
         for at in wait.objects if is_given_up(recording, wait) else ():
-            calls = [call for call in index.book.calls if call.first <= max(wait.last or 0, 1)]
+            calls = [call for call in index.calls if call.first <= max(wait.last or 0, 1)]
             if at.object in seen or not is_stuck(recording, at) or not calls:
                 continue
             seen.add(at.object)

@@ -4,7 +4,6 @@ module infers this from the goroutine's later stack and from the program's sourc
 import re
 from typing import Optional
 
-from netrev.findings.evidence.index import Index, back
 from netrev.findings.source.functions import range_of, text_at
 from netrev.findings.source.package import HEAD, files_of
 from netrev.findings.source.skipped_ways import is_match, ways_are, ways_words
@@ -13,6 +12,7 @@ from netrev.recording.call import OPEN, Call
 from netrev.recording.recording import Recording
 from netrev.recording.waits import Name, waits_of
 from netrev.recording.where import OF_THE_PROGRAM, SourceCall as LineCall, Stack
+from netrev.run.index import RunIndex, back
 
 from .kept_ways import USES, closed_in_a_loop, value_of, ways_of
 
@@ -21,7 +21,7 @@ CALL = re.compile(r"(?<![\w.])(\w+)\(([^()]*)\)")
 TO_OTHERS = r"\breturn\b.*\b{name}\b|[=({{,:]\s*{name}\b\s*[,)}};]|[=:] *{name}$|\bgo\b.*\b{name}\b|<- *{name}\b"
 
 
-def left_socket(index: Index, socket: int, position: int) -> list[str]:
+def left_socket(index: RunIndex, socket: int, position: int) -> list[str]:
     """Sentences about a socket at whose other end a goroutine waits. The socket is open although the function that
     opened it has returned: the path that the function took doesn't close it. None if unknown."""
     opened = next((opening for opening in index.by_socket.get(socket, ()) if opening.name == OPEN), None)
@@ -40,7 +40,7 @@ def left_socket(index: Index, socket: int, position: int) -> list[str]:
     return []
 
 
-def kept_by(index: Index, opened: Call, line: LineCall) -> list[str]:
+def kept_by(index: RunIndex, opened: Call, line: LineCall) -> list[str]:
     """A sentence about a function that opens a socket in each iteration of a loop and closes the sockets only when it
     returns. The function is still running."""
     taken = TAKEN.match(text_at(index.recording, line).strip())
@@ -48,7 +48,7 @@ def kept_by(index: Index, opened: Call, line: LineCall) -> list[str]:
     return [f"Socket {opened.socket}, opened at {line.place()}, is still open. {deferred}"] if deferred else []
 
 
-def left_by(index: Index, opened: Call, line: LineCall) -> list[str]:
+def left_by(index: RunIndex, opened: Call, line: LineCall) -> list[str]:
     """A sentence about a function that opened a socket at a line and left it open."""
     text = text_at(index.recording, line).strip()
     taken = TAKEN.match(text)
@@ -104,9 +104,9 @@ def only_uses(recording: Recording, file: str, function: str, place: int) -> boo
     return not any(keeps.search(USES.sub("(", code_at(lines, at))) for at in within[1:])
 
 
-def stack_at(index: Index, goroutine: int, position: int) -> Optional[Stack]:
+def stack_at(index: RunIndex, goroutine: int, position: int) -> Optional[Stack]:
     """The stack of a goroutine's call or wait at a position. If it is in neither, the stack of its last call."""
-    call, wait = index.inside(goroutine, position), waits_of(index.recording).at(Name(goroutine), position)
+    call, wait = index.call_at(goroutine, position), waits_of(index.recording).at(Name(goroutine), position)
     if wait:
         return wait.stack
     last = call or next(back(index.by_goroutine.get(goroutine, ()), position), None)

@@ -3,13 +3,13 @@ function made the channel. In the program's source, the module finds the lines a
 
 import re
 
-from netrev.findings.evidence.index import Index
 from netrev.findings.evidence.words import short
 from netrev.findings.source.functions import found_in, text_at
 from netrev.recording.goroutines import A_RECEIVER, PUT, At
 from netrev.recording.recording import Recording
 from netrev.recording.waits import Name, ObjectWait, name_of_goid, waits_of
 from netrev.recording.where import OF_THE_PROGRAM, SourceCall
+from netrev.run.index import RunIndex
 
 from .balances import has_ended
 from .left_sockets import is_in, stack_at
@@ -19,7 +19,7 @@ RETURNS = re.compile(r"^\s*return\b")
 MOST = 2
 
 
-def without_receiver(index: Index, wait: ObjectWait, position: int) -> list[str]:
+def without_receiver(index: RunIndex, wait: ObjectWait, position: int) -> list[str]:
     """Sentences about a goroutine that waits for a receiver; none if the function that made the channel is still
     running or isn't known."""
     lines = index.recording.lines
@@ -34,7 +34,7 @@ def without_receiver(index: Index, wait: ObjectWait, position: int) -> list[str]
     ]
 
 
-def is_local(index: Index, line: SourceCall) -> bool:
+def is_local(index: RunIndex, line: SourceCall) -> bool:
     """Whether a line makes a channel for a variable that its function neither returns nor stores elsewhere."""
     match = MAKES.match(text_at(index.recording, line))
     if match is None:
@@ -44,7 +44,7 @@ def is_local(index: Index, line: SourceCall) -> bool:
     return not found_in(index.recording, line, keeps)
 
 
-def has_returned(index: Index, maker: Name, line: SourceCall, position: int) -> bool:
+def has_returned(index: RunIndex, maker: Name, line: SourceCall, position: int) -> bool:
     """Whether a goroutine has left the function of a line: it has ended, or its stack no longer contains the
     function."""
     if has_ended(index.recording, maker):
@@ -54,7 +54,7 @@ def has_returned(index: Index, maker: Name, line: SourceCall, position: int) -> 
     return now is not None and bool(now.calls) and not is_in(now, line)
 
 
-def returns_says(index: Index, line: SourceCall) -> str:
+def returns_says(index: RunIndex, line: SourceCall) -> str:
     """Text for the lines at which a function returns; empty if there are none or too many."""
     found = [number for number, _ in found_in(index.recording, line, RETURNS) if number > line.line]
     places = " or ".join(f"{line.file}:{number}" for number in found)

@@ -4,11 +4,11 @@ concerned an older channel whose memory was reused."""
 import re
 
 from netrev.findings.evidence.ended_goroutines import loop_round
-from netrev.findings.evidence.index import index_of
 from netrev.findings.source.functions import range_of, source_of, text_at
 from netrev.recording.recording import Recording
 from netrev.recording.waits import ObjectWait
 from netrev.recording.where import OF_THE_PROGRAM
+from netrev.run.index import run_of
 
 from .senders import PUTS, TAKES
 
@@ -28,8 +28,9 @@ def channel_since(recording: Recording, wait: ObjectWait) -> int:
         return 0
     makes = re.compile(rf"\b{re.escape(name[1])}\b(?:, \w+)? :?= (?:\w+, )?make\(chan\b")
     maker = next((number for number in within if number < own[0].line and makes.search(lines[number - 1])), 0)
-    calls = index_of(recording).by_goroutine.get(wait.name.number, [])
-    writes = [call for call in calls if call.name == "Write" and call.first <= wait.first]
+    writes = [
+        call for call in run_of(recording).calls_of(wait.name) if call.name == "Write" and call.first <= wait.first
+    ]
     frames = recording.lines.of(writes[-1].first).calls if maker and writes else ()
     line = next((call.line for call in frames if call.function == own[0].function), 0)
     is_once = maker < line < own[0].line and max(loop_round(lines, within, at) for at in (line, own[0].line)) <= maker

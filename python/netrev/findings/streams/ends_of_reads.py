@@ -4,13 +4,13 @@ any bytes."""
 import re
 from typing import Optional
 
-from netrev.findings.evidence.index import Index
 from netrev.findings.evidence.responses import SERVE, contains
 from netrev.findings.evidence.words import is_of_go, since_begin, text_of_call
 from netrev.findings.source.package import places_with
 from netrev.recording.call import Call
 from netrev.recording.waits import Name, waits_of
 from netrev.recording.where import OF_THE_PROGRAM
+from netrev.run.index import RunIndex
 
 TO_THE_END = ("io.ReadAll", "io.copyBuffer", "io.Copy", "net.genericReadFrom", "internal/poll.Splice")
 CLOSES_WRITE, MOST_CLOSES = re.compile(r"\.CloseWrite\(\)"), 2
@@ -24,7 +24,7 @@ OF_A_LINE = {
 }  # fmt: skip
 
 
-def end_says(index: Index, call: Call, other: int, position: int) -> list[str]:
+def end_says(index: RunIndex, call: Call, other: int, position: int) -> list[str]:
     """Sentences about what a Read looks for; none if only Go's own code made the Read."""
     if call.name != "Read" or is_of_go(index.recording, call):
         return []
@@ -39,7 +39,7 @@ def end_says(index: Index, call: Call, other: int, position: int) -> list[str]:
     return []
 
 
-def half_closes(index: Index, socket: int, position: int) -> list[str]:
+def half_closes(index: RunIndex, socket: int, position: int) -> list[str]:
     """The lines of the program that close a connection for writing, if none of these lines has run on this socket."""
     used = index.last_use(socket, position, ("Write",)) or index.last_use(socket, position, ("Read",))
     own = index.recording.lines.of(used.first).own() if used else None
@@ -52,7 +52,7 @@ def half_closes(index: Index, socket: int, position: int) -> list[str]:
     return [f"CloseWrite is called at {' and '.join(found)}, and that hasn't come to socket {socket}{last}."]
 
 
-def is_served(index: Index, socket: int, position: int) -> bool:
+def is_served(index: RunIndex, socket: int, position: int) -> bool:
     """Whether the last goroutine that wrote to a socket is still in a handler of net/http, and so may write more."""
     write = index.last_use(socket, position, ("Write",))
     wait = waits_of(index.recording).at(Name(write.goroutine), position) if write else None
@@ -77,7 +77,7 @@ def bound_says(functions: set[str], other: int) -> str:
     return ""
 
 
-def line_reader_of(index: Index, call: Call) -> Optional[str]:
+def line_reader_of(index: RunIndex, call: Call) -> Optional[str]:
     """The function in which a Read looks for the end of a line."""
     functions = (frame.function for frame in index.recording.lines.of(call.first).calls)
     return next((OF_A_LINE[name] for name in functions if name in OF_A_LINE), None)

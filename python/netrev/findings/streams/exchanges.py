@@ -5,11 +5,11 @@ than the other end wrote."""
 from typing import Iterator, NamedTuple, Optional
 
 from netrev.findings.evidence.asked import ReadSizes, read_sizes_of
-from netrev.findings.evidence.index import MOVING, Index, back
 from netrev.findings.evidence.sizes import are_known, moved_at, size_of
 from netrev.findings.evidence.words import place_of, text_of_call
 from netrev.recording.call import OPEN, Call
 from netrev.recording.recording import Recording
+from netrev.run.index import MOVING, RunIndex, back
 from netrev.text.plurals import counted
 
 from .ends_of_reads import line_reader_of
@@ -31,7 +31,7 @@ class Exchange(NamedTuple):
     reads: list[Call]
 
 
-def exchanges_of(index: Index, goroutine: int, socket: int, until: int) -> list[Exchange]:
+def exchanges_of(index: RunIndex, goroutine: int, socket: int, until: int) -> list[Exchange]:
     """The exchanges of a goroutine at a socket, up to a step."""
     found: list[Exchange] = []
     for call in index.by_socket.get(socket, ()):
@@ -52,7 +52,7 @@ def exchanges_of(index: Index, goroutine: int, socket: int, until: int) -> list[
     return found
 
 
-def is_client(index: Index, goroutine: int, socket: int) -> bool:
+def is_client(index: RunIndex, goroutine: int, socket: int) -> bool:
     """Whether only this goroutine reads and writes on a socket, and the socket was dialed. If the recording doesn't
     show whether the socket was dialed, a goroutine that wrote before it got bytes counts as the dialer."""
     calls = index.by_socket.get(socket, [])
@@ -63,7 +63,7 @@ def is_client(index: Index, goroutine: int, socket: int) -> bool:
     return bool(moved) and asks and all(call.goroutine == goroutine for call in moved)
 
 
-def unasked(index: Index, call: Call) -> list[str]:
+def unasked(index: RunIndex, call: Call) -> list[str]:
     """Sentences about a Read that waits for an answer without a request: its goroutine wrote a request before each
     earlier answer, but no request before this Read."""
     found = exchanges_of(index, call.goroutine, call.socket, call.first)
@@ -85,7 +85,7 @@ def unasked(index: Index, call: Call) -> list[str]:
     ]
 
 
-def unanswered(index: Index, call: Call, other: int, position: int) -> list[str]:
+def unanswered(index: RunIndex, call: Call, other: int, position: int) -> list[str]:
     """Sentences about a Read whose request was read and not answered: the goroutine that read the request had answered
     earlier requests. After the last request, that goroutine read again or did something else, without a Write."""
     request = index.last_use(call.socket, call.first, ("Write",))
@@ -106,7 +106,7 @@ def unanswered(index: Index, call: Call, other: int, position: int) -> list[str]
         for write in index.by_socket[other]
         if write.goroutine == read.goroutine and write.name == "Write" and write.moved
     ]
-    now = index.inside(read.goroutine, position)
+    now = index.call_at(read.goroutine, position)
     if any(write.socket == other for write in written):
         return []
     if now is None or now.name != "Read" or now.socket != other or now.first <= read.first:
@@ -123,7 +123,7 @@ def unanswered(index: Index, call: Call, other: int, position: int) -> list[str]
     ]
 
 
-def unended(index: Index, request: Call, read: Call, now: Call) -> list[str]:
+def unended(index: RunIndex, request: Call, read: Call, now: Call) -> list[str]:
     """Sentences about a first request that was read but not answered: its reader still looks for the end of a line."""
     line = line_reader_of(index, now)
     if not line or line_reader_of(index, read) != line:
@@ -139,7 +139,7 @@ def unended(index: Index, request: Call, read: Call, now: Call) -> list[str]:
     ]
 
 
-def perhaps_why(index: Index, call: Call, now: Call) -> str:
+def perhaps_why(index: RunIndex, call: Call, now: Call) -> str:
     """Why a goroutine that looks for the end of a line perhaps reads on: an answer was skipped or is still in a buffer,
     or the request lacks its end. If a path skips the answer or its Flush, the text begins with the answer, and leaves
     out the request if an earlier request like it was answered. Otherwise the text has both reasons. It begins with the
@@ -163,7 +163,7 @@ def perhaps_why(index: Index, call: Call, now: Call) -> str:
     return f" Perhaps {kept}; or {lacks}." if is_buffered else f" Perhaps {lacks}; or {kept}."
 
 
-def skips_an_answer(index: Index, now: Call) -> str:
+def skips_an_answer(index: RunIndex, now: Call) -> str:
     """Text for a path on which a goroutine perhaps reads on without an answer; empty if the source has no such
     path."""
     calls = (
@@ -174,13 +174,13 @@ def skips_an_answer(index: Index, now: Call) -> str:
     return f"it gives no answer there: {ways}" if ways else ""
 
 
-def are_alike(index: Index, writes: list[Call], others: list[Call]) -> bool:
+def are_alike(index: RunIndex, writes: list[Call], others: list[Call]) -> bool:
     """Whether the same lines wrote two requests."""
     places = [[index.recording.lines.of(write.first).own() for write in some] for some in (writes, others)]
     return places[0] == places[1]
 
 
-def reader_of(index: Index, other: int, request: Call, position: int) -> Optional[Call]:
+def reader_of(index: RunIndex, other: int, request: Call, position: int) -> Optional[Call]:
     """The last Read at the other end that got bytes from a Write."""
     reads = (call for call in back(index.by_socket.get(other, ()), position) if call.name == "Read")
     read = next(
@@ -190,7 +190,7 @@ def reader_of(index: Index, other: int, request: Call, position: int) -> Optiona
     return read if read and read.goroutine != request.goroutine else None
 
 
-def lacking(index: Index, call: Call, other: int) -> list[str]:
+def lacking(index: RunIndex, call: Call, other: int) -> list[str]:
     """Sentences about a Read that waits in an io.ReadFull. The sentences say how many bytes the Read asked for, how
     many bytes came, and that the other end wrote no more."""
     recording = index.recording
@@ -245,7 +245,7 @@ def lacking(index: Index, call: Call, other: int) -> list[str]:
     ]
 
 
-def begin_of_full(index: Index, sizes: ReadSizes, call: Call) -> Call:
+def begin_of_full(index: RunIndex, sizes: ReadSizes, call: Call) -> Call:
     """The first Read of the io.ReadFull that a Read belongs to. If a Read's bytes are counted only in part, the next
     Read shows how many bytes came, because it asks for the rest."""
     lines, most = index.recording.lines, index.recording.lines.bytes
@@ -259,7 +259,7 @@ def begin_of_full(index: Index, sizes: ReadSizes, call: Call) -> Call:
     return begin
 
 
-def is_cut(recording: Recording, index: Index, sockets: tuple[int, ...]) -> bool:
+def is_cut(recording: Recording, index: RunIndex, sockets: tuple[int, ...]) -> bool:
     """Whether the recording counts fewer bytes than the reads or writes at these sockets moved."""
     most = recording.lines.bytes
     calls: Iterator[Call] = (call for socket in sockets for call in index.by_socket.get(socket, ()))

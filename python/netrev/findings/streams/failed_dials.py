@@ -2,12 +2,13 @@
 
 from typing import Iterator, NamedTuple, Optional
 
-from netrev.findings.evidence.index import Cause, Index, index_of
 from netrev.findings.evidence.words import place_in, place_of_step
+from netrev.findings.finding import Cause
 from netrev.recording.call import CLOSE, OPEN, Call
 from netrev.recording.goroutines import CLOSED, FailedDial
 from netrev.recording.recording import Recording
 from netrev.recording.waits import name_of_goid
+from netrev.run.index import RunIndex, run_of
 
 from .unaccepted import CONNECTS, accepts_at, closed, is_dialed
 
@@ -25,7 +26,7 @@ class UnconnectedSocket(NamedTuple):
         return f"Dial{place_in(recording.lines.of(self.close.first))} failed (step {self.close.first})"
 
 
-def failed_dial(index: Index, goroutine: int) -> Optional[UnconnectedSocket]:
+def failed_dial(index: RunIndex, goroutine: int) -> Optional[UnconnectedSocket]:
     """The last Dial of a goroutine, if that Dial failed; None if a later Dial succeeded."""
     lines, calls = index.recording.lines, index.by_goroutine.get(goroutine, ())
     failed = [
@@ -44,13 +45,13 @@ def refused(recording: Recording, goid: int) -> Optional[FailedDial]:
     None if the steps show a later connect that succeeded."""
     failed = recording.lines.failed_dials.get(goid, ())
     number = recording.lines.goroutines[goid].number if goid in recording.lines.goroutines else -1
-    index = index_of(recording)
+    index = run_of(recording)
     if not failed or any(call.first > failed[-1].step for call in connected_by(index, number)):
         return None
     return failed[-1]
 
 
-def connected_by(index: Index, goroutine: int) -> Iterator[Call]:
+def connected_by(index: RunIndex, goroutine: int) -> Iterator[Call]:
     """The Opens of the sockets that a goroutine connected."""
     for call in index.by_goroutine.get(goroutine, ()):
         if call.name == OPEN and any(
@@ -97,7 +98,7 @@ def refused_dials(recording: Recording) -> Iterator[FailedDial]:
             yield failed
 
 
-def failed_dials(index: Index) -> Iterator[Cause]:
+def failed_dials(index: RunIndex) -> Iterator[Cause]:
     """A cause for each goroutine whose last Dial failed. If exactly one listener was closed before, the cause names the
     listener."""
     recording = index.recording
@@ -139,7 +140,7 @@ def refusal_of(recording: Recording, dial: UnconnectedSocket, goroutine: int) ->
     return failed if is_same else None
 
 
-def is_listener(index: Index, socket: int) -> bool:
+def is_listener(index: RunIndex, socket: int) -> bool:
     """Whether a socket accepts connections, or may accept them."""
     opened = index.by_socket[socket][0]
     listens = any(

@@ -4,10 +4,11 @@ may have come."""
 from typing import Iterator, NamedTuple, Optional
 
 from netrev.findings.evidence.ended_goroutines import left_by
-from netrev.findings.evidence.index import Cause, Index
 from netrev.findings.evidence.long_lines import long_line_says
 from netrev.findings.evidence.words import is_of_go, result_words, text_of_call
+from netrev.findings.finding import Cause
 from netrev.recording.call import CLOSE, Call, Outcome
+from netrev.run.index import RunIndex
 
 
 class GoneReader(NamedTuple):
@@ -18,7 +19,7 @@ class GoneReader(NamedTuple):
     ended: int
     write: Optional[Call]
 
-    def says(self, index: Index) -> list[str]:
+    def says(self, index: RunIndex) -> list[str]:
         """The sentences about the reader."""
         recording, read = index.recording, self.read
         says = [
@@ -33,7 +34,7 @@ class GoneReader(NamedTuple):
         return says
 
 
-def gone_readers(index: Index, position: int) -> Iterator[GoneReader]:
+def gone_readers(index: RunIndex, position: int) -> Iterator[GoneReader]:
     """The readers that have ended at a position, except the readers of connections that were closed at this end."""
     for socket in sorted(index.recording.lines.peers):
         reader = gone_reader(index, socket, position)
@@ -41,7 +42,7 @@ def gone_readers(index: Index, position: int) -> Iterator[GoneReader]:
             yield reader
 
 
-def gone_reader(index: Index, socket: int, position: int) -> Optional[GoneReader]:
+def gone_reader(index: RunIndex, socket: int, position: int) -> Optional[GoneReader]:
     """The only goroutine that read from a socket, if it had ended by a position. The result is None if no such
     goroutine exists or if the socket was closed at this end."""
     other = index.recording.lines.peers.get(socket)
@@ -58,7 +59,7 @@ def gone_reader(index: Index, socket: int, position: int) -> Optional[GoneReader
     return GoneReader(last, ended, next((write for write in writes if ended < write.first <= position), None))
 
 
-def ended_behind(index: Index, call: Call, position: int) -> Optional[int]:
+def ended_behind(index: RunIndex, call: Call, position: int) -> Optional[int]:
     """The step after which a call's goroutine ended, if it had ended by a position; None if it hadn't, or if the step
     is unknown."""
     lines = index.recording.lines
@@ -66,7 +67,7 @@ def ended_behind(index: Index, call: Call, position: int) -> Optional[int]:
     return known.last if known is not None and 0 <= known.last <= position else None
 
 
-def without_reader(index: Index) -> Iterator[Cause]:
+def without_reader(index: RunIndex) -> Iterator[Cause]:
     """Possible causes at the end of the recording: readers that ended before more bytes came, although their last Read
     neither failed nor reached the end of the stream."""
     for reader in gone_readers(index, index.recording.length):
@@ -76,7 +77,7 @@ def without_reader(index: Index) -> Iterator[Cause]:
         yield Cause(reader.read, reader.says(index), [reader.read.first, reader.write.first], looks, reader.read.last)
 
 
-def ended_reader(index: Index, call: Call, other: int, position: int) -> list[str]:
+def ended_reader(index: RunIndex, call: Call, other: int, position: int) -> list[str]:
     """Sentences about a Read that waits for an answer: the only goroutine that had read at the other end has ended. The
     sentences name the lines at which it left its loop."""
     reader = gone_reader(index, other, position)

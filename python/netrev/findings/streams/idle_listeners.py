@@ -3,19 +3,19 @@ listener."""
 
 from collections import defaultdict
 
-from netrev.findings.evidence.index import Index
 from netrev.findings.evidence.loop_variables import shared_variables
 from netrev.findings.evidence.words import capital
 from netrev.recording.call import OPEN
 from netrev.recording.waits import Name, of_names
 from netrev.recording.where import SourceCall as LineCall
+from netrev.run.index import RunIndex
 
 from .unaccepted import accepts_at, closed
 
 LISTENS = "net.(*netFD).listen"
 
 
-def idle_listeners(index: Index, position: int) -> list[str]:
+def idle_listeners(index: RunIndex, position: int) -> list[str]:
     """Sentences about listeners without an Accept, for a goroutine that waits on a connection that wasn't accepted;
     none if no such listener exists."""
     listeners = [
@@ -35,14 +35,14 @@ def idle_listeners(index: Index, position: int) -> list[str]:
     return []
 
 
-def is_listener(index: Index, socket: int) -> bool:
+def is_listener(index: RunIndex, socket: int) -> bool:
     """Whether a socket was opened to listen for stream connections."""
     opened = index.by_socket[socket][0]
     calls = index.recording.lines.of(opened.first).calls
     return opened.name == OPEN and any(call.function.startswith(LISTENS) for call in calls)
 
 
-def makers_at(index: Index, socket: int) -> dict[LineCall, set[Name]]:
+def makers_at(index: RunIndex, socket: int) -> dict[LineCall, set[Name]]:
     """The goroutines that have called Accept on a listener, keyed by the `go` statements that started them."""
     found: dict[LineCall, set[Name]] = defaultdict(set)
     lines = index.recording.lines

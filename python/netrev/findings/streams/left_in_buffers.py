@@ -5,12 +5,12 @@ import re
 from functools import lru_cache
 from typing import Iterator, NamedTuple
 
-from netrev.findings.evidence.index import MOVING, Index
 from netrev.findings.source.functions import Lines, range_of, source_of
 from netrev.findings.source.package import HEAD, files_of, places_with
 from netrev.recording.call import Call
 from netrev.recording.recording import Recording
 from netrev.recording.where import OF_THE_PROGRAM, SourceCall as LineCall
+from netrev.run.index import MOVING, RunIndex
 
 WRITER = re.compile(
     r"^\s+(\w+)\s+\*bufio\.(?:Writer|ReadWriter)\b|\b(\w+)\s*(?::?=|:)\s*bufio\.New(?:Writer\w*|ReadWriter)\(|\b(\w+) \*bufio\.(?:Writer|ReadWriter)\b"
@@ -30,7 +30,7 @@ class Named(NamedTuple):
     flushed: frozenset[str]
 
 
-def left_in_buffer(index: Index, call: Call) -> list[str]:
+def left_in_buffer(index: RunIndex, call: Call) -> list[str]:
     """Sentences about a Read that waits; none if something was written since the last answer, or if no buffer is
     known."""
     moved = [

@@ -6,12 +6,12 @@ import re
 from typing import Optional
 
 from netrev.findings.evidence.asked import read_sizes_of
-from netrev.findings.evidence.index import Index
 from netrev.findings.evidence.sizes import are_known, size_of
 from netrev.findings.evidence.words import text_of_call
 from netrev.findings.source.functions import Lines, range_of, source_of
 from netrev.recording.call import Call
 from netrev.recording.where import OF_THE_PROGRAM
+from netrev.run.index import RunIndex
 from netrev.text.plurals import counted
 
 from .frame_lengths import is_of_a_body
@@ -22,7 +22,7 @@ READ = re.compile(r"[\w.]+\.Read\((\w+)\)")
 MOST = 2
 
 
-def partial_reads(index: Index, call: Call) -> list[str]:
+def partial_reads(index: RunIndex, call: Call) -> list[str]:
     """Sentences about a waiting Read. The sentences name lines that call Read only once, in functions on the Read's
     stack. Such a line has read from the socket before, or it reads into a slice whose length the line names or the
     program computed."""
@@ -50,7 +50,7 @@ def partial_reads(index: Index, call: Call) -> list[str]:
     return []
 
 
-def part_taken(index: Index, call: Call) -> list[str]:
+def part_taken(index: RunIndex, call: Call) -> list[str]:
     """Sentences about a waiting Read, if the previous Read on the socket got fewer bytes than it asked for. The list is
     empty unless the line of the previous Read calls Read only once, with a slice whose length isn't a constant."""
     for read in reversed(

@@ -4,12 +4,12 @@ call, or has ended."""
 from typing import Iterator, NamedTuple, Optional
 
 from netrev.findings.evidence.ended_goroutines import ended_where, left_by
-from netrev.findings.evidence.index import ACCEPTS, Index, back
 from netrev.findings.evidence.need import Certainty, Need
 from netrev.findings.evidence.words import place_of, text_of_call, waits_words
 from netrev.findings.pools.balances import has_ended
 from netrev.recording.call import CLOSE, OPEN, Call
 from netrev.recording.waits import Name, waits_of
+from netrev.run.index import ACCEPTS, RunIndex, back
 
 CONNECTS = "net.(*netFD).connect"
 DATAGRAMS = ("dialUDP", "listenUDP", "DialUDP", "ListenUDP")
@@ -23,7 +23,7 @@ class Listener(NamedTuple):
     is_sure: bool
 
 
-def unaccepted(index: Index, call: Call, position: int) -> Optional[Need]:
+def unaccepted(index: RunIndex, call: Call, position: int) -> Optional[Need]:
     """What a call needs if its connection's other end isn't known: the goroutine that should accept the connection,
     with a sentence about what that goroutine does instead. The result is None if the connection may have been
     accepted."""
@@ -36,7 +36,7 @@ def unaccepted(index: Index, call: Call, position: int) -> Optional[Need]:
     perhaps, at = "" if listener.is_sure else "perhaps ", place_of(index.recording, accept.first)
     how = f"{perhaps}{{by}}, which accepts{at}, hasn't accepted its connection"
     certainty = Certainty.KNOWN if listener.is_sure else Certainty.PERHAPS
-    name, now = Name(accept.goroutine), index.inside(accept.goroutine, position)
+    name, now = Name(accept.goroutine), index.call_at(accept.goroutine, position)
     wait = waits_of(index.recording).at(name, position)
     where = f"{name}, which accepts{at},"
     does = (
@@ -52,22 +52,22 @@ def unaccepted(index: Index, call: Call, position: int) -> Optional[Need]:
     return Need([says[0].upper() + says[1:]], name, how, certainty)
 
 
-def is_dialed(index: Index, socket: int) -> bool:
+def is_dialed(index: RunIndex, socket: int) -> bool:
     """Whether a socket was opened to connect a stream."""
     return has_opened(index, socket, CONNECTS) and not is_datagram(index, socket)
 
 
-def is_datagram(index: Index, socket: int) -> bool:
+def is_datagram(index: RunIndex, socket: int) -> bool:
     return any(has_opened(index, socket, part) for part in DATAGRAMS)
 
 
-def has_opened(index: Index, socket: int, part: str) -> bool:
+def has_opened(index: RunIndex, socket: int, part: str) -> bool:
     """Whether a function with `part` in its name opened a socket."""
     opened = next((call for call in index.by_socket.get(socket, ()) if call.name == OPEN), None)
     return opened is not None and any(part in frame.function for frame in index.recording.lines.of(opened.first).calls)
 
 
-def listener_of(index: Index, socket: int, position: int) -> Optional[Listener]:
+def listener_of(index: RunIndex, socket: int, position: int) -> Optional[Listener]:
     """The listener to which a socket was connected: the listener with the address of the socket's other end, else the
     only open listener."""
     found = {listener: calls for listener in index.by_socket if (calls := accepts_at(index, listener))}
@@ -84,13 +84,13 @@ def listener_of(index: Index, socket: int, position: int) -> Optional[Listener]:
     return Listener(listening[0], found[listening[0]][-1], False) if len(listening) == 1 else None
 
 
-def accepts_at(index: Index, socket: int) -> list[Call]:
+def accepts_at(index: RunIndex, socket: int) -> list[Call]:
     """The Accepts on a socket."""
     calls = index.by_socket[socket]
     return [call for call in calls if call.name == "Read" and index.is_listening(call)] if calls[0].name == OPEN else []
 
 
-def accepted_at(index: Index, accepts: list[Call]) -> Iterator[int]:
+def accepted_at(index: RunIndex, accepts: list[Call]) -> Iterator[int]:
     """The sockets that the Accepts returned."""
     for accept in accepts:
         opened = (
@@ -106,5 +106,5 @@ def accepted_at(index: Index, accepts: list[Call]) -> Iterator[int]:
             yield first.socket
 
 
-def closed(index: Index, socket: int, position: int) -> bool:
+def closed(index: RunIndex, socket: int, position: int) -> bool:
     return any(call.name == CLOSE for call in back(index.by_socket[socket], position))

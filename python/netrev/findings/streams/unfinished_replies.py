@@ -6,12 +6,12 @@ import re
 from typing import Iterator, NamedTuple
 
 from netrev.findings.evidence.ended_goroutines import body_of
-from netrev.findings.evidence.index import Index
 from netrev.findings.evidence.words import place_of
 from netrev.findings.source.functions import Lines, range_of, source_of
 from netrev.findings.source.skipped_ways import Way, is_text, skipped_ways, ways_words
 from netrev.recording.call import Call
 from netrev.recording.where import OF_THE_PROGRAM, SourceCall as LineCall
+from netrev.run.index import RunIndex
 
 from .exchanges import reader_of
 
@@ -30,7 +30,7 @@ class Part(NamedTuple):
     is_inside: bool
 
 
-def unfinished_reply(index: Index, call: Call, other: int, position: int) -> list[str]:
+def unfinished_reply(index: RunIndex, call: Call, other: int, position: int) -> list[str]:
     """Sentences about a waiting Read whose reply is perhaps incomplete; none if that is unknown."""
     write, request = (index.last_use(socket, position, ("Write",)) for socket in (other, call.socket))
     if (
@@ -41,7 +41,7 @@ def unfinished_reply(index: Index, call: Call, other: int, position: int) -> lis
         or not has_part(index, call, write)
     ):
         return []
-    read, now = reader_of(index, other, request, position), index.inside(write.goroutine, position)
+    read, now = reader_of(index, other, request, position), index.call_at(write.goroutine, position)
     if not read or read.goroutine != write.goroutine or not read.last < write.first:
         return []
     if not now or now.name != "Read" or now.socket != other or now.first < write.last:
@@ -56,7 +56,7 @@ def unfinished_reply(index: Index, call: Call, other: int, position: int) -> lis
     ]
 
 
-def has_part(index: Index, call: Call, write: Call) -> bool:
+def has_part(index: RunIndex, call: Call, write: Call) -> bool:
     """Whether a waiting goroutine has already read part of another goroutine's last Write. It must have made that Read
     at the line at which it now waits."""
     reads = [read for read in index.by_socket[call.socket] if read.name == "Read" and read.moved and read.last]
@@ -66,7 +66,7 @@ def has_part(index: Index, call: Call, write: Call) -> bool:
     return index.recording.lines.of(last.first).own() == index.recording.lines.of(call.first).own()
 
 
-def parts_of(index: Index, write: Call, now: Call) -> Iterator[Part]:
+def parts_of(index: RunIndex, write: Call, now: Call) -> Iterator[Part]:
     """The loops in the functions that made a Write, except loops that still run."""
     lines = index.recording.lines
     running = {call.function for call in lines.of(now.first).calls}

@@ -4,13 +4,13 @@ writing, so the reader at that socket's other end hangs."""
 
 from typing import Iterator, NamedTuple, Optional
 
-from netrev.findings.evidence.index import MOVING, Index
 from netrev.findings.evidence.waiters import is_waiting
 from netrev.findings.evidence.words import is_of_go, text_of_call
 from netrev.findings.pools.balances import has_ended
 from netrev.recording.call import Call, Outcome
 from netrev.recording.recording import Recording
 from netrev.recording.waits import Name
+from netrev.run.index import MOVING, RunIndex
 
 SETTLED = 16  # a relay would have closed the other socket within this many steps after the end of the stream
 
@@ -35,9 +35,9 @@ class UnpassedEnd(NamedTuple):
         ]
 
 
-def unpassed_ends(index: Index) -> Iterator[UnpassedEnd]:
+def unpassed_ends(index: RunIndex) -> Iterator[UnpassedEnd]:
     """The ends of streams that relays didn't pass on."""
-    for call in index.book.calls:
+    for call in index.calls:
         if call.outcome is not Outcome.EOF or call.name != "Read" or is_of_go(index.recording, call):
             continue
         write = last_write_of_relay(index, call)
@@ -47,7 +47,7 @@ def unpassed_ends(index: Index) -> Iterator[UnpassedEnd]:
             yield UnpassedEnd(call, write, waits)
 
 
-def last_write_of_relay(index: Index, met: Call) -> Optional[Call]:
+def last_write_of_relay(index: RunIndex, met: Call) -> Optional[Call]:
     """A relay's last Write, if it came after the relay's last Read that got something. The relay's Reads are all on one
     socket, its Writes are all on another, and its last call is this Read. The result is None if the goroutine isn't
     such a relay."""
@@ -61,13 +61,13 @@ def last_write_of_relay(index: Index, met: Call) -> Optional[Call]:
     return writes[-1] if not data_reads or data_reads[-1].first < writes[-1].first else None
 
 
-def is_over(index: Index, met: Call) -> bool:
+def is_over(index: RunIndex, met: Call) -> bool:
     """Whether a goroutine has had a chance to close the other socket: it has ended, or enough steps have passed
     since."""
     return index.recording.length - met.last >= SETTLED or has_ended(index.recording, Name(met.goroutine))
 
 
-def reader_of(index: Index, socket: int) -> Optional[Call]:
+def reader_of(index: RunIndex, socket: int) -> Optional[Call]:
     """The Read at the other end of a socket, if it waits at the end of the recording."""
     other = index.other_end(socket)
     calls = () if other is None else index.by_socket.get(other, ())

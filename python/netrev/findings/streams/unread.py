@@ -3,11 +3,11 @@ progress."""
 
 from typing import Iterable, Iterator, NamedTuple
 
-from netrev.findings.evidence.index import Index
 from netrev.findings.evidence.sizes import are_known, moved_at
 from netrev.findings.evidence.words import is_of_go, text_of_call
 from netrev.recording.call import CLOSE, Call
 from netrev.recording.waits import Name
+from netrev.run.index import RunIndex
 from netrev.text.plurals import counted
 
 from .exchanges import is_cut
@@ -21,7 +21,7 @@ class Unread(NamedTuple):
     socket: int
 
 
-def unread(index: Index, position: int) -> Iterator[Unread]:
+def unread(index: RunIndex, position: int) -> Iterator[Unread]:
     """The unread bytes at a position. The number of unread bytes is unknown if the recording counts fewer bytes than
     the reads or writes moved."""
     for socket, other in sorted(index.recording.lines.peers.items()):
@@ -42,7 +42,7 @@ def unread(index: Index, position: int) -> Iterator[Unread]:
                 yield Unread(write, count, other)
 
 
-def unread_says(index: Index, names: Iterable[Name], position: int) -> list[str]:
+def unread_says(index: RunIndex, names: Iterable[Name], position: int) -> list[str]:
     """Sentences about the first unread bytes that one of these goroutines wrote."""
     every = set(names)
     for found in unread(index, position):
@@ -55,7 +55,7 @@ def unread_says(index: Index, names: Iterable[Name], position: int) -> list[str]
     return []
 
 
-def unread_answers(index: Index, call: Call, other: int, position: int) -> list[str]:
+def unread_answers(index: RunIndex, call: Call, other: int, position: int) -> list[str]:
     """Sentences about a Write that waits for room: its own goroutine hasn't read what was written at the other end."""
     count = moved_at(index, other, "Write", position) - moved_at(index, call.socket, "Read", position)
     write, calls = index.last_use(other, position, ("Write",)), index.by_socket.get(call.socket, ())

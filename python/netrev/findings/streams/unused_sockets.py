@@ -4,19 +4,20 @@ goroutines whose results no goroutine took from a channel."""
 from collections import defaultdict
 from typing import Iterator
 
-from netrev.findings.evidence.index import MOVING, Cause, Index
 from netrev.findings.evidence.words import place_in, short
+from netrev.findings.finding import Cause
 from netrev.findings.pools.made_channels import has_returned, is_local, returns_says
 from netrev.recording.call import CLOSE, OPEN, Call
 from netrev.recording.goroutines import PUT, TOOK
 from netrev.recording.waits import listed, name_of_goid
 from netrev.recording.where import OF_THE_PROGRAM, SourceCall as LineCall
+from netrev.run.index import MOVING, RunIndex
 from netrev.text.plurals import counted
 
 from .unaccepted import is_dialed
 
 
-def unused_since(index: Index, call: Call, step: int) -> list[str]:
+def unused_since(index: RunIndex, call: Call, step: int) -> list[str]:
     """Sentences about a call that failed on a connection whose other end was closed, if the call's goroutine has dialed
     since and never used the new connections."""
     opened: dict[str, list[int]] = defaultdict(list)
@@ -35,12 +36,12 @@ def unused_since(index: Index, call: Call, step: int) -> list[str]:
     ]
 
 
-def is_used(index: Index, socket: int) -> bool:
+def is_used(index: RunIndex, socket: int) -> bool:
     """Whether a goroutine has read from, written to or closed a socket."""
     return any(call.name in MOVING or call.name == CLOSE for call in index.by_socket[socket])
 
 
-def untaken_results(index: Index) -> Iterator[Cause]:
+def untaken_results(index: RunIndex) -> Iterator[Cause]:
     """Possible causes: channels with values that no goroutine took. The goroutines that put the values there left
     sockets open, and the function that made the channel has returned."""
     lines, found = index.recording.lines, dict[LineCall, list[Call]]()
@@ -65,7 +66,7 @@ def untaken_results(index: Index) -> Iterator[Cause]:
         yield Cause(calls[0], says, [calls[0].first], [f"goto {calls[0].first}", f"calls sock {calls[0].socket}"])
 
 
-def opened_by(index: Index, goid: int) -> list[Call]:
+def opened_by(index: RunIndex, goid: int) -> list[Call]:
     """A goroutine's Opens of dialed sockets that no goroutine has closed."""
     opened = [opening for opening in index.by_goid(goid) if opening.name == OPEN and is_dialed(index, opening.socket)]
     return [opening for opening in opened if not any(call.name == CLOSE for call in index.by_socket[opening.socket])]

@@ -3,10 +3,11 @@ it."""
 
 from dataclasses import dataclass, field
 from enum import IntEnum
-from typing import Iterable, NamedTuple, Optional
+from typing import NamedTuple, Optional, Sequence
 
-from netrev.findings.finding import Finding, Kind, Place
+from netrev.findings.finding import Finding, Kind, place_of, sentences_of
 from netrev.recording.waits import Name
+from netrev.recording.where import SourceLines
 
 
 class Weight(IntEnum):
@@ -67,8 +68,9 @@ class Suspect:
         """The whole sentence."""
         return "; ".join(self.says)
 
-    def finding(self, place: Optional[Place], details: Iterable[str]) -> Finding:
-        """The finding for the suspect, at this place and with these details."""
+    def finding(self, lines: SourceLines, details: Sequence[str]) -> Finding:
+        """The finding for the suspect, with these details."""
         names = () if self.goroutine is None else (Name(self.goroutine),)
-        sentences, steps = (f"{self.rule}: {self.sentence()}",), (self.step, *self.steps)
-        return Finding(Kind.SUSPECT, sentences, place, steps, names, tuple(self.looks), tuple(details))
+        sentence, *more = sentences_of(lines, [f"{self.rule}: {self.sentence()}", *details])
+        place, steps = place_of(lines.of(self.step)), (self.step, *self.steps)
+        return Finding(Kind.SUSPECT, (sentence,), place, steps, names, tuple(self.looks), tuple(more))

@@ -5,7 +5,7 @@ from typing import Iterable, NamedTuple
 
 from netrev.recording.notes import Timeout
 from netrev.recording.recording import Recording
-from netrev.run.calls import book_of
+from netrev.run.index import run_of
 from netrev.run.notes import Notes
 
 from .found import Suspect
@@ -29,7 +29,7 @@ def suspects_of(recording: Recording) -> Ranked:
 def all_suspects_of(recording: Recording) -> Ranked:
     """The suspects that all rules find. Suspects from the rules about calls come last."""
     prepare(recording)
-    run = Run(book_of(recording).notes)
+    run = Run(run_of(recording).notes)
     ranked = by_cells(run)
     return Ranked([*ranked.suspects, *worst_of_each(found(RULES_OF_CALLS, run))], ranked.timeouts)
 

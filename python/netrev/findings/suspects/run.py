@@ -5,10 +5,10 @@ from collections import defaultdict
 from functools import cached_property
 from typing import Optional
 
-from netrev.findings.evidence.index import Index, index_of
 from netrev.machine.machine import INSIDE
 from netrev.recording.notes import AT, MANY, Use
 from netrev.recording.suspect_list import SuspectEntries
+from netrev.run.index import RunIndex, run_of
 from netrev.run.notes import Notes
 from netrev.text.plurals import counted
 
@@ -38,9 +38,9 @@ class Run:
         return self.facts.asleep.get((g, d, side), "")
 
     @cached_property
-    def calls(self) -> Index:
+    def calls(self) -> RunIndex:
         """Go's calls."""
-        return index_of(self.recording)
+        return run_of(self.recording)
 
     @cached_property
     def _uses(self) -> dict[int, list[Use]]:

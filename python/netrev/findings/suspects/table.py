@@ -3,7 +3,7 @@
 from typing import Optional, Protocol, Sequence
 
 from netrev.connection.output import Row, Table, Values
-from netrev.findings.finding import Finding, SuspectFindings, place_of, suspect_lines
+from netrev.findings.finding import Finding, SuspectFindings, suspect_lines
 from netrev.recording.notes import Timeout
 from netrev.recording.recording import Recording
 from netrev.recording.where import OF_GO
@@ -71,7 +71,7 @@ def _finding(recording: Recording, suspect: Suspect, evidence: list[str], doubts
     """The finding for a suspect."""
     lines = [f"Go:     {line}" for line in _lines(recording, suspect)]
     details = [f"netrev: {'; '.join(evidence)}", *(f"take care: {doubt}" for doubt in doubts), *lines]
-    return suspect.finding(place_of(recording.lines.of(suspect.step)), details)
+    return suspect.finding(recording.lines, details)
 
 
 def _evidence(answers: Answers, suspect: Suspect) -> tuple[list[str], list[str]]:

@@ -11,9 +11,9 @@ from netrev.connection.netrev import Joined, Netrev, Own
 from netrev.connection.scout import Scout
 from netrev.connection.shapes import POSITION
 from netrev.messages import session as messages
-from netrev.recording.backward_search import last_steps
 from netrev.recording.recording import NotARecordingError, Recording, Step
 from netrev.recording.suspect_list import SuspectList
+from netrev.run.index import run_of
 from netrev.session.refusals import explained, fault_of
 from netrev.session.session import Session
 from netrev.system.interrupts import Interrupts
@@ -69,7 +69,7 @@ class Debuggee:
         """The last step up to the position that this goroutine (None: the network or the clock) made; 0 if it has made
         no step, or if the step is far away."""
         if maker is not None:
-            return last_steps(self.recording, self.position, [maker])[maker]
+            return run_of(self.recording).last_step(maker, self.position)
         numbers = range(self.position, max(self.position - FAR, 0), -1)
         return next((number for number in numbers if self.maker(number) is None), 0)
 

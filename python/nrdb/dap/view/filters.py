@@ -10,7 +10,7 @@ from netrev.findings.suspects.ranking import suspects_of
 from netrev.messages import editors as texts
 from netrev.recording.call import Outcome
 from netrev.recording.recording import Recording
-from netrev.run.calls import book_of
+from netrev.run.index import run_of
 
 from .messages import Body
 
@@ -76,7 +76,7 @@ class Filters:
     def _all(self) -> dict[Filter, list[Failure]]:
         """Everything that went wrong, by filter, in the order of the steps."""
         shown = [suspect for suspect in suspects_of(self._recording).suspects if suspect.is_shown]
-        failed = [call for call in book_of(self._recording).calls if call.last and call.outcome.is_error]
+        failed = run_of(self._recording).failed()
         found: dict[Filter, list[Failure]] = {sort: [] for sort in Filter}
         found[Filter.SUSPECTS] = [Failure(suspect.step, suspect.rule, suspect.sentence()) for suspect in shown]
         for call in failed:

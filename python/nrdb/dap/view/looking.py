@@ -6,14 +6,12 @@ from typing import Optional, Sequence
 
 from netrev.connection.world import PositionValues
 from netrev.messages import editors as texts
-from netrev.recording.backward_search import last_steps
 from netrev.recording.waits import Name, waits_of
 from netrev.recording.where import OF_THE_PROGRAM, SourceCall, Stack
 from netrev.recording.words import status_words
-from netrev.run.calls import book_of
+from netrev.run.index import run_of
 from netrev.text.plain import plain
 from netrev.text.vocabulary import CELLS, KINDS, Of, cell_of
-from netrev.views.following import calls_at
 from netrev.views.goroutine_stacks import stack_of
 
 from .debuggee import Debuggee, Maker
@@ -144,7 +142,7 @@ class Looks:
     def _stacks(self, goroutines: Sequence[int]) -> dict[int, Stack]:
         """The stack of each goroutine's last step."""
         recording = self._debuggee.recording
-        steps = last_steps(recording, self._debuggee.position, goroutines)
+        steps = run_of(recording).last_steps(goroutines, self._debuggee.position)
         return {goroutine: recording.lines.of(step) for goroutine, step in steps.items()}
 
     def frames_of(self, thread: int) -> list[Body]:
@@ -171,7 +169,7 @@ class Looks:
         wait = None if is_next else waits_of(self._debuggee.recording).at(Name(maker), here)
         if wait:
             stack, labels = wait.stack, [self._label(frame, f"{wait.does} since step {wait.first}")]
-        inside = calls_at(book_of(self._debuggee.recording), maker, here)
+        inside = run_of(self._debuggee.recording).calls_at(maker, here)
         labels += [self._label(frame, f"in {call.as_begun().words()}") for call in reversed(inside)]
         if not stack.calls:
             words = status_words(self._world.value(f"gor {maker}"))

@@ -13,10 +13,10 @@ from netrev.text.plurals import counted
 
 def rule(run: Run) -> Iterator[Suspect]:
     index = run.calls
-    if not any(call.name == "Read" and call.outcome is Outcome.TIMED_OUT for call in index.book.calls):
+    if not any(call.name == "Read" and call.outcome is Outcome.TIMED_OUT for call in index.calls):
         return
     sizes = read_sizes_of(run.recording)
-    for call in index.book.calls:
+    for call in index.calls:
         late = sizes.before(call)
         if late is None or late.outcome is not Outcome.TIMED_OUT or is_of_go(run.recording, call):
             continue

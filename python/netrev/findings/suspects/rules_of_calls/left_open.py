@@ -4,7 +4,7 @@ closes this end or is in a call on it that would return EOF."""
 from typing import Iterator
 
 from netrev.findings.causes.leftovers import left_open
-from netrev.findings.evidence.index import Cause
+from netrev.findings.finding import Cause
 from netrev.findings.suspects.found import Evidence, Suspect, Weight
 from netrev.findings.suspects.run import Run
 

@@ -3,11 +3,11 @@ deadline, and no goroutine sets another deadline."""
 
 from typing import Iterator
 
-from netrev.findings.evidence.index import Index
 from netrev.findings.evidence.words import is_of_go, text_of_call
 from netrev.findings.suspects.found import Evidence, Suspect, Weight
 from netrev.findings.suspects.run import SIDES, Run
 from netrev.recording.call import Call, Outcome
+from netrev.run.index import RunIndex
 
 MANY = 20
 
@@ -31,7 +31,7 @@ def is_next(last: Call, call: Call) -> bool:
     return are_late and last.cause == call.cause > 0 and last.goroutine == call.goroutine
 
 
-def suspect_of(index: Index, row: list[Call]) -> Suspect:
+def suspect_of(index: RunIndex, row: list[Call]) -> Suspect:
     first, last = row[0], row[-1]
     letter = SIDES[first.name]
     says = [

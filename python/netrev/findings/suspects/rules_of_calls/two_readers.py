@@ -3,11 +3,11 @@ got bytes, so chance decides which goroutine gets which bytes. Listeners and dat
 
 from typing import Iterator
 
-from netrev.findings.evidence.index import Index, went_well
 from netrev.findings.evidence.words import is_of_go, text_of_call
 from netrev.findings.suspects.found import Evidence, Suspect, Weight
 from netrev.findings.suspects.run import Run
 from netrev.recording.call import Call
+from netrev.run.index import RunIndex, went_well
 
 
 def rule(run: Run) -> Iterator[Suspect]:
@@ -22,7 +22,7 @@ def rule(run: Run) -> Iterator[Suspect]:
                 yield suspect_of(index, first, second)
 
 
-def suspect_of(index: Index, first: Call, second: Call) -> Suspect:
+def suspect_of(index: RunIndex, first: Call, second: Call) -> Suspect:
     says = [
         f"perhaps: two goroutines read socket {first.socket} at once, and each got bytes",
         f"{text_of_call(index.recording, first)}, {first.steps()}",

@@ -13,11 +13,10 @@ from pathlib import Path
 from typing import Any, Sequence
 from unittest.mock import patch
 
-from netrev.findings.evidence.index import index_of
 from netrev.findings.evidence.waiters import is_waiting
 from netrev.findings.suspects.ranking import all_suspects_of
 from netrev.recording.recording import Recording
-from netrev.run.calls import book_of
+from netrev.run.index import run_of
 from netrev.timeline.calls import COLUMNS, packed
 from tests.program.nrdb.common.browser import CHROMIUM, used
 from tests.program.nrdb.common.devtools import Chromium
@@ -75,10 +74,10 @@ class Data(unittest.TestCase):
                 told.append([data["g"][at], data["s"][at], step, last, texts[data["line"][at]], data["waited"][at]])
             wanted = [
                 [call.goroutine, call.socket, call.first, call.last, recording.lines.words(call.first), call.waited]
-                for call in book_of(recording).calls
+                for call in run_of(recording).calls
             ]
             self.assertEqual(told, wanted, name)
-            left = [one for one in book_of(recording).calls if not one.last and is_waiting(index_of(recording), one)]
+            left = [one for one in run_of(recording).calls if not one.last and is_waiting(run_of(recording), one)]
             hanging = {(one.goroutine, one.first) for one in left}
             hangs = {(g, at) for (g, _, at, *_), state in zip(told, data["state"]) if STATES[state] == "hangs"}
             self.assertEqual(hangs, hanging, name)
@@ -206,7 +205,7 @@ class InChromium(unittest.TestCase):
         )
         self.assertEqual(told["dragged"], [100, 187])
         recording = Recording.read(str(REAL / "hijacked.jsonl"))
-        inside = [one for one in book_of(recording).calls if one.first <= 187 and (not one.last or one.last > 100)]
+        inside = [one for one in run_of(recording).calls if one.first <= 187 and (not one.last or one.last > 100)]
         counted = sum(int(part.split()[0]) for part in told["sums"]["calls"].split(", "))
         self.assertEqual(counted, len(inside))
         self.assertEqual(told["sums"]["steps"], "100 to 187, 87 steps")
@@ -334,7 +333,7 @@ class Parts(unittest.TestCase):
             """,
         )
         self.assertEqual((told["range"], told["whole"]), ([100, 150], [0, 216]))
-        self.assertEqual(told["calls"], len(book_of(Recording.read(str(REAL / "hijacked.jsonl"))).calls))
+        self.assertEqual(told["calls"], len(run_of(Recording.read(str(REAL / "hijacked.jsonl"))).calls))
         self.assertGreater(told["rows"], 8)
         self.assertIn("netrev's values of positions 100 to 150 are here", told["panel"])
         self.assertIn("from 100 to 150", told["found"])

@@ -1,7 +1,6 @@
 """`steps` and `calls`: what a goroutine did, what happened to a socket or a descriptor, and all steps of a kind. The
 module also finds the destinations of `next` and `finish`."""
 
-from itertools import chain
 from typing import Callable, Iterator, NamedTuple, Optional
 
 from netrev.connection.output import Row, Table
@@ -10,13 +9,12 @@ from netrev.messages import session as messages
 from netrev.recording.answers import answer_text
 from netrev.recording.call import Call
 from netrev.recording.recording import Recording, Step
-from netrev.run.calls import Book, book_of
-from netrev.run.returns import function_at, position_of_return
+from netrev.run.index import run_of
 from netrev.run.timers import timer_of, timer_words
-from netrev.text.vocabulary import KINDS, number_of
+from netrev.text.vocabulary import KINDS, Of, number_of
 
 MOST = 40
-SUBJECTS = {"gor": "goroutine", "sock": "socket", "desc": "descriptor"}
+SUBJECTS = {"gor": Of.GOROUTINE, "sock": Of.SOCKET, "desc": Of.DESCRIPTOR}
 
 
 class Subject(NamedTuple):
@@ -26,7 +24,7 @@ class Subject(NamedTuple):
     number: int = 0
 
     def __str__(self) -> str:
-        return f"{SUBJECTS[self.name]} {self.number}" if self.is_numbered else self.name
+        return f"{SUBJECTS[self.name].value} {self.number}" if self.is_numbered else self.name
 
     @property
     def is_numbered(self) -> bool:
@@ -59,13 +57,8 @@ def steps_table(recording: Recording, subject: Subject, position: int, most: Opt
 def _numbers(recording: Recording, subject: Subject, position: int) -> Iterator[int]:
     """The numbers of the subject's steps up to the position."""
     if subject.name in KINDS:
-        yield from (step.number for step in recording.steps_of((subject.name,), position))
-        return
-    book = book_of(recording).whose
-    whose = {"gor": book.goroutines, "sock": book.sockets, "desc": book.descriptors}[subject.name]
-    for number, owner in enumerate(whose[:position], 1):
-        if owner == subject.number:
-            yield number
+        return (step.number for step in recording.steps_of((subject.name,), position))
+    return run_of(recording).steps_of(SUBJECTS[subject.name], subject.number, 0, position)
 
 
 def _typed(subject: Subject) -> str:
@@ -93,7 +86,7 @@ def _rest(count: int, shown: int, name: str, line: str, subject: Subject, positi
 
 def calls_table(recording: Recording, subject: Subject, position: int, most: Optional[int]) -> Table:
     """The subject's calls that began at or before the position. If there are more than `most`, only the last ones."""
-    found = [call for call in book_of(recording).calls if call.first <= position and subject.has(call)]
+    found = [call for call in run_of(recording).calls if call.first <= position and subject.has(call)]
     shown = found if most is None else found[-most:]
     rows = [call_row(recording, call, position) for call in shown]
     line = f"calls {_typed(subject)}" if subject.name else "calls"
@@ -134,36 +127,38 @@ class Goal(NamedTuple):
 def goroutine_at(recording: Recording, position: int) -> int:
     """The goroutine that made the last step up to the position. At the start, the goroutine that makes the next step.
     Steps that no goroutine made don't count."""
-    whose = book_of(recording).whose.goroutines
-    for at in chain(range(position - 1, -1, -1), range(position, len(whose))):
-        if whose[at] >= 0:
-            return whose[at]
-    raise NoDestinationError(messages.NO_GOROUTINE_MOVES)
+    goroutine = run_of(recording).goroutine_at(position)
+    if goroutine < 0:
+        raise NoDestinationError(messages.NO_GOROUTINE_MOVES)
+    return goroutine
 
 
 def next_goal(recording: Recording, goroutine: int, position: int) -> Goal:
     """The position after the goroutine's next step, or after the whole call that begins with it."""
-    book = book_of(recording)
-    step = _own_step(book, goroutine, range(position + 1, recording.length + 1))
-    call = next((call for call in book.calls if call.first == step), None)
-    return Goal(step) if call is None else Goal(call.last or recording.length, call)
+    run = run_of(recording)
+    step = run.next_step(goroutine, position)
+    if not step:
+        raise NoDestinationError(messages.NO_OTHER_STEP.format(goroutine=goroutine, way="later"))
+    call = run.call_of(step)
+    return Goal(call.last or recording.length, call) if call and call.first == step else Goal(step)
 
 
 def previous_goal(recording: Recording, goroutine: int, position: int) -> Goal:
     """The position before the goroutine's last step, or before the whole call that it ended."""
-    book = book_of(recording)
-    step = _own_step(book, goroutine, range(position, 0, -1))
-    call = next((call for call in book.calls if call.goroutine == goroutine and call.last == step), None)
-    return Goal(step - 1) if call is None else Goal(call.first - 1, call)
+    run = run_of(recording)
+    step = run.last_step(goroutine, position)
+    if not step:
+        raise NoDestinationError(messages.NO_OTHER_STEP.format(goroutine=goroutine, way="earlier"))
+    call = next((call for call in run.by_goroutine.get(goroutine, ()) if call.last == step), None)
+    return Goal(call.first - 1, call) if call else Goal(step - 1)
 
 
 def finish_goal(recording: Recording, goroutine: int, position: int) -> Goal:
     """The position after the call that the goroutine is in. Between two calls, the position before the goroutine's
     first step outside the program's function."""
-    inside = calls_at(book_of(recording), goroutine, position)
-    if not inside:
+    call = run_of(recording).call_at(goroutine, position)
+    if not call:
         return return_goal(recording, goroutine, position)
-    call = inside[-1]
     if not call.last:
         raise NoDestinationError(messages.CALL_HANGS.format(goroutine=goroutine, call=call.words()))
     return Goal(call.last, call)
@@ -172,44 +167,21 @@ def finish_goal(recording: Recording, goroutine: int, position: int) -> Goal:
 def return_goal(recording: Recording, goroutine: int, position: int) -> Goal:
     """The position just before the goroutine's next step outside the function that it is in. Of the functions in its
     stack, that is the program's innermost one."""
-    found = position_of_return(recording, goroutine, position)
+    run = run_of(recording)
+    found = run.position_of_return(goroutine, position)
     if found is not None:
         return Goal(found)
-    if function := function_at(recording, goroutine, position):
+    if function := run.function_at(goroutine, position):
         raise NoDestinationError(messages.NO_RETURN.format(goroutine=goroutine, function=function))
     raise NoDestinationError(messages.IN_NO_CALL.format(goroutine=goroutine))
 
 
 def start_goal(recording: Recording, goroutine: int, position: int) -> Goal:
     """The position before the call that the goroutine is in."""
-    call = _call_at(book_of(recording), goroutine, position)
-    return Goal(call.first - 1, call)
-
-
-def _own_step(book: Book, goroutine: int, numbers: range) -> int:
-    """The first of these steps that the goroutine made."""
-    found = next((number for number in numbers if book.whose.goroutines[number - 1] == goroutine), None)
-    if found is None:
-        way = "later" if numbers.step > 0 else "earlier"
-        raise NoDestinationError(messages.NO_OTHER_STEP.format(goroutine=goroutine, way=way))
-    return found
-
-
-def _call_at(book: Book, goroutine: int, position: int) -> Call:
-    """The innermost call that the goroutine is in; raises NoDestinationError if it is in no call."""
-    inside = calls_at(book, goroutine, position)
-    if not inside:
+    call = run_of(recording).call_at(goroutine, position)
+    if not call:
         raise NoDestinationError(messages.IN_NO_CALL.format(goroutine=goroutine))
-    return inside[-1]
-
-
-def calls_at(book: Book, goroutine: int, position: int) -> list[Call]:
-    """The calls that a goroutine is in, innermost last."""
-    return [
-        call
-        for call in book.calls
-        if call.goroutine == goroutine and call.first <= position and (not call.last or call.last > position)
-    ]
+    return Goal(call.first - 1, call)
 
 
 GOALS: dict[str, Callable[[Recording, int, int], Goal]] = {

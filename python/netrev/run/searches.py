@@ -1,18 +1,21 @@
-"""Facts about the steps before a position. One backward search of the recording's text finds the facts for all
-requested objects."""
+"""Facts about the steps before a position, for callers that can't wait until a million steps are read. The facts about
+all requested objects come from one search of the recording's text."""
 
 import re
+from dataclasses import dataclass
 from itertools import islice
-from typing import Collection, Iterator
+from typing import Collection, Iterator, NamedTuple
 
+from netrev.recording.changes import RecordedChanges
+from netrev.recording.recording import Recording, Step
+from netrev.recording.words import LockWord
 from netrev.text.vocabulary import OF_A_GOROUTINE
-
-from .recording import Recording, Step
 
 Lock = tuple[int, str]  # a socket and a side
 FEW = 8
 LOCKS = rb'\[\s*"rw(un)?lock"\s*,\s*\d+\s*,\s*(%s)\s*,\s*"([rw])"'
 GOROUTINES = rb'\[\s*"(?:%s)"\s*,\s*(\d+)\b' % "|".join(OF_A_GOROUTINE).encode()
+LOCKING = ("incref", "increfclose", "decref", "rwlock", "rwunlock")
 
 
 def takings(recording: Recording, until: int, locks: Collection[Lock]) -> dict[Lock, Step]:
@@ -60,3 +63,46 @@ def last_steps(recording: Recording, until: int, goroutines: Collection[int]) ->
             if not missing:
                 break
     return last
+
+
+@dataclass(frozen=True)
+class Reference:
+    """A reference that is held: the goroutine, the step at which the goroutine took it, and, for a lock, its side in a
+    list of one element."""
+
+    step: Step
+    goroutine: int
+    side: list[str]
+
+
+class Holding(NamedTuple):
+    """A reference that is held at the step that `holders_of` has reached. `number` is the number of the step that took the reference."""
+
+    number: int
+    goroutine: int
+    side: list[str]
+
+
+def holders_of(recording: Recording, changes: RecordedChanges, socket: int, position: int) -> list[Reference]:
+    """The references to the socket at the position, oldest first. A step that raised the count of references added a
+    reference, and a step that lowered the count removed a reference."""
+    counts = {step: LockWord.of(int(word)).references for step, word in changes.changes_of(f"lock {socket}", position)}
+    held: list[Holding] = []
+    end = -1 if recording.has_answers else None
+    for number, (kind, *arguments) in recording.arrays_like(LOCKING, position, socket):
+        count = counts.get(number, len(held))
+        if count == len(held) or kind not in LOCKING:
+            continue
+        goroutine, _, *side = arguments[:end]
+        if count > len(held):
+            held.append(Holding(number, goroutine, side))
+        else:
+            held.remove(_given(held, goroutine, side))
+    return [Reference(recording.step(number), goroutine, side) for number, goroutine, side in held]
+
+
+def _given(held: list[Holding], goroutine: int, side: list[str]) -> Holding:
+    """The reference that a step gives back: the newest reference of the same goroutine, if the goroutine has any."""
+    fits = [holding for holding in held if holding.side == side]
+    own = [holding for holding in fits if holding.goroutine == goroutine]
+    return (own or fits or held)[-1]
