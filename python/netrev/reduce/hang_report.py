@@ -3,7 +3,6 @@ failed, and shows the tree of waiting goroutines with their stacks and calls. Th
 
 from pathlib import Path
 from typing import NamedTuple, Optional
-from urllib.parse import quote
 
 from netrev.connection.beginnings import begin_words
 from netrev.findings.causes.first import failures_of
@@ -15,15 +14,12 @@ from netrev.session.session import Session
 from netrev.session.source import source_of, text_round
 from netrev.system.command_lines import file_word
 from netrev.text.plain import plain
-from netrev.timeline.drawing import drawing
-from netrev.timeline.stories import causes_data
 from netrev.views.following import Subject, calls_table
 from netrev.views.goroutine_stacks import stack_of
 
-from .report import code, shell_words, shown
+from .report import code, link_to_page, shell_words, shown
 from .writing import answered_by
 
-MOST_DRAWN = 2_000  # a picture is drawn only for a recording with at most this many steps
 MOST_GOROUTINES, MOST_CALLS = 4, 5
 
 
@@ -61,15 +57,14 @@ def story_of(session: Session) -> Optional[Story]:
     return Story(title, says, tree, list(dict.fromkeys(names))[:MOST_GOROUTINES], looks)
 
 
-def hang_report(session: Session, story: Story, picture: Path) -> tuple[str, str]:
-    """The report and its picture. The picture is empty if the recording is long."""
+def hang_report(session: Session, story: Story, page: str) -> str:
+    """The report, with a link to the timeline in `page`."""
     recording, file = session.text(), file_word(Path(session.path).name)
     _, checked = answered_by(session.program, "check", recording.data)
-    drawn = drawing(recording, next(causes_data(recording), None)) if recording.length <= MOST_DRAWN else ""
     parts = [f"# {story.title}", *(shown(line) for line in story.says)]
     parts += [f"{words[0].upper()}{words[1:]}."] if (words := begin_words(recording)) else []
     parts += [block(story.tree)] if story.tree else []
-    parts += [f"![The calls of {shown(file)}]({quote(picture.name)})"] if drawn else []
+    parts += [link_to_page(page)]
     for name in story.names:
         parts += of_goroutine(session, name)
     parts += [
@@ -78,7 +73,7 @@ def hang_report(session: Session, story: Story, picture: Path) -> tuple[str, str
         "What netrev answers is proved; who waits for whom, and the lines of the program, are not.",
         block([shell_words("nrdb", file, *(word for look in ("info hangs", *story.looks) for word in ("-ex", look)))]),
     ]
-    return "\n\n".join(parts) + "\n", drawn
+    return "\n\n".join(parts) + "\n"
 
 
 def of_goroutine(session: Session, name: Name) -> list[str]:

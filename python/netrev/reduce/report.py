@@ -11,13 +11,16 @@ from netrev.connection.output import Table
 from netrev.connection.scout import Scout
 from netrev.findings.suspects.table import suspects_table
 from netrev.recording.answers import answer_text
+from netrev.recording.changes import IncompleteChangesError
 from netrev.recording.recording import Recording, Step
-from netrev.session.session import Session
+from netrev.run.changes import read_with_changes
+from netrev.session.session import Session, UsageError
 from netrev.system.command_lines import file_word
 from netrev.text.plain import plain
 from netrev.text.vocabulary import OF_A_GOROUTINE
 from netrev.timeline.calls import Data
-from netrev.timeline.drawing import drawing
+from netrev.timeline.page import show_progress, write_page
+from netrev.timeline.picture import PageSources
 from netrev.timeline.sequence import sequence
 from netrev.timeline.stories import suspects_data
 
@@ -44,9 +47,19 @@ def code(text: str) -> str:
     return f"{fence}{plain(text)}{fence}" if len(fence) == 1 else f"{fence} {plain(text)} {fence}"
 
 
-def report_of(session: Session, wanted: Wanted, reduced: Reduced) -> tuple[str, str]:
-    """The report of a reduced recording, and its picture."""
-    recording = Recording.read(reduced.path)
+def link_to_page(page: str) -> str:
+    """The line of a report that names its timeline."""
+    name = Path(page).name
+    return f"The timeline, for any browser: [{shown(name)}]({quote(name)})"
+
+
+def report_of(session: Session, wanted: Wanted, reduced: Reduced, page: str) -> str:
+    """Writes the timeline of a reduced recording to `page`, and returns the recording's report."""
+    try:
+        recording = read_with_changes(session.program, reduced.path)
+    except IncompleteChangesError as fault:
+        raise UsageError(str(fault)) from None
+    assert recording.changes
     file = file_word(Path(reduced.path).name)
     name = shown(file)
     scout = Scout(lambda: Own(session.program, reduced.path, session.interrupts))
@@ -54,11 +67,12 @@ def report_of(session: Session, wanted: Wanted, reduced: Reduced) -> tuple[str, 
         table = suspects_table(scout, recording)
         parts = _of_cell(scout, recording, wanted) if wanted.cell else _of_suspect(session, table, wanted)
         story = None if wanted.cell else next(suspects_data(scout, recording), None)
+        write_page(PageSources(recording, reduced.path, scout, recording.changes, 0, [], show_progress), page)
     finally:
         scout.drop()
     _, checked = answered_by(session.program, "check", recording.data)
     parts += [
-        f"![The calls of {name}, with the steps of the story numbered]({quote(Path(reduced.path).with_suffix('.svg').name)})",
+        link_to_page(page),
         "## The steps",
         f"{recording.length} of the {session.text().length} steps of {shown(Path(session.path).name)}, in {name}: each "
         f"goroutine in its column, the network and the clock in the last. {code(shell_words('netrev', 'check', file))} prints "
@@ -69,7 +83,7 @@ def report_of(session: Session, wanted: Wanted, reduced: Reduced) -> tuple[str, 
         "## To look",
         f"    {shell_words('nrdb', file, '-ex', 'info suspects', '-ex', 'continue', '-ex', 'info goroutines')}",
     ]
-    return "\n\n".join(parts) + "\n", drawing(recording, story)
+    return "\n\n".join(parts) + "\n"
 
 
 def _diagram(recording: Recording, story: Optional[Data]) -> list[str]:

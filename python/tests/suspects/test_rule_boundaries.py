@@ -26,7 +26,6 @@ from netrev.run.flow import BY_STATUS, OperationType
 from netrev.session.commands import parts_of, whole_words
 from netrev.session.line_hints import hint
 from netrev.session.session import Session, UsageError
-from netrev.timeline.drawing import LETTER, Drawing, fitted
 from netrev.timeline.trace import END, write_events
 from netrev_go import cli as recorder
 from netrev_go.steps.analysis import hanging, never_closed
@@ -365,24 +364,7 @@ def test_the_suspect_that_a_reduction_keeps(
             reduced._target(cast(Any, None), cast(Any, None), wanted)
 
 
-# drawings and traces
-
-
-@pytest.mark.parametrize("letters, shown", [(9, "goroutine"), (8, "gorouti…"), (4, "gor…"), (3, ""), (2, "")])
-def test_the_beginning_of_a_text_that_fits(letters: int, shown: str) -> None:
-    assert fitted("goroutine", letters * LETTER + 0.1) == shown
-
-
-@pytest.mark.parametrize(
-    "length, wide, ticks", [(3, 40, [0, 1, 2, 3]), (3, 39, [0, 2]), (10, 8, [0, 5, 10]), (10, 7.9, [0, 10])]
-)
-def test_the_ruler_has_round_distances_of_forty_pixels(length: int, wide: float, ticks: list[int]) -> None:
-    written: list[tuple[float, float, str]] = []
-    own = Made(_x=lambda position: position * wide, _recording=Made(length=length), _parts=[])
-    own._write = lambda x, y, text, kind: written.append((x, y, text))
-    Drawing._ruler(cast(Any, own), 100)
-    assert written == [*((tick * wide + 3, 78, str(tick)) for tick in ticks), (12, 78, "position")]
-    assert own._parts == [f'<path class="line" d="M{tick * wide} 76V100"/>' for tick in ticks]
+# traces
 
 
 def test_events_are_written_as_one_list() -> None:
