@@ -145,6 +145,6 @@ class FindingFiles:
         run = finding.run
         if run.failed and finding.reason:
             stays = stays_of(self.sentences.script, run.failed, finding.reason, run.steps)
-            return Wanted(0, "", "", whole.length, behind=stays)
-        behind = moved_by(self.sentences.script, finding.hangs, run.places[finding.hangs], run.steps)
-        return Wanted(0, "", "", whole.length, finding.hangs, behind)
+            return Wanted(0, "", "", whole.length, steps=stays)
+        steps = moved_by(self.sentences.script, finding.hangs, run.places[finding.hangs], run.steps)
+        return Wanted(0, "", "", whole.length, finding.hangs, steps)

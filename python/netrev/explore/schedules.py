@@ -7,10 +7,10 @@ from bisect import bisect_left, bisect_right
 from itertools import islice
 from typing import Iterator, NamedTuple
 
+from netrev.reduce.units import SIDE_OF as SIDE_OF_NETWORK
 from netrev.run.flow import OperationType
 
 from .control_flow import Operation
-from .script import SIDE_OF as SIDE_OF_NETWORK
 from .script import Script
 
 NEAR = 4  # a pause waits for at most this many steps of other actors on the same part

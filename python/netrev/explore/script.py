@@ -7,6 +7,7 @@ from typing import Any, NamedTuple, Optional
 from netrev.recording.recording import Recording
 from netrev.recording.where import SourceLines
 from netrev.reduce.events import Event, Events, Timer
+from netrev.reduce.units import SIDE_OF
 from netrev.run.flow import OperationType
 from netrev.text.contents import Limits
 
@@ -17,7 +18,6 @@ from .orders import Order, Trigger, orders_of, triggers_of
 CLOCK = ("tick", "pop", "fire")
 RAW = ("internal/poll.(*FD).RawRead", "internal/poll.(*FD).RawWrite")
 TRIGGERS = ("syswrite", "closewrite", "pollopen", "evict", "pollclose")  # steps that the network may answer
-SIDE_OF = {"arrive": "r", "peerclose": "r", "drain": "w"}
 TRIES = {OperationType.READ: ("sysread", "r"), OperationType.WRITE: ("syswrite", "w")}
 JUST_BEFORE = 0.4
 

@@ -10,9 +10,8 @@ from netrev.session.session import Session, UsageError
 from netrev.timeline.page import show_progress, write_page
 from netrev.timeline.picture import PageSources
 
-from .hang_report import hang_report, story_of
 from .reduced import reduced, wanted_by
-from .report import report_of
+from .report import hang_report, report_of, story_of
 
 USAGE = "reduce OUT.jsonl [N | CELL VALUE]"
 

@@ -98,7 +98,7 @@ def test_a_suspect_is_reduced_by_its_number(one: Suspect, number: int) -> None:
 @pytest.mark.parametrize(
     ("failed", "reason", "wanted"),
     [
-        (7, 8, Wanted(0, "", "", 9, behind=(1, 2))), (7, None, Wanted(0, "", "", 9, 3, (4, 5))), (None, None, Wanted(0, "", "", 9, 3, (4, 5))),
+        (7, 8, Wanted(0, "", "", 9, steps=(1, 2))), (7, None, Wanted(0, "", "", 9, 3, (4, 5))), (None, None, Wanted(0, "", "", 9, 3, (4, 5))),
     ],
 )  # fmt: skip
 def test_a_failure_or_a_hang_is_reduced_with_its_steps(failed: Any, reason: Any, wanted: Wanted) -> None:

@@ -34,7 +34,7 @@ LINES = (
     "explore 120", "explore failures 60", "reduce out.jsonl", "report out.md", "reduce cell.jsonl lock 0 8", "report held.md lock 0 *", "report out.md 2",
     "explore 0", "reduce", "reduce out.jsonl 99", "report x.md lock 99 8",
 )  # fmt: skip
-ANSWERED = ("explore.commands", "reduce.writing", "reduce.reduced", "reduce.report", "reduce.hang_report")
+ANSWERED = ("explore.commands", "reduce.writing", "reduce.reduced", "reduce.report")
 
 
 def answered_by(_: str, command: str, data: bytes) -> tuple[int, bytes]:

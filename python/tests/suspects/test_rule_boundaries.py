@@ -348,7 +348,7 @@ def test_the_suspect_that_a_reduction_keeps(
     suspects = [Made(rule=rule, is_shown=word == "yes") for rule, word in zip("abc", shown.split())]
     monkeypatch.setattr(reduced, "suspects_of", lambda recording: Made(suspects=suspects))
     monkeypatch.setattr(reduced, "SuspectTarget", lambda events, suspect, at: (suspect.rule, at))
-    wanted = cast(Any, Made(hangs=-1, behind=[], cell="", suspect=number))
+    wanted = cast(Any, Made(hangs=-1, steps=[], cell="", suspect=number))
     if found:
         assert reduced._target(cast(Any, None), cast(Any, None), wanted) == (found, number)
     else:
