@@ -24,7 +24,7 @@ VIEWS = (
     "reduce d.jsonl rg 9 absent", "report e.md gor 0 *", "history lock 0 all", "until gor 0 parked*", "source nothing", "help explore",
     "break main.go:7", "frame", "up", "history main.go:7", "list main.go:7", "goto 1ns",
 )  # fmt: skip
-WRITTEN = (".html", ".json", ".jsonl", ".md", ".svg", ".where")
+WRITTEN = (".html", ".json", ".jsonl", ".md", ".where")
 REASONS = ("\x1b[2J", "a select", "a mutex", "time.Sleep", "room in a channel", "")
 STRANGE = ("\x1b[2J", "\u202e", "\ud800", "</script>", "main.go", "x" * 300, "|`*", "\n")
 NESTED = (b"[" * 100_000, b'{"call":' * 50_000, b"9" * 5_000, b"\xff", b"null", b"{}")

@@ -10,8 +10,8 @@ from pathlib import Path
 from typing import NamedTuple, Optional
 
 from dev.recorder.suites import DEBIAN
-from netrev.explore.findings import HANG, Exploring
-from netrev.explore.scripts.making import script_of
+from netrev.explore.script import script_of
+from netrev.explore.search import HANG, Search
 from netrev.findings.suspects.ranking import suspects_of
 from netrev.recording.recording import Recording
 from netrev.recording.where import SourceLines
@@ -73,24 +73,24 @@ class Exploration(NamedTuple):
     times: Counter[str]
     first: dict[str, int]
     seconds: float
-    exploring: Exploring
+    search: Search
 
 
 def explored(recording: Recording, most: int) -> Exploration:
     """Runs this many schedules near a recording."""
     begun = time.process_time()
-    exploring = Exploring(script_of(recording), recording.lines.words)
+    search = Search(script_of(recording), recording.lines.words)
     first: dict[str, int] = {}
 
     def tell() -> None:
-        for key in exploring.found:
-            first.setdefault(named(key[0]), exploring.played)
+        for key in search.found:
+            first.setdefault(named(key[0]), search.tried)
 
-    exploring.run(most, tell)
+    search.run(most, tell)
     times: Counter[str] = Counter()
-    for key, count in exploring.times.items():
+    for key, count in search.times.items():
         times[named(key[0])] += count
-    return Exploration(exploring.played, times, first, time.process_time() - begun, exploring)
+    return Exploration(search.tried, times, first, time.process_time() - begun, search)
 
 
 def named(what: object) -> str:

@@ -14,9 +14,9 @@ from pathlib import Path
 from typing import Iterator
 
 from dev.fuzz.generators.injections import Traffic
-from netrev.explore.findings import Exploring
-from netrev.explore.scripts.making import script_of
-from netrev.explore.workers import Share, play_all
+from netrev.explore.script import script_of
+from netrev.explore.search import Search
+from netrev.explore.workers import Share, run_all
 from netrev.machine.machine import World
 from netrev.machine.steps import apply
 from netrev.recording.recording import Recording
@@ -63,9 +63,9 @@ def pace(recording: Recording, most: int, processors: int) -> tuple[int, int, fl
     now = time.process_time if processors == 1 else time.perf_counter
     begun = now()
     script = script_of(recording)
-    exploring = Exploring(script, recording.lines.words)
-    play_all(exploring, Share(script, recording.lines, most, 0, processors), lambda: None)
-    return exploring.played, len(exploring.found), now() - begun
+    search = Search(script, recording.lines.words)
+    run_all(search, Share(script, recording.lines, most, 0, processors), lambda: None)
+    return search.tried, len(search.found), now() - begun
 
 
 def main() -> int:

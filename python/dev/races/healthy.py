@@ -100,13 +100,13 @@ def tell(case: Healthy, schedules: int) -> None:
     outcome = explored(recording, schedules)
     orders = len(recording.lines.orders or ())
     pace = f"{outcome.played / max(outcome.seconds, 0.001):.0f}"
-    found = len(outcome.exploring.found)
+    found = len(outcome.search.found)
     print(
         f"| {case.package} {case.test} | {recording.length} | {orders} | {outcome.played:,} | {found} | {pace} |",
         flush=True,
     )
-    for key, finding in outcome.exploring.found.items():
-        print(f"  {named(key[0])} {key[1:]}: {finding.schedule}, {outcome.exploring.times[key]} times", flush=True)
+    for key, finding in outcome.search.found.items():
+        print(f"  {named(key[0])} {key[1:]}: {finding.schedule}, {outcome.search.times[key]} times", flush=True)
 
 
 if __name__ == "__main__":

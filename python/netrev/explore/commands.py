@@ -16,12 +16,12 @@ from netrev.system.interrupts import SearchInterruptedError
 from netrev.text.vocabulary import number_of
 
 from .failures import stays_of, watched
-from .findings import Exploring, ScheduleFinding
+from .search import Search, ScheduleFinding
 from .hangs import moved_by
-from .scripts.making import script_of
-from .scripts.runs import ImpossibleScheduleError
+from .numbered_state import ImpossibleScheduleError
+from .script import script_of
 from .sentences import FindingSentences, summary
-from .workers import Share, play_all, processors
+from .workers import Share, run_all, processors
 
 FAILURES = "failures"
 MOST, GREATEST = 3_000, 1_000_000
@@ -58,28 +58,28 @@ def explored(session: Session, most: int = MOST, is_of_failures: bool = False) -
         script = script_of(answered)
         if is_of_failures:
             script.watched = watched(script)
-        exploring = Exploring(script, recording.lines.words)
+        search = Search(script, recording.lines.words)
     except ImpossibleScheduleError as why:
         raise UsageError(messages.NOT_CALLS.format(why=why)) from None
-    progress = Progress(exploring, most, session.interrupts.check)
+    progress = Progress(search, most, session.interrupts.check)
     is_stopped = False
     try:
-        play_all(exploring, Share(script, recording.lines, most, 0, processors()), progress.tell)
+        run_all(search, Share(script, recording.lines, most, 0, processors()), progress.tell)
     except SearchInterruptedError:
         is_stopped = True
     progress.end()
-    lines = [summary(exploring, time.monotonic() - begun, is_stopped)]
-    keeping = Keeping(session, FindingSentences(recording, run_of(recording), exploring.script))
-    for at, finding in enumerate(exploring.found.values(), 1):
-        lines += keeping.kept(at, exploring.least(finding), exploring.times[finding.key])
-    return Explored("\n".join(lines), len(exploring.found))
+    lines = [summary(search, time.monotonic() - begun, is_stopped)]
+    files = FindingFiles(session, FindingSentences(recording, run_of(recording), search.script))
+    for at, finding in enumerate(search.found.values(), 1):
+        lines += files.write(at, search.simplest(finding), search.times[finding.key])
+    return Explored("\n".join(lines), len(search.found))
 
 
 class Progress:
     """A line on a terminal that shows the progress."""
 
-    def __init__(self, exploring: Exploring, most: int, check: Callable[[], None]) -> None:
-        self.exploring, self.most, self.check = exploring, most, check
+    def __init__(self, search: Search, most: int, check: Callable[[], None]) -> None:
+        self.search, self.most, self.check = search, most, check
         self._next = time.monotonic() + SECONDS if sys.stderr.isatty() else float("inf")
         self._width = 0
 
@@ -87,8 +87,8 @@ class Progress:
         """Updates the line. Called after each schedule."""
         if time.monotonic() >= self._next:
             self._next = time.monotonic() + SECONDS
-            found = len(self.exploring.found)
-            self._show(messages.PROGRESS.format(played=self.exploring.played, most=self.most, found=found))
+            found = len(self.search.found)
+            self._show(messages.PROGRESS.format(played=self.search.tried, most=self.most, found=found))
         self.check()
 
     def _show(self, text: str) -> None:
@@ -102,24 +102,24 @@ class Progress:
             self._show("")
 
 
-class Keeping:
+class FindingFiles:
     """Writes the recordings of findings into the current folder, and reports each recording."""
 
-    def __init__(self, session: Session, telling: FindingSentences) -> None:
-        self.session, self.telling = session, telling
+    def __init__(self, session: Session, sentences: FindingSentences) -> None:
+        self.session, self.sentences = session, sentences
 
-    def kept(self, at: int, finding: ScheduleFinding, times: int) -> list[str]:
+    def write(self, at: int, finding: ScheduleFinding, times: int) -> list[str]:
         """Writes a finding's recording and the reduced recording; returns the lines about them."""
-        recording, played = self.telling.recording, finding.played
+        recording, run = self.sentences.recording, finding.run
         file = f"{Path(self.session.path).stem}-other-{at}.jsonl"
-        data = text_of(played.world, played.world.limits.buf, played.pairs(), recording.has_answers)
+        data = text_of(run.world, run.world.limits.buf, run.pairs(), recording.has_answers)
         status, output = answered_by(self.session.program, "check", data)
         if status:
             fault = output.decode("utf-8", "replace").strip()
             return [messages.SCHEDULE_REFUSED.format(finding=at, fault=fault)]
-        write_recording(file, self.session.path, data, recording.lines, [step.number for step in played.steps])
+        write_recording(file, self.session.path, data, recording.lines, [step.number for step in run.steps])
         accepted = output.decode("utf-8", "replace").strip()
-        *lines, unless = self.telling.finding(at, finding, times, file)
+        *lines, unless = self.sentences.finding(at, finding, times, file)
         lines.append(f"   netrev: {accepted}")
         lines.append(f"   short:  {self._shortened(file, finding)}")
         return [*lines, unless]
@@ -142,9 +142,9 @@ class Keeping:
             subjects = [suspect.subject for suspect in shown]
             number = subjects.index(finding.suspect.subject) + 1 if finding.suspect.subject in subjects else 1
             return Wanted(number, "", "", whole.length)
-        played = finding.played
-        if played.failed and finding.reason:
-            stays = stays_of(self.telling.script, played.failed, finding.reason, played.steps)
-            return Wanted(0, "", "", whole.length, behind=stays)
-        behind = moved_by(self.telling.script, finding.hangs, played.places[finding.hangs], played.steps)
-        return Wanted(0, "", "", whole.length, finding.hangs, behind)
+        run = finding.run
+        if run.failed and finding.reason:
+            stays = stays_of(self.sentences.script, run.failed, finding.reason, run.steps)
+            return Wanted(0, "", "", whole.length, steps=stays)
+        steps = moved_by(self.sentences.script, finding.hangs, run.places[finding.hangs], run.steps)
+        return Wanted(0, "", "", whole.length, finding.hangs, steps)

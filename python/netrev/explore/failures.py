@@ -7,8 +7,10 @@ from typing import Any, Iterator, NamedTuple, Optional
 
 from netrev.run.flow import OperationType
 
-from .scripts.runs import AnsweredStep, Delay
-from .scripts.scripts import Operation, Script
+from .control_flow import Operation
+from .numbered_state import AnsweredStep
+from .schedules import Delay
+from .script import Script
 
 FAILS = "a call that fails"
 

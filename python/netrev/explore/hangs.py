@@ -7,9 +7,9 @@ from typing import Optional
 from netrev.machine.machine import SIDES, Status, World
 from netrev.run.flow import OperationType
 
-from .scripts.control import ScriptPlace
-from .scripts.runs import AnsweredStep
-from .scripts.scripts import Operation, Script
+from .control_flow import Operation, ScriptPlace
+from .numbered_state import AnsweredStep
+from .script import Script
 
 TIMED_OUT = ("code", 2)
 

@@ -7,10 +7,11 @@ from bisect import bisect_left, bisect_right
 from itertools import islice
 from typing import Iterator, NamedTuple
 
+from netrev.reduce.units import SIDE_OF as SIDE_OF_NETWORK
 from netrev.run.flow import OperationType
 
-from .scripts.runs import Delay
-from .scripts.scripts import Operation, Script
+from .control_flow import Operation
+from .script import Script
 
 NEAR = 4  # a pause waits for at most this many steps of other actors on the same part
 AROUND = 40  # the maximum number of steps between delays that are drawn together
@@ -25,12 +26,19 @@ OF_THING = {
     BYTES: ("sysread", "syswrite", "closewrite", "arrive", "peerclose", "drain"),
 }
 THING_OF = {kind: thing for thing, kinds in OF_THING.items() for kind in kinds}
-SIDE_OF = {"arrive": "r", "peerclose": "r", "sysread": "r", "drain": "w", "syswrite": "w", "closewrite": "w"}
+SIDE_OF = {**SIDE_OF_NETWORK, "sysread": "r", "syswrite": "w", "closewrite": "w"}
 # two steps about a wait are paired only if one of them has such a kind: only the goroutine in the wait makes steps of
 # the other kinds, and no other goroutine can enter the wait in between
 TO_OTHERS = frozenset(("setdeadline", "evict", "pollevent", "fire"))
 
 Thing = tuple[int, str, str]  # a socket, a part of it, and a side
+
+
+class Delay(NamedTuple):
+    """A pause of a goroutine: before its step `before`, it waits until after the recorded time of step `until`."""
+
+    before: int
+    until: int
 
 
 class Schedule(NamedTuple):

@@ -9,10 +9,10 @@ from netrev.run.index import RunIndex
 from netrev.text.plurals import counted
 
 from .failures import FAILS, Failed, Reason, Why
-from .findings import Exploring, ScheduleFinding
+from .search import Search, ScheduleFinding
 from .hangs import moved_by
-from .scripts.runs import Delay
-from .scripts.scripts import Script
+from .schedules import Delay
+from .script import Script
 
 UNLESS = "possible, unless your program orders these calls by what a recording doesn't show: "
 UNKNOWN = "a channel, a mutex, a condition"
@@ -41,7 +41,7 @@ class FindingSentences:
         g = finding.suspect.goroutine if finding.suspect else None
         if g is None or finding.key[0] != LOST_WAKE_UP:
             return unless
-        operation = self.script.goroutines[g][finding.played.places[g].operation]
+        operation = self.script.goroutines[g][finding.run.places[g].operation]
         return f"{unless}; {IF_RAW}" if operation.is_raw else unless
 
     def _until(self, number: int) -> str:
@@ -81,17 +81,17 @@ class FindingSentences:
         return lines
 
     def _head(self, finding: ScheduleFinding, file: str) -> str:
-        if finding.played.failed and finding.reason:
-            return f"{FAILS}, in {file}: {self._fails(finding.played.failed, finding.reason, finding)}"
+        if finding.run.failed and finding.reason:
+            return f"{FAILS}, in {file}: {self._fails(finding.run.failed, finding.reason, finding)}"
         if finding.suspect:
             return f"{finding.suspect.rule}, in {file}: {finding.suspect.sentence()}"
         g = finding.hangs
-        operation = self.script.goroutines[g][finding.played.places[g].operation]
-        before = [part for part in self.script.goroutines[g][: finding.played.places[g].operation + 1] if part.steps]
+        operation = self.script.goroutines[g][finding.run.places[g].operation]
+        before = [part for part in self.script.goroutines[g][: finding.run.places[g].operation + 1] if part.steps]
         call = self.call_of(g, before[-1].steps[0]) if before else None
         named = self._named(call) if call else f"a call on socket {operation.socket}"
         ended = f", which ended with {call.outcome.value!r} in the recording," if call else ""
-        set_at, moved_at = moved_by(self.script, g, finding.played.places[g], finding.played.steps)
+        set_at, moved_at = moved_by(self.script, g, finding.run.places[g], finding.run.steps)
         says = f"goroutine {g} is parked without a deadline, since step {moved_at} moved that of step {set_at}"
         return f"{finding.key[0]}, in {file}: {named}{ended} hangs: {says}"
 
@@ -107,7 +107,7 @@ class FindingSentences:
     def _why(self, why: Why, reason: Reason, finding: ScheduleFinding) -> str:
         if why is Why.BROKEN:
             return "its other end is closed, or its writing side is shut"
-        step = finding.played.steps[reason.step - 1].step
+        step = finding.run.steps[reason.step - 1].step
         if why is Why.CLOSED:
             return f"goroutine {step[1]} closes the socket before, at step {reason.step}"
         if not reason.served:
@@ -116,17 +116,15 @@ class FindingSentences:
         return f"its deadline, which goroutine {step[1]} set at step {reason.step} and under which {calls}, passes"
 
 
-def summary(exploring: Exploring, seconds: float, is_stopped: bool) -> str:
+def summary(search: Search, seconds: float, is_stopped: bool) -> str:
     """The number of schedules that were run, and the results."""
-    how = f"one delay: {min(exploring.played, len(exploring.delays))} of {len(exploring.delays)}"
-    if exploring.seed:
-        how += f"; two and three: seeds 1 to {exploring.seed}"
+    how = f"one delay: {min(search.tried, len(search.delays))} of {len(search.delays)}"
+    if search.seed:
+        how += f"; two and three: seeds 1 to {search.seed}"
     stopped = "stopped: " if is_stopped else ""
-    sentence = f"{stopped}{counted(exploring.played, 'schedule')} near the recorded one in {seconds:.1f} s ({how})"
-    if exploring.taken_over:
-        sentence += f"; {exploring.taken_over} of the processes that played them ended early, and nrdb played the rest"
-    if exploring.left:
-        sentence += f"; in {exploring.left} of them a step didn't apply"
-    return (
-        f"{sentence}; {counted(len(exploring.found), 'finding')}" if exploring.found else f"{sentence}; nothing found"
-    )
+    sentence = f"{stopped}{counted(search.tried, 'schedule')} near the recorded one in {seconds:.1f} s ({how})"
+    if search.taken_over:
+        sentence += f"; {search.taken_over} of the processes that played them ended early, and nrdb played the rest"
+    if search.impossible:
+        sentence += f"; in {search.impossible} of them a step didn't apply"
+    return f"{sentence}; {counted(len(search.found), 'finding')}" if search.found else f"{sentence}; nothing found"

@@ -13,9 +13,9 @@ from typing import IO, Callable, Iterator, NamedTuple
 
 from netrev.recording.where import SourceLines
 
-from .findings import Exploring, Key
+from .search import Search, Key
 from .schedules import Schedule, schedules
-from .scripts.scripts import Script
+from .script import Script
 
 # several processes are used only if all schedules together have at least this many steps; each schedule is assumed to
 # have as many steps as the recording
@@ -41,9 +41,9 @@ class Best(NamedTuple):
 class Report(NamedTuple):
     """The findings of a process since its last report, and whether this is its final report."""
 
-    is_all: bool
-    played: int
-    left: int
+    is_final: bool
+    tried: int
+    impossible: int
     seed: int
     times: dict[Key, int]
     best: dict[Key, Best]
@@ -58,12 +58,12 @@ class Share(NamedTuple):
     which: int
     of: int
 
-    def play(self, exploring: Exploring, best: dict[Key, Best], behind: int = 0) -> Iterator[None]:
-        """Runs the schedules of the share, except the first `behind` schedules, and keeps the simplest schedule of each
+    def run(self, search: Search, best: dict[Key, Best], skipped: int = 0) -> Iterator[None]:
+        """Runs the schedules of the share, except the first `skipped` schedules, and keeps the simplest schedule of each
         finding. Yields after each schedule."""
-        mine = islice(enumerate(schedules(exploring.delays, self.most)), self.which + behind * self.of, None, self.of)
+        mine = islice(enumerate(schedules(search.delays, self.most)), self.which + skipped * self.of, None, self.of)
         for at, schedule in mine:
-            for key in exploring.play(schedule):
+            for key in search.try_schedule(schedule):
                 candidate = Best(schedule.measure(), at, at, schedule)
                 best[key] = candidate.with_other(best.get(key, candidate))
             yield
@@ -73,57 +73,57 @@ def processors() -> int:
     return len(os.sched_getaffinity(0))
 
 
-def play_all(exploring: Exploring, share: Share, tell: Callable[[], None]) -> None:
+def run_all(search: Search, share: Share, tell: Callable[[], None]) -> None:
     """Runs the schedules of the whole share, on all processors if that is worth it, and calls `tell` now and then. If a
     process ends early, for example for lack of memory, the rest of its share runs here."""
     if share.of < 2 or share.script.length * share.most < WORTH_IT:
-        exploring.run(share.most, tell)
+        search.run(share.most, tell)
         return
     best: dict[Key, Best] = {}
     with ExitStack() as stack:
-        stack.callback(_keep, exploring, best)  # (even if Ctrl-C ends the work)
+        stack.callback(_keep_best, search, best)  # (even if Ctrl-C ends the work)
         selector = stack.enter_context(DefaultSelector())
-        workings = [stack.enter_context(Working()) for _ in range(share.of)]
-        for which, working in enumerate(workings):
-            working.give(share._replace(which=which))
-            selector.register(working.output, EVENT_READ, working)
+        workers = [stack.enter_context(Worker()) for _ in range(share.of)]
+        for which, worker in enumerate(workers):
+            worker.send(share._replace(which=which))
+            selector.register(worker.output, EVENT_READ, worker)
         while selector.get_map():
             for key, _ in selector.select(SECONDS):
-                if not key.data.hear(exploring, best):
+                if not key.data.receive(search, best):
                     selector.unregister(key.fileobj)
             tell()
-        for working in workings:
-            if not working.has_reported_all:
-                exploring.taken_over += 1
-                for _ in working.share.play(exploring, best, working.played):
+        for worker in workers:
+            if not worker.is_done:
+                search.taken_over += 1
+                for _ in worker.share.run(search, best, worker.tried):
                     tell()
 
 
-def _keep(exploring: Exploring, best: dict[Key, Best]) -> None:
+def _keep_best(search: Search, best: dict[Key, Best]) -> None:
     """Runs the simplest schedule of each finding again."""
-    exploring.found.clear()
+    search.found.clear()
     for key, simplest in sorted(best.items(), key=lambda item: item[1].first):
-        exploring.keep(key, simplest.schedule)
+        search.keep(key, simplest.schedule)
 
 
-class Working:
+class Worker:
     """A process that runs a share of the schedules. The end of the `with` block kills it."""
 
     def __init__(self) -> None:
         words = [sys.executable, "-c", CODE]
         self.process = subprocess.Popen(words, stdin=subprocess.PIPE, stdout=subprocess.PIPE, start_new_session=True)
         assert self.process.stdin and self.process.stdout
-        self.given, self.output = self.process.stdin, self.process.stdout
-        self.played = 0
-        self.has_reported_all = False
+        self.input, self.output = self.process.stdin, self.process.stdout
+        self.tried = 0
+        self.is_done = False
 
-    def give(self, share: Share) -> None:
+    def send(self, share: Share) -> None:
         """Sends the process its share. By then all processes have been started."""
         self.share = share
-        with suppress(BrokenPipeError), self.given as to:
+        with suppress(BrokenPipeError), self.input as to:
             to.write(pickle.dumps(share))
 
-    def hear(self, exploring: Exploring, best: dict[Key, Best]) -> bool:
+    def receive(self, search: Search, best: dict[Key, Best]) -> bool:
         """Reads a report. Returns False if the process has ended, perhaps in the middle of a report."""
         head = self.output.read(LENGTH)
         size = int.from_bytes(head, "big")
@@ -131,23 +131,23 @@ class Working:
         if not size or len(data) < size:
             return False
         report: Report = pickle.loads(data)
-        self.has_reported_all = report.is_all
-        self.played += report.played
-        exploring.played += report.played
-        exploring.left += report.left
-        exploring.seed = max(exploring.seed, report.seed)
-        exploring.times.update(report.times)
+        self.is_done = report.is_final
+        self.tried += report.tried
+        search.tried += report.tried
+        search.impossible += report.impossible
+        search.seed = max(search.seed, report.seed)
+        search.times.update(report.times)
         for key, candidate in report.best.items():
             best[key] = candidate.with_other(best.get(key, candidate))
         return True
 
-    def __enter__(self) -> "Working":
+    def __enter__(self) -> "Worker":
         return self
 
     def __exit__(self, *_: object) -> None:
         self.process.kill()
         self.output.close()
-        self.given.close()
+        self.input.close()
         self.process.wait()
 
 
@@ -159,29 +159,29 @@ def work() -> None:
     output any more."""
     try:
         share: Share = pickle.load(sys.stdin.buffer)
-        tell_of(share, sys.stdout.buffer)
+        run_share(share, sys.stdout.buffer)
     except (BrokenPipeError, EOFError):
         os._exit(1)
 
 
-def tell_of(share: Share, to: IO[bytes]) -> None:
+def run_share(share: Share, to: IO[bytes]) -> None:
     """Runs a share, and reports the findings."""
-    exploring = Exploring(share.script, share.lines.words)
+    search = Search(share.script, share.lines.words)
     following = time.monotonic() + SECONDS
     best: dict[Key, Best] = {}
-    for _ in share.play(exploring, best):
+    for _ in share.run(search, best):
         if time.monotonic() >= following:
-            _say(to, exploring, best, False)
+            _report(to, search, best, False)
             following = time.monotonic() + SECONDS
-    _say(to, exploring, best, True)
+    _report(to, search, best, True)
 
 
-def _say(to: IO[bytes], exploring: Exploring, best: dict[Key, Best], is_all: bool) -> None:
+def _report(to: IO[bytes], search: Search, best: dict[Key, Best], is_final: bool) -> None:
     """Reports the findings since the last report."""
-    report = Report(is_all, exploring.played, exploring.left, exploring.seed, dict(exploring.times), dict(best))
+    report = Report(is_final, search.tried, search.impossible, search.seed, dict(search.times), dict(best))
     data = pickle.dumps(report)
     to.write(len(data).to_bytes(LENGTH, "big") + data)
     to.flush()
-    exploring.played = exploring.left = 0
-    exploring.times.clear()
+    search.tried = search.impossible = 0
+    search.times.clear()
     best.clear()

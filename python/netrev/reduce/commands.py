@@ -5,12 +5,13 @@ from pathlib import Path
 from netrev.findings.suspects.ranking import suspects_of
 from netrev.messages import searches as messages
 from netrev.recording.recording import Recording
-from netrev.session.files import written
+from netrev.session.files import spare, written
 from netrev.session.session import Session, UsageError
+from netrev.timeline.page import show_progress, write_page
+from netrev.timeline.picture import PageSources
 
-from .hang_report import Story, hang_report, story_of
 from .reduced import reduced, wanted_by
-from .report import report_of
+from .report import hang_report, report_of, story_of
 
 USAGE = "reduce OUT.jsonl [N | CELL VALUE]"
 
@@ -32,28 +33,21 @@ def answer_reduce(session: Session, words: list[str]) -> None:
 def answer_report(session: Session, words: list[str]) -> None:
     if not words or not words[0].endswith(".md"):
         raise UsageError(messages.REPORT)
+    name, page = words[0], str(Path(words[0]).with_suffix(".html"))
+    for file in (name, page):
+        spare(file, session.path)
     story = None if words[1:] or has_suspects(session) else story_of(session)
     if story:
-        return report_hang(session, words[0], story)
-    wanted = wanted_by(session, words[1:])
-    result = reduced(session, str(Path(words[0]).with_suffix(".jsonl")), wanted)
-    text, picture = report_of(session, wanted, result)
-    drawn = str(Path(words[0]).with_suffix(".svg"))
-    written(drawn, session.path, picture.encode())
-    written(words[0], session.path, text.encode())
-    session.printer.note(f"{words[0]} with {Path(drawn).name}, and {result.words(session.text().length)}")
+        write_page(PageSources.by(session, show_progress), page)
+        text, done = hang_report(session, story, page), f": {story.says[0]}"
+    else:
+        wanted = wanted_by(session, words[1:])
+        result = reduced(session, str(Path(name).with_suffix(".jsonl")), wanted)
+        text, done = report_of(session, wanted, result, page), f", and {result.words(session.text().length)}"
+    written(name, session.path, text.encode())
+    session.printer.note(f"{name} with {Path(page).name}{done}")
 
 
 def has_suspects(session: Session) -> bool:
     """Whether a rule about cells found the suspect, so that the recording can be reduced to it."""
     return any(suspect.is_shown for suspect in suspects_of(session.text()).suspects)
-
-
-def report_hang(session: Session, name: str, story: Story) -> None:
-    """Writes the report of a hang or a failed call."""
-    drawn = Path(name).with_suffix(".svg")
-    text, picture = hang_report(session, story, drawn)
-    if picture:
-        written(str(drawn), session.path, picture.encode())
-    written(name, session.path, text.encode())
-    session.printer.note(f"{name}{f' with {drawn.name}' if picture else ''}: {story.says[0]}")

@@ -17,14 +17,14 @@ NUMBERED = ("spawn", "sockopen", "pollopen")  # kinds whose answer is the number
 
 class Event(NamedTuple):
     """A step: its number, its kind, its arguments (with uses instead of descriptors), and its answer. A `pop` or a
-    `fire` has its timer. A `pollevent` has the difference between its tag and the descriptor's own tag."""
+    `fire` has its timer. For a `pollevent`, `tag_lag` is the descriptor's own tag minus the event's."""
 
     number: int
     kind: str
     arguments: tuple[Any, ...]
     answer: Answer
     timer: Optional[Timer] = None
-    behind: int = 0
+    tag_lag: int = 0
 
     def named(self, form: str) -> Optional[int]:
         """The goroutine, socket or use that an event names."""
@@ -88,7 +88,7 @@ class Events:
     def _event(self, notes: Notes, number: int, kind: str, arguments: list[Any], answer: Any) -> Event:
         """The event for a step."""
         parts = (answer,) if isinstance(answer, str) else tuple(answer)
-        timer, behind, named = None, 0, list(arguments)
+        timer, tag_lag, named = None, 0, list(arguments)
         for at, form in enumerate(KINDS[kind].arguments):
             if form == "d":
                 named[at] = self._of[arguments[at]]
@@ -97,8 +97,8 @@ class Events:
         if kind == "fire":
             timer = self._firings.pop(arguments[0])
         elif kind == "pollevent":
-            behind = int(notes.changes.value(f"fdseq {arguments[0]}", number)) - arguments[1]
+            tag_lag = int(notes.changes.value(f"fdseq {arguments[0]}", number)) - arguments[1]
         elif kind == "pollopen":
             self._of[parts[1]] = len(self.uses)
             self.uses.append(DescriptorUse(parts[1], arguments[1], number))
-        return Event(number, kind, tuple(named), parts, timer, behind)
+        return Event(number, kind, tuple(named), parts, timer, tag_lag)

@@ -22,14 +22,14 @@ from .writing import answered_by, taken, write_recording
 
 class Wanted(NamedTuple):
     """The target of a reduction: the suspect with this number, a cell with a value at a step, a goroutine that hangs,
-    or only the steps in `behind`. These steps must also stay if a goroutine hangs."""
+    or only the steps in `steps`. These steps must also stay if a goroutine hangs."""
 
     suspect: int
     cell: str
     value: str
     until: int
     hangs: int = -1
-    behind: tuple[int, ...] = ()
+    steps: tuple[int, ...] = ()
 
 
 class Reduced(NamedTuple):
@@ -97,9 +97,9 @@ def answered_recording(program: str, recording: Recording, until: int) -> Record
 
 def _target(events: Events, recording: Recording, wanted: Wanted) -> ReductionTarget:
     if wanted.hangs >= 0:
-        return HangTarget(events, wanted.hangs, wanted.behind, wanted.until)
-    if wanted.behind:
-        return StepsTarget(events, wanted.behind)
+        return HangTarget(events, wanted.hangs, wanted.steps, wanted.until)
+    if wanted.steps:
+        return StepsTarget(events, wanted.steps)
     if wanted.cell:
         return CellTarget(events, wanted.cell, wanted.value, wanted.until)
     found = [suspect for suspect in suspects_of(recording).suspects if suspect.is_shown]

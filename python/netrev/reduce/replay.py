@@ -4,8 +4,8 @@ If a step of a unit doesn't apply or has a different answer, the unit is removed
 from bisect import bisect_left
 from typing import Any, Callable, Iterable, Optional
 
+from netrev.machine.in_place import Machine
 from netrev.machine.machine import StepRefusedError, World
-from netrev.machine.steps import apply
 from netrev.text.contents import Answer, Limits
 from netrev.text.vocabulary import KINDS
 
@@ -13,15 +13,13 @@ from .events import NUMBERED, Event, Events, Timer
 from .units import Dependencies, Unit
 
 MADE = {"spawn": "g", "sockopen": "s", "pollopen": "d"}
-COPIES = 2_000  # the maximum number of copies of the world that are kept for going back
-DONE = ("done",)
 
 Step = tuple[Any, ...]
 
 
 class ReplayPlayer:
-    """The Python model of the machine after some of the events. The player keeps the last replay, so that the next
-    replay can continue after their common beginning."""
+    """The Python model of the machine after some of the events. The next replay undoes steps up to the common beginning
+    of both replays, and continues there."""
 
     def __init__(self, events: Events, units: list[Unit], limits: Limits, check: Callable[[], None]) -> None:
         self.events, self.units, self.limits, self.check = events, units, limits, check
@@ -31,12 +29,14 @@ class ReplayPlayer:
         self.chosen: list[int] = []  # the events that were replayed
         self.steps: list[tuple[Step, Answer]] = []
         self.numbers: dict[str, dict[int, int]] = {"g": {0: 0}, "s": {}, "d": {}}
-        self.firings: list[Timer] = []
-        self._next = {"g": 1, "s": 0, "d": 0}
+        self._machine = Machine(limits, remembers=None)
+        self._firings: list[tuple[Timer, ...]] = [()]  # at the start, and after each event
         self._identity = self._identities()
-        self._every = 1
-        self._copies: list[tuple[World, list[Timer]]] = []
-        self.world = World(limits)
+
+    @property
+    def world(self) -> World:
+        """The machine's state."""
+        return self._machine.world()
 
     def _identities(self) -> dict[int, int]:
         """For each event that makes a goroutine, a socket or a use, the object's number."""
@@ -54,8 +54,6 @@ class ReplayPlayer:
         wanted = sorted(place for unit in left for place in self.units[unit].events)
         at = self._common(wanted)
         self._rewind(at)
-        if not self.chosen:
-            self._every = max(1, len(wanted) // COPIES)
         while at < len(wanted):
             place = wanted[at]
             if self.owner[place] not in left:
@@ -82,19 +80,11 @@ class ReplayPlayer:
 
     def _rewind(self, to: int) -> None:
         """Goes back to the state after this number of events."""
-        if to >= len(self.chosen):
-            return
-        again = to - to % self._every
-        replayed = self.chosen[again:to]
-        for place in self.chosen[again:]:
+        for place in self.chosen[to:]:
             if place in self._identity:
                 del self.numbers[MADE[self.events.all[place].kind]][self._identity[place]]
-        del self.chosen[again:], self.steps[again:]
-        self.world, firings = self._copies[again // self._every]
-        self.firings = list(firings)
-        del self._copies[again // self._every :]
-        for place in replayed:
-            self._step(place)
+            self._machine.undo()
+        del self.chosen[to:], self.steps[to:], self._firings[to + 1 :]
 
     def _step(self, place: int) -> bool:
         """Replays an event. Returns False if the event doesn't apply or has a different answer."""
@@ -103,24 +93,24 @@ class ReplayPlayer:
         if step is None:
             return False
         try:
-            world, answer = apply(self.world, step)
+            answer = self._machine.step(step)
         except StepRefusedError:
             return False
         if event.kind not in NUMBERED and answer != event.answer:
+            self._machine.undo()
             return False
-        if len(self.chosen) % self._every == 0:
-            self._copies.append((self.world, list(self.firings)))
         self.played += 1
         if self.played % 1_000 == 0:
             self.check()
+        firings = self._firings[-1]
         if event.kind in NUMBERED:
             self.numbers[MADE[event.kind]][self._identity[place]] = answer[1]
         elif event.kind == "pop":
             assert event.timer
-            self.firings.append(event.timer)
+            firings = (*firings, event.timer)
         elif event.kind == "fire":
-            self.firings.pop(step[1])
-        self.world = world
+            firings = (*firings[: step[1]], *firings[step[1] + 1 :])
+        self._firings.append(firings)
         self.chosen.append(place)
         self.steps.append((step, answer))
         return True
@@ -130,7 +120,8 @@ class ReplayPlayer:
         if event.kind == "pop":
             return ("pop",) if self._is_next(event) else None
         if event.kind == "fire":
-            return ("fire", self.firings.index(event.timer)) if event.timer in self.firings else None
+            firings = self._firings[-1]
+            return ("fire", firings.index(event.timer)) if event.timer in firings else None
         step: list[Any] = [event.kind]
         for form, value in zip(KINDS[event.kind].arguments, event.arguments):
             if form in self.numbers:
@@ -145,12 +136,12 @@ class ReplayPlayer:
     def _is_next(self, event: Event) -> bool:
         """Whether the first timer in the machine is the timer of the event."""
         assert event.timer
-        first = self.world.timers[0] if self.world.timers else None
+        first = next(iter(self._machine.timers), None)
         return first is not None and (self.numbers["d"].get(event.timer[0]), event.timer[1]) == (first.desc, first.side)
 
     def _tag(self, event: Event, descriptor: int) -> int:
         """The tag of an event. If the descriptor exists, the tag differs from the descriptor's own tag by as much as in
         the recording."""
-        own = self.world.descs[descriptor].fdseq
-        tag = own - event.behind
+        own = self._machine.descs[descriptor].fdseq
+        tag = own - event.tag_lag
         return tag if tag >= 0 else event.arguments[1] if event.arguments[1] != own else own + 1

@@ -5,9 +5,7 @@ from typing import Any
 
 import pytest
 
-from netrev.explore.comparison import NumberedState, are_alike
-from netrev.explore.scripts.board import Board
-from netrev.explore.scripts.control import Numbers
+from netrev.explore.numbered_state import NumberedState
 from netrev.machine.machine import Timer
 from netrev.text.contents import Limits, Step
 from netrev.text.vocabulary import KINDS
@@ -33,20 +31,20 @@ def at(which: int, steps: Steps) -> Steps:
 def state_of(steps: Steps, is_swapped: bool) -> NumberedState:
     """The state after steps of a recording with two goroutines and two open sockets. The numbers of sockets and descriptors are swapped
     in a schedule that opens the second socket first."""
-    board, numbers = Board(Limits(4, 3, 3, 16), False), Numbers()
+    state = NumberedState(Limits(4, 3, 3, 16))
     opened: Steps = [("spawn",), *[("sockopen", 16, 16)] * 2, ("pollopen", 0, 0), ("pollopen", 0, 1)]
     for step in opened:
-        board.step(step)
+        state.machine.step(step)
     for which in (0, 1):
         number = 1 - which if is_swapped else which
-        numbers.has_socket(which, number)
-        numbers.descriptors[which], numbers.fdseqs[which], numbers.use_of[which] = number, 1, which
+        state.add_socket(which, number)
+        state.add_use(which, which, number)
     for step in steps:
         named: dict[str, Any] = {form: value for form, value in zip(KINDS[step[0]].arguments, step[1:])}
         if is_swapped and step[0] != "fire":
             named |= {form: 1 - named[form] for form in "sd" if form in named}
-        board.step((step[0], *named.values()))
-    return NumberedState(board, numbers)
+        state.machine.step((step[0], *named.values()))
+    return state
 
 
 @pytest.mark.parametrize("are_swapped", [(False, False), (False, True), (True, False), (True, True)])
@@ -90,7 +88,7 @@ def state_of(steps: Steps, is_swapped: bool) -> NumberedState:
 )  # fmt: skip
 def test_states_are_alike(steps: Steps, others: Steps, is_alike: bool, are_swapped: tuple[bool, bool]) -> None:
     one, other = (state_of(made, is_swapped) for made, is_swapped in zip((steps, others), are_swapped))
-    assert are_alike(one, other) == are_alike(other, one) == is_alike
+    assert one.is_equivalent_to(other) == other.is_equivalent_to(one) == is_alike
 
 
 def timer(descriptor: int, when: int = 5, side: str = "r", sequence: int = 1) -> Timer:
@@ -116,26 +114,27 @@ def test_each_part_of_a_state_is_compared(of: str, value: Any, other: Any, is_al
     for part, swapped in ((value, False), (other, is_swapped)):
         state = state_of(SETS + at(1, SETS), swapped)
         for d in (0, 1):
-            state.board.put("descs", d, state.board.descs[d]._replace(sequences=(1, 1)))
+            state.machine.put("descs", d, state.machine.descs[d]._replace(sequences=(1, 1)))
         if of == "goroutines":
             named = (part[0], 1 - part[1] if swapped else part[1], *part[2:]) if part[1:] else part
-            state.board.put(of, 1, named)
+            state.machine.put(of, 1, named)
         else:
-            setattr(state.board, of, tuple(one._replace(desc=1 - one.desc if swapped else one.desc) for one in part))
+            setattr(state.machine, of, tuple(one._replace(desc=1 - one.desc if swapped else one.desc) for one in part))
         states.append(state)
-    assert are_alike(*states) == are_alike(*reversed(states)) == is_alike
+    one, other = states
+    assert one.is_equivalent_to(other) == other.is_equivalent_to(one) == is_alike
 
 
-@pytest.mark.parametrize(("name", "value"), [("use_of", {0: 0}), ("sockets", {0: 0}), ("use_of", {0: 1, 1: 0})])
+@pytest.mark.parametrize(("name", "value"), [("open_uses", {0: 0}), ("sockets", {0: 0}), ("open_uses", {0: 1, 1: 0})])
 def test_both_states_have_the_same_objects(name: str, value: dict[int, int]) -> None:
     one, other = state_of([], False), state_of([], False)
-    setattr(other.numbers, name, value)
-    assert not are_alike(one, other) and not are_alike(other, one)
+    setattr(other, name, value)
+    assert not one.is_equivalent_to(other) and not other.is_equivalent_to(one)
 
 
 def test_what_remains_from_an_earlier_use_of_a_descriptor_doesnt_matter() -> None:
     one, other, ready = state_of([], False), state_of([], False), state_of([("pollevent", 0, 1, "r", 0)], False)
     for state in (one, ready):
-        state.board.put("descs", 0, state.board.descs[0]._replace(fdseq=4, sequences=(3, 5), socket=1))
-    assert are_alike(one, other)
-    assert not are_alike(one, ready) and not are_alike(other, ready)
+        state.machine.put("descs", 0, state.machine.descs[0]._replace(fdseq=4, sequences=(3, 5), socket=1))
+    assert one.is_equivalent_to(other)
+    assert not one.is_equivalent_to(ready) and not other.is_equivalent_to(ready)

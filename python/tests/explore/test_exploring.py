@@ -10,20 +10,18 @@ from unittest.mock import Mock, patch
 
 from dev.fuzz.generators.injections import Traffic
 from netrev.explore import commands
-from netrev.explore.findings import HANG, Exploring
-from netrev.explore.player import SchedulePlayer
-from netrev.explore.schedules import Schedule, drawn, schedules, single_delays, touched
-from netrev.explore.scripts.arrivals import with_events
-from netrev.explore.scripts.making import script_of
-from netrev.explore.scripts.runs import Delay, ImpossibleScheduleError
-from netrev.explore.scripts.scripts import Script
+from netrev.explore.numbered_state import ImpossibleScheduleError
+from netrev.explore.scheduler import Scheduler
+from netrev.explore.schedules import Delay, Schedule, drawn, schedules, single_delays, touched
+from netrev.explore.script import Script, script_of, with_early_arrivals
+from netrev.explore.search import HANG, Search
 from netrev.explore.sentences import LEFT_UNKNOWN, UNKNOWN, UNLESS, FindingSentences, summary
 from netrev.findings.suspects.ranking import suspects_of
 from netrev.machine.machine import World
 from netrev.machine.steps import apply
 from netrev.recording.recording import Recording
-from netrev.run.flow import OperationType
 from netrev.run.changes import PlayedSteps
+from netrev.run.flow import OperationType
 from netrev.run.index import run_of
 from netrev.session.session import UsageError
 from netrev.system.interrupts import SearchInterruptedError
@@ -74,9 +72,9 @@ def script_at(name: str) -> Script:
     return script_of(answered(EXAMPLES / f"{name}.jsonl"))
 
 
-def explored(script: Script, most: int) -> Exploring:
+def explored(script: Script, most: int) -> Search:
     """The result of this many schedules."""
-    exploring = Exploring(script, lambda number: "")
+    exploring = Search(script, lambda number: "")
     exploring.run(most, lambda: None)
     return exploring
 
@@ -87,8 +85,8 @@ class Again(unittest.TestCase):
         for path in examples():
             with self.subTest(path.stem):
                 recording = answered(path)
-                player = SchedulePlayer(script_of(recording))
-                player.end(2 * recording.length + 100)
+                player = Scheduler(script_of(recording))
+                player.finish(2 * recording.length + 100)
                 told = [json.loads(line_of(made.step, made.answer)) for made in player.steps]
                 self.assertEqual(told[: recording.length], list(recording.arrays()))
                 numbers = [made.number for made in player.steps]
@@ -99,8 +97,8 @@ class Again(unittest.TestCase):
             with self.subTest(seed):
                 steps = Traffic(seed, None, LENGTH).run().text()
                 recording = with_answers(Recording(steps))
-                player = SchedulePlayer(script_of(recording))
-                player.end(2 * recording.length)
+                player = Scheduler(script_of(recording))
+                player.finish(2 * recording.length)
                 told = [json.loads(line_of(made.step, made.answer)) for made in player.steps]
                 self.assertEqual(told[: recording.length], list(recording.arrays()))
 
@@ -127,10 +125,10 @@ class Scripts(unittest.TestCase):
 
     def test_bytes_that_a_recorder_has_put_before_the_read_come_with_their_event(self) -> None:
         steps = OPEN + READ + PARK + [COMES[1], ["blockswap", 1], COMES[0], ["sysread", 1, 0, 16]] + ENDS
-        rows = with_events(script_of(recording_of(steps))).network[0]
+        rows = with_early_arrivals(script_of(recording_of(steps))).network[0]
         self.assertEqual([item.event.kind for item in rows], ["arrive", "pollevent"])
         early = script_of(recording_of(OPEN + READ + PARK + COMES))
-        self.assertEqual(with_events(early).network, early.network)
+        self.assertEqual(with_early_arrivals(early).network, early.network)
 
 
 class Delays(unittest.TestCase):
@@ -166,19 +164,19 @@ class Delays(unittest.TestCase):
         script = script_at("real/half")
         write = next(
             number
-            for number in [one.number for one in script.causes if not one.goroutine]
+            for number in [one.number for one in script.triggers if not one.goroutine]
             if script.answers[number - 1] == ("put", 3)
         )
-        player = SchedulePlayer(script, (Delay(write, write + 12),))
-        player.end(1_000)
+        player = Scheduler(script, (Delay(write, write + 12),))
+        player.finish(1_000)
         order = [made.step[0] for made in player.steps if made.step[0] == "syswrite" or made.step[:2] == ("arrive", 3)]
         self.assertEqual(order[:2], ["syswrite", "syswrite"])
 
     def test_each_makes_its_own_steps_in_their_order_and_behind_its_go_statement(self) -> None:
         script = script_at("real/hijacked")
         for delay in islice(single_delays(script), 0, None, 10):
-            player = SchedulePlayer(script, (delay,))
-            player.end(1_000)
+            player = Scheduler(script, (delay,))
+            player.finish(1_000)
             by_whom: dict[int, list[int]] = {}
             for made in player.steps:
                 if made.number and made.step[0] not in NOBODYS:
@@ -192,20 +190,20 @@ class Delays(unittest.TestCase):
 
     def test_a_schedule_that_goes_on_from_a_copy_is_the_same_as_from_the_beginning(self) -> None:
         for name in ("races/early-cancel", "races/http-watchdog"):
-            exploring = Exploring(script_at(name), lambda number: "")
+            exploring = Search(script_at(name), lambda number: "")
             for delay in exploring.delays[::3]:
-                player = SchedulePlayer(exploring.script, (delay,))
-                player.end(1_000)
-                if played := exploring.ends_of((delay,)):
+                player = Scheduler(exploring.script, (delay,))
+                player.finish(1_000)
+                if played := exploring.run_schedule((delay,)):
                     self.assertEqual([made.step for made in played.steps], [made.step for made in player.steps])
                 else:
-                    self.assertEqual(player.board.world().goroutines, exploring.recorded.world.goroutines)
+                    self.assertEqual(player.state.machine.world().goroutines, exploring.recorded.world.goroutines)
 
     def test_a_step_that_cannot_be_is_no_schedule(self) -> None:
         script = script_of(recording_of(GOOD))
         script.limits = script.limits._replace(sock=0)
         with self.assertRaises(ImpossibleScheduleError):
-            SchedulePlayer(script).end(100)
+            Scheduler(script).finish(100)
 
 
 class Races(unittest.TestCase):
@@ -213,18 +211,18 @@ class Races(unittest.TestCase):
         self.assertEqual(suspects_of(recording_of(GOOD)).suspects, [])
         exploring = explored(script_of(recording_of(GOOD)), 40)
         finding = exploring.found["deadline taken back too soon", 1, 0]
-        again = suspects_of(PlayedSteps(made.step for made in finding.played.steps)).suspects
+        again = suspects_of(PlayedSteps(made.step for made in finding.run.steps)).suspects
         self.assertEqual((again[0].rule, again[0].goroutine), ("deadline taken back too soon", 1))
         self.assertEqual(len(finding.schedule.delays), 1)
-        self.assertEqual(finding.played.world.goroutines[1], ("parked", 0, "r"))
+        self.assertEqual(finding.run.world.goroutines[1], ("parked", 0, "r"))
 
     def test_a_seed_finds_it_again(self) -> None:
-        exploring = Exploring(script_of(recording_of(GOOD)), lambda number: "")
+        exploring = Search(script_of(recording_of(GOOD)), lambda number: "")
         in_order = sorted(exploring.delays)
         found = []
         for seed in range(1, 41):
             exploring.found.clear()
-            exploring.play(Schedule(drawn(exploring.delays, in_order, seed), seed))
+            exploring.try_schedule(Schedule(drawn(exploring.delays, in_order, seed), seed))
             if any(key[0] == "deadline taken back too soon" for key in exploring.found):
                 found.append(seed)
         self.assertEqual(found, SEEDS)
@@ -233,7 +231,7 @@ class Races(unittest.TestCase):
         exploring = explored(script_of(recording_of(GOOD)), 40)
         finding = exploring.found["deadline taken back too soon", 1, 0]
         more = finding.schedule._replace(delays=(Delay(4, 11), *finding.schedule.delays))
-        least = exploring.least(finding._replace(schedule=more))
+        least = exploring.simplest(finding._replace(schedule=more))
         self.assertEqual((least.key, least.schedule.delays), (finding.key, finding.schedule.delays))
 
     def test_a_read_that_ended_by_its_deadline_hangs_where_it_comes_later(self) -> None:
@@ -244,7 +242,7 @@ class Races(unittest.TestCase):
         for name in HEALTHY:
             with self.subTest(name):
                 exploring = explored(script_at(name), 300)
-                self.assertEqual((exploring.played > 5, exploring.found), (True, {}))
+                self.assertEqual((exploring.tried > 5, exploring.found), (True, {}))
 
     def test_what_the_recorded_run_has_itself_is_none(self) -> None:
         for name in ("real/past", "past-deadline", "lost-wakeup"):
@@ -298,7 +296,9 @@ class Words(unittest.TestCase):
         session = Mock(text=lambda: self.recording, program="netrev")
         session.interrupts.check.side_effect = islice(stops, None)
         with patch.object(commands, "answered_recording", lambda *_: self.recording):
-            with patch.object(commands.Keeping, "kept", lambda _self, at, finding, times: [f"{at}. {finding.key[0]}"]):
+            with patch.object(
+                commands.FindingFiles, "write", lambda _self, at, finding, times: [f"{at}. {finding.key[0]}"]
+            ):
                 said = commands.explored(session, 1_000)
         self.assertTrue(said.text.startswith("stopped: 39 schedules"), said.text)
         self.assertEqual(said.found, len(said.text.splitlines()) - 1)

@@ -8,8 +8,8 @@ from unittest.mock import Mock, patch
 
 from netrev.explore import commands
 from netrev.explore.failures import FAILS, Why, watched
-from netrev.explore.findings import Exploring, ScheduleFinding
-from netrev.explore.scripts.making import script_of
+from netrev.explore.script import script_of
+from netrev.explore.search import Search, ScheduleFinding
 from netrev.explore.sentences import FindingSentences
 from netrev.recording.recording import Recording
 from netrev.recording.where import SourceLines
@@ -53,11 +53,11 @@ SORTS = (
 )
 
 
-def explored(recording: Recording, most: int = SCHEDULES) -> Exploring:
+def explored(recording: Recording, most: int = SCHEDULES) -> Search:
     """Calls that fail in this many schedules."""
     script = script_of(recording)
     script.watched = watched(script)
-    exploring = Exploring(script, recording.lines.words)
+    exploring = Search(script, recording.lines.words)
     exploring.run(most, lambda: None)
     return exploring
 
@@ -78,14 +78,14 @@ class Failures(unittest.TestCase):
                 self.assertEqual(set(explored(recording_of(sort.nearly)).found), set())
 
     def test_the_schedule_ends_with_that_call(self) -> None:
-        played = explored(recording_of(OPEN + READS + CLOSES)).found[FAILS, (1, 0), Why.CLOSED].played
+        played = explored(recording_of(OPEN + READS + CLOSES)).found[FAILS, (1, 0), Why.CLOSED].run
         assert played.failed
         self.assertEqual(played.steps[-1].step[:2], ("rwlock", 1))
         self.assertEqual(played.failed.step, len(played.steps))
 
     def test_without_the_option_none_is_looked_for(self) -> None:
         for sort in SORTS:
-            exploring = Exploring(script_of(recording_of(sort.good)), lambda number: "")
+            exploring = Search(script_of(recording_of(sort.good)), lambda number: "")
             exploring.run(SCHEDULES, lambda: None)
             self.assertEqual([key for key in exploring.found if key[0] == FAILS], [])
 
@@ -112,12 +112,12 @@ class Failures(unittest.TestCase):
 
     def ends_with_its_call(self, finding: ScheduleFinding) -> None:
         """After the failure, the goroutine releases the lock, and no step follows."""
-        failed = finding.played.failed
+        failed = finding.run.failed
         assert failed
-        behind = [made.step for made in finding.played.steps[failed.step :] if made.step[0] not in NOBODYS]
+        behind = [made.step for made in finding.run.steps[failed.step :] if made.step[0] not in NOBODYS]
         own = [step for step in behind if step[1] == failed.goroutine]
         self.assertEqual([step[0] for step in own], ["rwunlock"])
-        self.assertEqual(own[-1], finding.played.steps[-1].step)
+        self.assertEqual(own[-1], finding.run.steps[-1].step)
 
 
 class Words(unittest.TestCase):

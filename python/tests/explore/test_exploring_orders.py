@@ -5,13 +5,11 @@ import unittest
 from itertools import islice
 from typing import Optional
 
-from netrev.explore.findings import HANG
 from netrev.explore.hangs import ended_by, moved_by
-from netrev.explore.player import SchedulePlayer
-from netrev.explore.schedules import single_delays
-from netrev.explore.scripts.making import script_of
-from netrev.explore.scripts.runs import Delay
-from netrev.explore.scripts.scripts import Script
+from netrev.explore.scheduler import Scheduler
+from netrev.explore.schedules import Delay, single_delays
+from netrev.explore.script import Script, script_of
+from netrev.explore.search import HANG
 from netrev.explore.sentences import IF_RAW, LEFT_UNKNOWN, UNLESS, FindingSentences
 from netrev.findings.suspects.ranking import suspects_of
 from netrev.recording.where import SourceLines
@@ -71,12 +69,12 @@ class Kept(unittest.TestCase):
     def test_what_the_network_does_comes_behind_what_it_may_come_of(self) -> None:
         script = script_of(answered(EXAMPLES / "races" / "http-idle.jsonl"))
         for delay in islice(single_delays(script), 0, None, 10):
-            player = SchedulePlayer(script, (delay,))
-            player.end(2_000)
+            player = Scheduler(script, (delay,))
+            player.finish(2_000)
             at = {made.number: at for at, made in enumerate(player.steps) if made.number}
-            late = [cause.number for cause in script.causes if cause.number not in at]
+            late = [cause.number for cause in script.triggers if cause.number not in at]
             for item in (item for row in script.network.values() for item in row if item.event.number in at):
-                before = {cause.number for cause in script.causes if cause.number < item.event.number} - set(late)
+                before = {cause.number for cause in script.triggers if cause.number < item.event.number} - set(late)
                 self.assertTrue(all(at[number] < at[item.event.number] for number in before), (delay, item))
 
 
@@ -96,8 +94,8 @@ class Planted(unittest.TestCase):
         for orders, is_held in known:
             recording = recording_of(steps)
             recording.lines.orders = orders
-            player = SchedulePlayer(script_of(recording), (Delay(3, 7),))
-            player.end(100)
+            player = Scheduler(script_of(recording), (Delay(3, 7),))
+            player.finish(100)
             made = [made.number for made in player.steps]
             self.assertEqual(made.index(3) < made.index(5), is_held)
             self.assertEqual(made.index(4) < made.index(6), orders != [])
@@ -105,8 +103,8 @@ class Planted(unittest.TestCase):
 
 def broken(script: Script, delay: Delay, orders: Pairs) -> Pairs:
     """The orders that a schedule violates, because their second step comes before their first step."""
-    player = SchedulePlayer(script, (delay,))
-    player.end(2_000)
+    player = Scheduler(script, (delay,))
+    player.finish(2_000)
     at = {made.number: at for at, made in enumerate(player.steps) if made.number}
     return [(one, other) for one, other in orders if one in at and other in at and at[other] < at[one]]
 
@@ -128,7 +126,7 @@ class Hanging(unittest.TestCase):
     def test_the_deadline_that_ended_a_call_and_the_one_that_moved_it(self) -> None:
         exploring = explored(script_with(None), 400)
         finding = next(finding for key, finding in exploring.found.items() if key[0] == HANG)
-        place, steps = finding.played.places[1], finding.played.steps
+        place, steps = finding.run.places[1], finding.run.steps
         self.assertEqual(ended_by(exploring.script, 1, place), SET + 1)
         set_at, moved_at = moved_by(exploring.script, 1, place, steps)
         self.assertEqual([steps[at - 1].step[-1] for at in (set_at, moved_at)], [-1, 0])
@@ -144,7 +142,7 @@ class Late(unittest.TestCase):
         self.assertEqual([key[0] for key in exploring.found], ["deadline left behind"])
         (finding,) = exploring.found.values()
         self.assertEqual(finding.schedule.delays, (Delay(len(LATE) - 2, len(LATE) + 1),))
-        self.assertEqual([made.step[0] for made in finding.played.steps if not made.number], ["tick", "pop", "fire"])
+        self.assertEqual([made.step[0] for made in finding.run.steps if not made.number], ["tick", "pop", "fire"])
 
     def test_one_that_was_moved_for_both_sides_does_not_count(self) -> None:
         both = [[*step[:3], "rw", 900] if step[0] == "setdeadline" else step for step in LATE]

@@ -1,5 +1,4 @@
-"""The optimizations of exploring change nothing: the findings are the same as when each schedule runs from its first step to its last, the
-model makes each step, and all waiting actors check at each turn."""
+"""Copies of the recorded run change nothing: the findings are the same as when each schedule runs from its first step to its last."""
 
 import unittest
 from pathlib import Path
@@ -8,17 +7,12 @@ from unittest.mock import patch
 
 import pytest
 from dev.fuzz.generators.injections import Traffic
-from netrev.explore.findings import Exploring, Played
-from netrev.explore.player import SchedulePlayer
-from netrev.explore.schedules import Schedule, schedules
-from netrev.explore.scripts.board import Board
-from netrev.explore.scripts.control import GOROUTINE, ScriptPlace
-from netrev.explore.scripts.making import script_of
-from netrev.explore.scripts.runs import AnsweredStep, Delay, ImpossibleScheduleError
-from netrev.machine.machine import Status
-from netrev.machine.steps import apply
+from netrev.explore.numbered_state import ImpossibleScheduleError
+from netrev.explore.scheduler import Scheduler
+from netrev.explore.schedules import Delay, Schedule, schedules
+from netrev.explore.script import script_of
+from netrev.explore.search import Run, Search
 from netrev.recording.recording import Recording
-from netrev.text.contents import Answer, Step
 
 from .test_exploring import EXAMPLES, answered, with_answers
 
@@ -29,46 +23,21 @@ MOST, AT_ONCE = 200, 9  # the greatest number of schedules; every ninth is run
 TRAFFIC, LENGTH = (720, 726), 400  # seeds, and the length of their recordings
 
 
-class PlainBoard(Board):
-    """A board whose machine makes each step. Each answer and state is compared with the model's."""
+class PlainSearch(Search):
+    """A search that runs each schedule from its beginning to its end."""
 
-    def make(self, step: Step, number: int) -> AnsweredStep:
-        behind = apply(self.world(), step)
-        made = AnsweredStep(step, self.step(step), number)
-        assert (self.world(), made.answer) == behind
-        return made
-
-
-class PlainPlayer(SchedulePlayer):
-    """A player that doesn't reuse the recorded run, and in which every waiting goroutine checks again."""
-
-    def _note(self, g: int, place: ScriptPlace, answer: Answer, status: Status) -> None:
-        pass
-
-    def _passes(self, g: int) -> None:
-        waiting = self.passing.waiting.pop(g, None)
-        for actor, which in waiting.row() if waiting else ():
-            if actor == GOROUTINE:
-                self._push_goroutine(which)
-            else:
-                self._push(self.now, actor, which)
+    def run_schedule(self, delays: tuple[Delay, ...]) -> Optional[Run]:
+        scheduler = Scheduler(self.script, delays)
+        scheduler.finish(self._most)
+        state = scheduler.state
+        return Run(scheduler.steps, state.machine.world(), scheduler.places, state.sockets, scheduler.has_news)
 
 
-class PlainExploring(Exploring):
-    """An exploration that runs each schedule from its beginning to its end."""
-
-    def ends_of(self, delays: tuple[Delay, ...]) -> Optional[Played]:
-        player = PlainPlayer(self.script, delays)
-        player.end(self._most)
-        places, numbers = player.places, player.numbers
-        return Played(player.steps, player.board.world(), places, numbers.sockets, player.has_news)
-
-
-def outcome(exploring: Exploring, schedule: Schedule) -> Any:
+def outcome(exploring: Search, schedule: Schedule) -> Any:
     """The result of a schedule: its findings and its run, or None if the run is given up."""
-    keys = exploring.play(schedule)
+    keys = exploring.try_schedule(schedule)
     try:
-        return keys, exploring.ends_of(schedule.delays)
+        return keys, exploring.run_schedule(schedule.delays)
     except ImpossibleScheduleError as impossible:
         return keys, str(impossible)
 
@@ -80,19 +49,16 @@ class ShortCuts(unittest.TestCase):
     def assert_the_same(self, recording: Recording) -> None:
         """Explores a recording in both ways."""
         script = script_of(recording)
-        short = Exploring(script, recording.lines.words)
-        with patch("netrev.explore.findings.SchedulePlayer", PlainPlayer), patch(
-            "netrev.explore.state.Board", PlainBoard
-        ):
-            plain = PlainExploring(script, recording.lines.words)
-            self.assertEqual(short.recorded, plain.recorded)
-            for schedule in list(schedules(short.delays, MOST))[::AT_ONCE]:
-                self.assert_ends_the_same(short, plain, schedule)
-        for name in ("found", "times", "known", "played", "left", "seed", "delays"):
+        short = Search(script, recording.lines.words)
+        plain = PlainSearch(script, recording.lines.words)
+        self.assertEqual(short.recorded, plain.recorded)
+        for schedule in list(schedules(short.delays, MOST))[::AT_ONCE]:
+            self.assert_ends_the_same(short, plain, schedule)
+        for name in ("found", "times", "known", "tried", "impossible", "seed", "delays"):
             self.assertEqual(getattr(short, name), getattr(plain, name), name)
         self.assertEqual(list(short.found), list(plain.found))
 
-    def assert_ends_the_same(self, short: Exploring, plain: Exploring, schedule: Schedule) -> None:
+    def assert_ends_the_same(self, short: Search, plain: Search, schedule: Schedule) -> None:
         with patch.object(short, "_with_the_rest", side_effect=short._with_the_rest) as with_the_rest:
             keys, played = outcome(short, schedule)
         self.had_rest += with_the_rest.called

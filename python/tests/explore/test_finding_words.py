@@ -8,9 +8,9 @@ import pytest
 
 from netrev.connection.output import Row, Table
 from netrev.explore import commands
-from netrev.explore.commands import Keeping
-from netrev.explore.scripts.making import script_of
-from netrev.explore.scripts.runs import Delay
+from netrev.explore.commands import FindingFiles
+from netrev.explore.schedules import Delay
+from netrev.explore.script import script_of
 from netrev.explore.sentences import FindingSentences, summary
 from netrev.findings.suspects.found import Suspect, Weight
 from netrev.reduce import report
@@ -69,7 +69,7 @@ def test_a_delay_is_described_by_its_calls(before: int, until: int, says: str) -
 def test_the_summary_of_all_schedules(
     played: int, delays: int, seed: int, taken_over: int, left: int, found: int, stopped: bool, says: str
 ) -> None:
-    exploring = mock.Mock(played=played, delays=[None] * delays, seed=seed, taken_over=taken_over, left=left)
+    exploring = mock.Mock(tried=played, delays=[None] * delays, seed=seed, taken_over=taken_over, impossible=left)
     exploring.found = dict.fromkeys(range(found))
     assert summary(exploring, 1.5, stopped) == says
 
@@ -91,26 +91,26 @@ FOUND = [suspect("a", False), suspect("b"), suspect("b", socket=1), suspect("c",
 def test_a_suspect_is_reduced_by_its_number(one: Suspect, number: int) -> None:
     """The number counts only the shown suspects of the finding's own recording. A suspect that isn't among them gets 1."""
     with mock.patch.object(commands, "suspects_of", return_value=mock.Mock(suspects=FOUND)):
-        wanted = Keeping(mock.Mock(), mock.Mock())._wanted(mock.Mock(length=9), mock.Mock(suspect=one))
+        wanted = FindingFiles(mock.Mock(), mock.Mock())._wanted(mock.Mock(length=9), mock.Mock(suspect=one))
     assert wanted == Wanted(number, "", "", 9)
 
 
 @pytest.mark.parametrize(
     ("failed", "reason", "wanted"),
     [
-        (7, 8, Wanted(0, "", "", 9, behind=(1, 2))), (7, None, Wanted(0, "", "", 9, 3, (4, 5))), (None, None, Wanted(0, "", "", 9, 3, (4, 5))),
+        (7, 8, Wanted(0, "", "", 9, steps=(1, 2))), (7, None, Wanted(0, "", "", 9, 3, (4, 5))), (None, None, Wanted(0, "", "", 9, 3, (4, 5))),
     ],
 )  # fmt: skip
 def test_a_failure_or_a_hang_is_reduced_with_its_steps(failed: Any, reason: Any, wanted: Wanted) -> None:
-    finding = mock.Mock(suspect=None, reason=reason, hangs=3, played=mock.Mock(failed=failed, places=[0, 1, 2, 3]))
+    finding = mock.Mock(suspect=None, reason=reason, hangs=3, run=mock.Mock(failed=failed, places=[0, 1, 2, 3]))
     with mock.patch.object(commands, "stays_of", return_value=(1, 2)) as stays:
         with mock.patch.object(commands, "moved_by", return_value=(4, 5)) as moved:
             telling, whole = mock.Mock(), mock.Mock(length=9)
-            assert Keeping(mock.Mock(), telling)._wanted(whole, finding) == wanted
+            assert FindingFiles(mock.Mock(), telling)._wanted(whole, finding) == wanted
     if wanted.hangs == 3:
-        moved.assert_called_once_with(telling.script, 3, 3, finding.played.steps)
+        moved.assert_called_once_with(telling.script, 3, 3, finding.run.steps)
     else:
-        stays.assert_called_once_with(telling.script, 7, 8, finding.played.steps)
+        stays.assert_called_once_with(telling.script, 7, 8, finding.run.steps)
 
 
 # ---- reports

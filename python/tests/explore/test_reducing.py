@@ -114,16 +114,15 @@ class Playing(unittest.TestCase):
         self.assertLess(len(left), len(without))  # (the read that waited is left out too)
         self.assertNotIn("blockswap", [step[0] for step, _ in player.steps])
 
-    def test_goes_back_alike_with_few_copies(self) -> None:
+    def test_goes_back_to_the_same_state(self) -> None:
         recording = Recording.read(str(EXAMPLES / "real/hijacked.jsonl"))
         player, units, _ = player_of(recording)
-        with patch("netrev.reduce.replay.COPIES", 20):
-            for skipped in (90, 60, 40, 11, 62, 2):
-                kept = set(range(len(units))) - {skipped}
-                fresh, _, _ = player_of(recording)
-                self.assertEqual(player.settle(kept), fresh.settle(kept))
-                self.assertEqual(told(player), told(fresh))
-                self.assertEqual((player.world, player.numbers), (fresh.world, fresh.numbers))
+        for skipped in (90, 60, 40, 11, 62, 2):
+            kept = set(range(len(units))) - {skipped}
+            fresh, _, _ = player_of(recording)
+            self.assertEqual(player.settle(kept), fresh.settle(kept))
+            self.assertEqual(told(player), told(fresh))
+            self.assertEqual((player.world, player.numbers), (fresh.world, fresh.numbers))
 
 
 class Targets(unittest.TestCase):
@@ -201,12 +200,11 @@ def test_units_are_dropped_until_all_apply(name: str) -> None:
     recording = with_answers(Recording.read(str(EXAMPLES / f"{name}.jsonl")))
     player, units, _ = player_of(recording)
     dice, dropped = random.Random(name), 0
-    with patch("netrev.reduce.replay.COPIES", 30):
-        for _ in range(8):
-            kept = set(range(len(units))) - set(dice.sample(range(len(units)), dice.choice((1, 2, 5))))
-            wanted = settled(recording, kept)
-            assert (player.settle(kept), told(player)) == wanted
-            dropped += len(kept) - len(wanted[0])
+    for _ in range(8):
+        kept = set(range(len(units))) - set(dice.sample(range(len(units)), dice.choice((1, 2, 5))))
+        wanted = settled(recording, kept)
+        assert (player.settle(kept), told(player)) == wanted
+        dropped += len(kept) - len(wanted[0])
     assert dropped > 3
 
 

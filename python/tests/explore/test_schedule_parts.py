@@ -7,19 +7,17 @@ from typing import Any, Optional
 
 import pytest
 
+from netrev.explore.control_flow import NEVER, MissingObjectError, Operation, ScriptPlace
+from netrev.explore.environment import CLOCK, MOST_TRIES, NETWORK, UNKNOWN, Environment, steps_past_deadline
 from netrev.explore.failures import Failed, Reason, Why, ends_of, failing_delays, reason_of, stays_of, watched
-from netrev.explore.findings import Exploring
 from netrev.explore.hangs import ended_by
-from netrev.explore.player import SchedulePlayer
-from netrev.explore.schedules import Schedule
-from netrev.explore.scripts.actors import MOST_TRIES, Others
-from netrev.explore.scripts.board import Board
-from netrev.explore.scripts.control import CLOCK, GOROUTINE, NETWORK, NEVER, MissingObjectError, Numbers, ScriptPlace
-from netrev.explore.scripts.making import script_of
-from netrev.explore.scripts.orders import OrderProgress, Waiters, causes_of, orders_of
-from netrev.explore.scripts.runs import AnsweredStep, Delay
-from netrev.explore.scripts.scripts import Item, Operation, Order, Script, Trigger
-from netrev.explore.workers import LENGTH, Best, Report, Share, tell_of
+from netrev.explore.numbered_state import AnsweredStep, NumberedState
+from netrev.explore.orders import Order, OrderProgress, Trigger, orders_of, triggers_of
+from netrev.explore.scheduler import Scheduler
+from netrev.explore.schedules import Delay, Schedule
+from netrev.explore.script import Action, Script, script_of
+from netrev.explore.search import Search
+from netrev.explore.workers import LENGTH, Best, Report, Share, run_share
 from netrev.reduce.events import Event
 from netrev.run.flow import OperationType
 from netrev.text.contents import Limits, Step
@@ -27,54 +25,7 @@ from tests.suspects.test_suspects import COMES, OPEN, PARK, READ, Steps, recordi
 
 from .test_exploring_failures import CLOSES, READS, sets
 
-# ---- who waits for whom
-
-
-@pytest.mark.parametrize(
-    ("made", "row"),
-    [
-        ("g1 s5 s6", "g1 s5 s6"),
-        ("s5 g1", "s5 g1"),  # goroutine 1 came after socket 5, so it checks after socket 5
-        ("s5 g1 s6 g2", "s5 g1 s6 g2"),
-        ("g1 s5 g2 look", "g1 g2"),  # socket 5 waits for the network's next check, so it isn't in the row
-        ("g1 look s5", "g1 s5"),  # no socket waited for that check, so socket 5 is in the row
-        ("g1 s5 look g2 g3", "g1 g2 g3"),
-        ("g1 s5 look s6 g2", "g1 s6 g2"),
-        ("g1 s5 look before", "g1"),
-        ("g1 s5 look at", "g1"),
-        ("g1 s5 look after", "g1 s5"),
-        ("g1 s5 look s6 g2 at", "g1 s6 g2"),
-        ("g1 s5 look s6 g2 after", "g1 s6 g2 s5"),
-        ("g1 s5 look s6 g2 after look", "g1 g2"),
-        ("g1 s5 look s6 g2 look after", "g1 g2 s5 s6"),
-        ("s5 look", ""),
-        ("s5 look s6 after", "s6 s5"),
-        ("s5 look g1 s6 after", "g1 s6 s5"),
-        ("g1", "g1"),
-    ],
-)
-def test_waiters_check_in_the_order_in_which_they_came(made: str, row: str) -> None:
-    """`look`: all checked without success, and the network's next check is due at (7, 3); then checks before, at or after that time."""
-    waiting = Waiters()
-    for word in made.split():
-        if word == "look":
-            waiting.look_again((7, 3))
-        elif word in ("before", "at", "after"):
-            waiting.settle({"before": (7, 2), "at": (7, 3), "after": (7, 4)}[word])
-        else:
-            waiting.add(GOROUTINE if word[0] == "g" else NETWORK, int(word[1:]))
-    for one in (waiting, waiting.copy()):
-        assert [f"{'g' if actor == GOROUTINE else 's'}{which}" for actor, which in one.row()] == row.split()
-        assert not one.is_empty() and one.has_network() == ("s" in made)
-
-
-def test_the_networks_later_checks_are_counted() -> None:
-    waiting = Waiters()
-    assert waiting.is_empty() and not waiting.look_again((1, 1)) and waiting.again is None
-    waiting.add(NETWORK, 5)
-    waiting.add(NETWORK, 6)
-    assert (waiting.look_again((7, 3)), waiting.again) == (2, (7, 3))
-    assert (waiting.look_again((8, 1)), waiting.again) == (0, (7, 3))  # (they haven't checked yet)
+# ---- the orders that every schedule keeps
 
 
 def test_operations_are_ordered_as_the_program_ordered_their_steps() -> None:
@@ -95,14 +46,11 @@ def test_a_goroutine_waits_for_the_operations_before_its_own(
 ) -> None:
     """Goroutine 1 begins operation 1 after operation 2 of goroutine 0, and operation 2 after operation 4."""
     places = [ScriptPlace(operations[1]), ScriptPlace(operations[0])]
-    passing = OrderProgress([[], [Order(1, 0, 2), Order(2, 0, 4)]], [], places)
-    assert passing.has_still_to_go_on(1) == waits_for
-    assert passing.has_still_to_go_on(0) is None
-    assert OrderProgress(None, [], places).has_still_to_go_on(1) is None
-    if waits_for == 0:
-        passing.wait(0, GOROUTINE, 1, (0, 0))
-        assert passing.waiting[0].until == (2 if operations[0] == 1 else 4)
-        assert passing.is_still_awaited(0, passing.waiting[0])
+    orders = OrderProgress([[], [Order(1, 0, 2), Order(2, 0, 4)]], [], places)
+    for progress in (orders, orders.copy(places)):
+        assert progress.predecessor(1) == waits_for
+        assert progress.predecessor(0) is None
+    assert OrderProgress(None, [], places).predecessor(1) is None
 
 
 @pytest.mark.parametrize(
@@ -122,63 +70,25 @@ def test_the_network_waits_for_the_steps_to_which_it_may_react(
     places: list[ScriptPlace], number: int, waits_for: Optional[int]
 ) -> None:
     """Step 4 is the second of operation 2 of goroutine 0; step 6 is the first of operation 0 of goroutine 1."""
-    passing = OrderProgress(None, [Trigger(4, 0, 2, 1), Trigger(6, 1, 0, 0)], places)
-    assert passing.has_still_to_cause(number) == waits_for
-    if number == 9:
-        assert [passing.holds_network_back(g) for g in (0, 1)] == [g == waits_for for g in (0, 1)]
+    orders = OrderProgress(None, [Trigger(4, 0, 2, 1), Trigger(6, 1, 0, 0)], places)
+    for progress in (orders, orders.copy(places)):
+        assert progress.trigger_goroutine(number) == waits_for
 
 
-@pytest.mark.parametrize(
-    ("operation", "waiters", "is_awaited"),
-    [
-        (2, "g1", True), (3, "g1", False), (2, "g1 s5", True), (2, "s5", True), (1, "s5", True), (3, "s5", False), (2, "g1 s5 look", True), (2, "g1 s5 look s6", False),
-        (2, "g1 s5 s6 look", True), (5, "s5", False),
-    ],
-)  # fmt: skip
-def test_waiters_check_only_if_one_may_continue(operation: int, waiters: str, is_awaited: bool) -> None:
-    """Goroutine 1 waits for operation 2 of goroutine 0, and the network for the first step of its operation 2."""
-    passing = OrderProgress([[], [Order(0, 0, 2)]], [Trigger(4, 0, 2, 0)], [ScriptPlace(operation), ScriptPlace()])
-    for word in waiters.split():
-        if word == "look":
-            passing.waiting[0].look_again((7, 3))
-        else:
-            passing.wait(0, GOROUTINE if word[0] == "g" else NETWORK, int(word[1:]), (0, 0))
-    assert passing.is_still_awaited(0, passing.waiting[0]) == is_awaited
-
-
-def test_copies_wait_by_themselves() -> None:
-    one = OrderProgress([[], [Order(0, 0, 2)]], [Trigger(4, 0, 2, 0)], [ScriptPlace(), ScriptPlace()])
-    one.wait(0, GOROUTINE, 1, (0, 0))
-    other = one.copy(list(one.places))
-    assert one.is_as(other) and other.waiting[0].until == 2
-    other.wait(0, NETWORK, 5, (0, 0))
-    assert not one.is_as(other) and one.waiting[0].row() == [(GOROUTINE, 1)]
-
-
-def test_the_networks_causes_are_in_their_order() -> None:
+def test_triggers_are_in_their_order() -> None:
     goroutines = [[Operation(OperationType.WRITE, 0, steps=[7, 8, 9], kinds=["syswrite", "waitbegin", "syswrite"])], [Operation(OperationType.SHUT, 0, steps=[3], kinds=["closewrite"])]]  # fmt: skip
-    assert causes_of(goroutines, ["syswrite", "closewrite"]) == [
+    assert triggers_of(goroutines, ["syswrite", "closewrite"]) == [
         Trigger(3, 1, 0, 0),
         Trigger(7, 0, 0, 0),
         Trigger(9, 0, 0, 2),
     ]
 
 
-def test_all_due_waiters_have_checked() -> None:
-    """Socket 5 has checked. Therefore it now waits after socket 6, which came later."""
-    passing = OrderProgress([[Order(9, 1, 9)], []], [], [ScriptPlace(9), ScriptPlace()])
-    passing.wait(1, NETWORK, 5, (0, 0))
-    passing.waiting[1].look_again((7, 3))
-    passing.wait(1, NETWORK, 6, (7, 2))
-    passing.settle()
-    assert passing.waiting[1].row() == [(NETWORK, 6), (NETWORK, 5)]
-
-
 # ---- the network and the clock
 
 
-def item(kind: str, *arguments: Any, timer: Any = None, number: int = 9) -> Item:
-    return Item(9.0, Event(number, kind, arguments, ("done",), timer), timer)
+def item(kind: str, *arguments: Any, timer: Any = None, number: int = 9) -> Action:
+    return Action(9.0, Event(number, kind, arguments, ("done",), timer), timer)
 
 
 OPENED: list[Step] = [("spawn",), ("sockopen", 4, 3), ("sockopen", 4, 3), ("pollopen", 0, 0), ("pollopen", 0, 1)]
@@ -187,14 +97,14 @@ WRITTEN: list[Step] = [("syswrite", 0, 1, b"ab")]
 TIMED: list[Step] = [("setdeadline", 0, 0, "r", 5), ("setdeadline", 0, 1, "rw", 6), ("setdeadline", 0, 0, "w", 9)]
 
 
-def begun(steps: list[Step], ordinals: list[int]) -> tuple[Others, Board, Numbers]:
+def begun(steps: list[Step], ordinals: list[int]) -> tuple[Environment, NumberedState]:
     """Socket 5 of the recording is the schedule's socket 1, and uses 0 and 1 are its descriptors 1 and 0."""
-    board, numbers = Board(Limits(4, 3, 3, 16), False), Numbers()
+    state = NumberedState(Limits(4, 3, 3, 16))
     for step in (*OPENED, *steps):
-        board.step(step)
-    numbers.has_socket(5, 1)
-    numbers.descriptors, numbers.fdseqs = {0: 1, 1: 0}, {0: 1, 1: 1}
-    return Others(Script(Limits(4, 3, 3, 16), 20, [], {}, [], [], [5, 0], ordinals, [], [])), board, numbers
+        state.machine.step(step)
+    state.add_socket(5, 1)
+    state.descriptors, state.fdseqs = {0: 1, 1: 0}, {0: 1, 1: 1}
+    return Environment(Script(Limits(4, 3, 3, 16), 20, [], {}, [], [], [5, 0], ordinals, [], [])), state
 
 
 @pytest.mark.parametrize(
@@ -225,33 +135,33 @@ def begun(steps: list[Step], ordinals: list[int]) -> tuple[Others, Board, Number
     ],
 )  # fmt: skip
 def test_an_action_has_the_numbers_of_the_schedule(
-    action: Item, steps: list[Step], wanted: Optional[list[Step]]
+    action: Action, steps: list[Step], wanted: Optional[list[Step]]
 ) -> None:
-    others, board, numbers = begun(steps, [0, 0])
-    assert others.steps_of(action, board, numbers) == wanted
+    environment, state = begun(steps, [0, 0])
+    assert environment.steps_of(action, state) == wanted
     for step in wanted or ():
-        board.step(step)  # (each applies)
+        state.machine.step(step)  # (each applies)
 
 
 @pytest.mark.parametrize(("tag", "given"), [(3, 1), (4, 2), (2, 0), (1, 0)])
 def test_an_events_tag_is_as_far_from_its_descriptors(tag: int, given: int) -> None:
     """In the recording, use 0 was its descriptor's third use. In the schedule, it is another descriptor's first use."""
-    others, board, numbers = begun([], [2, 0])
-    assert others.steps_of(item("pollevent", 0, tag, "r", 0), board, numbers) == [("pollevent", 1, given, "r", 0)]
+    environment, state = begun([], [2, 0])
+    assert environment.steps_of(item("pollevent", 0, tag, "r", 0), state) == [("pollevent", 1, given, "r", 0)]
 
 
 @pytest.mark.parametrize("action", [item("arrive", 6, b"a"), item("drain", 0, 1), item("pollevent", 2, 1, "r", 0)])
-def test_an_action_waits_for_its_object(action: Item) -> None:
-    others, board, numbers = begun([], [0, 0])
+def test_an_action_waits_for_its_object(action: Action) -> None:
+    environment, state = begun([], [0, 0])
     with pytest.raises(MissingObjectError):
-        others.steps_of(action, board, numbers)
+        environment.steps_of(action, state)
 
 
 def test_an_action_waits_for_room_only_so_often() -> None:
-    others, board, numbers = begun(FULL, [0, 0])
-    found = [others.steps_of(item("arrive", 5, b"ab"), board, numbers) for _ in range(MOST_TRIES + 1)]
+    environment, state = begun(FULL, [0, 0])
+    found = [environment.steps_of(item("arrive", 5, b"ab"), state) for _ in range(MOST_TRIES + 1)]
     assert found == [None] * (MOST_TRIES - 1) + [[], []]
-    assert others.steps_of(item("arrive", 5, b"ab", number=10), board, numbers) is None  # (each action by itself)
+    assert environment.steps_of(item("arrive", 5, b"ab", number=10), state) is None  # (each action by itself)
 
 
 @pytest.mark.parametrize(
@@ -272,11 +182,11 @@ def test_an_action_waits_for_room_only_so_often() -> None:
     ],
 )  # fmt: skip
 def test_what_is_left_when_no_goroutine_continues(steps: list[Step], left: list[Step]) -> None:
-    others, board, numbers = begun([], [0, 0])
+    environment, state = begun([], [0, 0])
     for step in steps:
-        board.step(step)
-        others.see(step, board)
-    assert list(others.left(board, numbers)) == left
+        state.machine.step(step)
+        environment.record(step, state)
+    assert list(environment.remaining_steps(state)) == left
 
 
 def test_an_event_reports_what_came_to_its_own_descriptor() -> None:
@@ -288,12 +198,12 @@ def test_an_event_reports_what_came_to_its_own_descriptor() -> None:
         ("parkcommit", 1),
     ]
     for event, is_left in (((1, 1, "r"), False), ((1, 1, "w"), True), ((1, 7, "r"), True), ((0, 1, "r"), True)):
-        others, board, numbers = begun([], [0, 0])
+        environment, state = begun([], [0, 0])
         for step in (waits[0], ("pollevent", *event, 0), *waits[1:]):
-            others.see(step, board)
+            environment.record(step, state)
             if step[0] != "pollevent":
-                board.step(step)
-        assert bool(list(others.left(board, numbers))) == is_left, event
+                state.machine.step(step)
+        assert bool(list(environment.remaining_steps(state))) == is_left, event
 
 
 @pytest.mark.parametrize(
@@ -315,17 +225,17 @@ def test_an_event_reports_what_came_to_its_own_descriptor() -> None:
 def test_what_no_event_has_reported_yet_is_compared(steps: list[Step], other_steps: list[Step], is_alike: bool) -> None:
     made = []
     for row in (steps, other_steps):
-        others, board, _ = begun([], [0, 0])
+        environment, state = begun([], [0, 0])
         for step in row:
-            board.step(step)
-            others.see(step, board)
-        made.append(others)
+            state.machine.step(step)
+            environment.record(step, state)
+        made.append(environment)
     one, other = made
-    assert one.is_as(other) == other.is_as(one) == is_alike
-    assert one.is_as(one.copy()) and one.is_the_same_as(one.copy())
-    assert one.is_the_same_as(other) == (one.fresh == other.fresh and one.closed == other.closed)
-    other.done(NETWORK, 0, item("arrive", 5, b"a"))
-    assert not one.is_as(other) and not one.is_the_same_as(other)
+    assert one.is_equivalent_to(other) == other.is_equivalent_to(one) == is_alike
+    assert one.is_equivalent_to(one.copy()) and one.is_identical_to(one.copy())
+    assert one.is_identical_to(other) == (one.unreported == other.unreported and one.closed == other.closed)
+    other.finish((NETWORK, 0), item("arrive", 5, b"a"))
+    assert not one.is_equivalent_to(other) and not one.is_identical_to(other)
 
 
 @pytest.mark.parametrize(
@@ -339,12 +249,12 @@ def test_what_no_event_has_reported_yet_is_compared(steps: list[Step], other_ste
     ],
 )
 def test_a_deadline_passes(step: Step, now: int, wanted: list[Step]) -> None:
-    _, board, _ = begun([*TIMED, *([("tick", now)] if now else [])], [0, 0])
-    assert Others.passed(board, step) == wanted
+    _, state = begun([*TIMED, *([("tick", now)] if now else [])], [0, 0])
+    assert steps_past_deadline(state, step) == wanted
     for one in wanted:
-        board.step(one)
-    _, bare, _ = begun([("setdeadline", 0, 0 if step[2] else 1, "rw", 1)], [0, 0])
-    assert Others.passed(bare, step) == []  # (another descriptor's)
+        state.machine.step(one)
+    _, bare = begun([("setdeadline", 0, 0 if step[2] else 1, "rw", 1)], [0, 0])
+    assert steps_past_deadline(bare, step) == []  # (another descriptor's)
 
 
 # ---- the schedules
@@ -444,17 +354,17 @@ def test_the_deadline_that_ended_a_call(operation: int, ended: Optional[int]) ->
 def test_a_process_reports_all_that_it_found() -> None:
     recording = recording_of(OPEN + sets(5) + READS + READS)
     script = script_of(recording)
-    whole = Exploring(script, recording.lines.words)
+    whole = Search(script, recording.lines.words)
     whole.run(30, lambda: None)
     out = io.BytesIO()
-    tell_of(Share(script, recording.lines, 30, 0, 1), out)
+    run_share(Share(script, recording.lines, 30, 0, 1), out)
     data, told = out.getvalue(), list[Report]()
     while data:
         size = int.from_bytes(data[:LENGTH], "big")
         told.append(pickle.loads(data[LENGTH : LENGTH + size]))
         data = data[LENGTH + size :]
-    assert [one.is_all for one in told] == [*[False] * (len(told) - 1), True]
-    assert sum(one.played for one in told) == whole.played > 0
+    assert [one.is_final for one in told] == [*[False] * (len(told) - 1), True]
+    assert sum(one.tried for one in told) == whole.tried > 0
     assert sum((Counter(one.times) for one in told), Counter()) == whole.times
     assert {key for one in told for key in one.best} == set(whole.found)
 
@@ -464,10 +374,10 @@ def test_a_run_ends_before_a_time_or_after_so_many_steps() -> None:
         recording_of(OPEN + READ + PARK + COMES + [["blockswap", 1], ["sysread", 1, 0, 16], ["rwunlock", 1, 0, "r"]])
     )
     for until in range(1, script.length + 2):
-        player = SchedulePlayer(script)
+        player = Scheduler(script)
         player.run(until, 1_000)
         assert [made.number for made in player.steps] == list(range(1, until))
-        few = SchedulePlayer(script)
+        few = Scheduler(script)
         few.run(NEVER, until)
         assert [made.number for made in few.steps] == list(range(1, min(until, script.length) + 1))
         again = player.copy(())
@@ -477,14 +387,14 @@ def test_a_run_ends_before_a_time_or_after_so_many_steps() -> None:
 
 def test_an_actor_that_has_done_everything_has_no_next_action() -> None:
     script = script_of(recording_of(OPEN + COMES + [["tick", 3]]))
-    others = Others(script)
-    assert list(others.beginnings()) == [(CLOCK, 0, 6.0), (2, 0, 1.0), (NETWORK, 0, 4.0)]
+    environment = Environment(script)
+    assert list(environment.first_due()) == [(6.0, (CLOCK, 0)), (1.0, (UNKNOWN, 0)), (4.0, (NETWORK, 0))]
     for kind in ("arrive", "pollevent"):
-        action = others.next(NETWORK, 0)
+        action = environment.next((NETWORK, 0))
         assert action and action.event.kind == kind
-        others.done(NETWORK, 0, action)
-    assert others.next(NETWORK, 0) is None
-    assert others.events == {5} and others.next(CLOCK, 0) is not None
+        environment.finish((NETWORK, 0), action)
+    assert environment.next((NETWORK, 0)) is None
+    assert environment.events == {5} and environment.next((CLOCK, 0)) is not None
 
 
 def test_goroutines_that_are_not_known_make_sockets() -> None:

@@ -2,20 +2,18 @@
 
 import pytest
 
-from netrev.explore.scripts.board import Board
-from netrev.explore.scripts.control import (
+from netrev.explore.control_flow import (
     NEVER,
     MissingObjectError,
-    Numbers,
+    Operation,
     ScriptPlace,
     WrittenStream,
-    behind,
-    is_about,
     next_number,
     next_step,
+    place_after,
 )
-from netrev.explore.scripts.making import script_of
-from netrev.explore.scripts.scripts import Operation
+from netrev.explore.numbered_state import NumberedState
+from netrev.explore.script import script_of
 from netrev.run.flow import OperationType
 from netrev.text.contents import Answer, Limits, Step
 from tests.suspects.test_suspects import COMES, OPEN, READ, Steps, recording_of
@@ -76,8 +74,7 @@ NEXT = ScriptPlace(4)
 def test_a_goroutine_continues_as_the_answer_says(
     operation: Operation, before: ScriptPlace, kind: str, answer: Answer, status: str, after: ScriptPlace
 ) -> None:
-    stream = WrittenStream(operation) if operation.sort is OperationType.WRITE else None
-    assert behind(before, operation, kind, answer, status, stream) == after
+    assert place_after(before, operation, kind, answer, status) == after
 
 
 @pytest.mark.parametrize(
@@ -95,32 +92,24 @@ def test_a_goroutine_continues_as_the_answer_says(
 )
 def test_a_write_goes_on_at_each_byte(place: int, turn: int, data: bytes) -> None:
     """The recorded tries moved 2 bytes, none, and 1 byte; after that, the rest was tried."""
-    writes = Operation(OperationType.WRITE, 0, 0, "w", (b"abc", b"cdef", b"cd", b"def"), moved=[2, 0, 1, 3])
-    assert WrittenStream(writes).at(place, turn) == data
+    assert WrittenStream((b"abc", b"cdef", b"cd", b"def"), [2, 0, 1, 3]).at(place, turn) == data
 
 
 def test_a_write_that_moved_nothing_still_has_its_bytes() -> None:
-    assert WrittenStream(Operation(OperationType.WRITE, 0, 0, "w", (b"abc",), moved=[0])).bytes == b"abc"
-    assert WrittenStream(Operation(OperationType.WRITE, 0, 0, "w", (b"abc", b"c"), moved=[2, 0])).bytes == b"abc"
-    assert (
-        WrittenStream(Operation(OperationType.WRITE, 0, 0, "w", (b"\0\0",))).bytes == b"\0\0"
-    )  # (not in the recording)
+    assert WrittenStream((b"abc",), [0]).bytes == b"abc"
+    assert WrittenStream((b"abc", b"c"), [2, 0]).bytes == b"abc"
+    assert Operation(OperationType.WRITE, 0, 0, "w", (b"\0\0",)).stream.bytes == b"\0\0"  # (not in the recording)
 
 
-def board_of(*steps: Step) -> Board:
-    board = Board(Limits(4, 3, 3, 16), False)
-    for step in (("spawn",), ("sockopen", 16, 16), ("sockopen", 16, 16), ("pollopen", 0, 1), *steps):
-        board.step(step)
-    return board
-
-
-def numbers_of() -> Numbers:
+def state_of(*steps: Step) -> NumberedState:
     """Socket 5 of the recording is socket 1 of the schedule. The uses with numbers 3 and 0 are descriptors 0 and
     2."""
-    numbers = Numbers()
-    numbers.has_socket(5, 1)
-    numbers.descriptors.update({3: 0, 0: 2})
-    return numbers
+    state = NumberedState(Limits(4, 3, 3, 16))
+    for step in (("spawn",), ("sockopen", 16, 16), ("sockopen", 16, 16), ("pollopen", 0, 1), *steps):
+        state.machine.step(step)
+    state.add_socket(5, 1)
+    state.descriptors.update({3: 0, 0: 2})
+    return state
 
 
 @pytest.mark.parametrize(
@@ -144,9 +133,7 @@ def numbers_of() -> Numbers:
 def test_the_next_step_names_the_objects_of_the_schedule(
     operation: Operation, place: ScriptPlace, steps: list[Step], wanted: Step
 ) -> None:
-    board, numbers = board_of(*steps), numbers_of()
-    stream = WrittenStream(operation) if operation.sort is OperationType.WRITE else None
-    assert next_step(board, numbers, 1, place, operation, stream) == wanted
+    assert next_step(state_of(*steps), 1, place, operation) == wanted
 
 
 @pytest.mark.parametrize(
@@ -154,15 +141,7 @@ def test_the_next_step_names_the_objects_of_the_schedule(
 )
 def test_a_step_waits_for_its_object(operation: Operation) -> None:
     with pytest.raises(MissingObjectError):
-        next_step(board_of(), numbers_of(), 1, ScriptPlace(), operation, None)
-
-
-def test_what_a_step_is_about() -> None:
-    read = Operation(OperationType.READ, 5, 3, "r", (2,))
-    assert is_about(("idle",), ScriptPlace(), read) == (True, 5)
-    assert is_about(("idle",), ScriptPlace(is_waiting=True), read) == (False, 3)
-    assert is_about(("armed", 0, "r"), ScriptPlace(is_waiting=True), read) is None
-    assert is_about(("idle",), ScriptPlace(), Operation(OperationType.EXIT, -1)) is None
+        next_step(state_of(), 1, ScriptPlace(), operation)
 
 
 def test_the_next_recorded_step() -> None:

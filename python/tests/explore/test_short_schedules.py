@@ -1,11 +1,11 @@
-"""For small recordings, runs each schedule in two ways: from its beginning, and from a copy of the recorded run, whose turns and effects it
-reuses. Both runs must have the same steps."""
+"""For small recordings, runs each schedule in two ways: from its beginning, and from a copy of the recorded run.
+Both runs must have the same steps."""
 
 import pytest
 
-from netrev.explore.findings import Exploring
-from netrev.explore.player import SchedulePlayer
-from netrev.explore.scripts.making import script_of
+from netrev.explore.scheduler import Scheduler
+from netrev.explore.script import script_of
+from netrev.explore.search import Search
 from tests.suspects.test_suspects import COMES, OPEN, PARK, READ, USED_AGAIN, Steps, recording_of
 
 from .test_exploring import ENDS, GOOD, SETS
@@ -32,21 +32,21 @@ RUNS: dict[str, Steps] = {
 @pytest.mark.parametrize("name", RUNS)
 def test_a_schedule_is_the_same_with_and_without_the_recorded_run(name: str) -> None:
     recording = recording_of(RUNS[name])
-    exploring = Exploring(script_of(recording), lambda number: "")
+    exploring = Search(script_of(recording), lambda number: "")
     assert [made.number for made in exploring.recorded.steps][: recording.length] == list(
         range(1, recording.length + 1)
     )
     for at, delay in enumerate(exploring.delays):
         others = exploring.delays[at + 1 : at + 4]
         for delays in ((delay,), *((delay, other) for other in others if other.before > delay.before)):
-            player = SchedulePlayer(exploring.script, delays)
-            player.end(1_000)
-            played = exploring.ends_of(delays)
+            player = Scheduler(exploring.script, delays)
+            player.finish(1_000)
+            played = exploring.run_schedule(delays)
             if played is None:
-                assert player.board.world().goroutines == exploring.recorded.world.goroutines
+                assert player.state.machine.world().goroutines == exploring.recorded.world.goroutines
                 assert player.places == exploring.recorded.places
             else:
                 assert played.steps == player.steps, delays
-                assert (played.world, played.places) == (player.board.world(), player.places)
-                assert (played.sockets, played.has_news) == (player.numbers.sockets, player.has_news)
+                assert (played.world, played.places) == (player.state.machine.world(), player.places)
+                assert (played.sockets, played.has_news) == (player.state.sockets, player.has_news)
     assert exploring.delays

@@ -19,9 +19,10 @@ import pytest
 
 from netrev.machine.observer import Observer
 from netrev.model.program import printed
+from netrev.recording.recording import Recording
 from netrev.system.interrupts import Interrupts
 from tests.session.test_stored_views import ROOT, session_of
-from tests.support.modelled import Modelled, recording_at
+from tests.support.modelled import Modelled, changes_at, recording_at
 
 STORED = Path(__file__).with_name("searches.json")
 RACES = sorted(path.stem for path in (ROOT / "examples/races").glob("*.jsonl"))
@@ -33,7 +34,7 @@ LINES = (
     "explore 120", "explore failures 60", "reduce out.jsonl", "report out.md", "reduce cell.jsonl lock 0 8", "report held.md lock 0 *", "report out.md 2",
     "explore 0", "reduce", "reduce out.jsonl 99", "report x.md lock 99 8",
 )  # fmt: skip
-ANSWERED = ("explore.commands", "reduce.writing", "reduce.reduced", "reduce.report", "reduce.hang_report")
+ANSWERED = ("explore.commands", "reduce.writing", "reduce.reduced", "reduce.report")
 
 
 def answered_by(_: str, command: str, data: bytes) -> tuple[int, bytes]:
@@ -41,6 +42,13 @@ def answered_by(_: str, command: str, data: bytes) -> tuple[int, bytes]:
     said = printed(command, data, b"", Observer())
     assert said
     return said.status, said.output
+
+
+def read_with_changes(_: str, path: str) -> Recording:
+    """The recording, with the model's changes."""
+    recording = Recording.read(path)
+    recording.changes = changes_at(Path(path))
+    return recording
 
 
 def own(_: str, path: str, interrupts: Interrupts) -> Modelled:
@@ -54,8 +62,15 @@ def modelled() -> Iterator[None]:
         for module in ANSWERED:
             patched.enter_context(mock.patch(f"netrev.{module}.answered_by", answered_by))
         patched.enter_context(mock.patch("netrev.reduce.report.Own", own))
+        patched.enter_context(mock.patch("netrev.reduce.report.read_with_changes", read_with_changes))
         patched.enter_context(mock.patch("netrev.explore.commands.processors", lambda: 1))
         yield
+
+
+def text_of(path: Path) -> str:
+    """The text of a file. Of a page, it is the page's data."""
+    text = path.read_text()
+    return text.partition('id="data">')[2].partition("</script>")[0] if path.suffix == ".html" else text
 
 
 def texts_of(name: str) -> dict[str, str]:
@@ -70,7 +85,7 @@ def texts_of(name: str) -> dict[str, str]:
             for line in LINES:
                 session.attempt(line)
                 said = re.sub(r"\b\d+(?:\.\d+)? (?:s|ms)\b", "some time", printer.take())
-                written = "".join(f"{path.name}:\n{path.read_text()}" for path in sorted(Path().iterdir()))
+                written = "".join(f"{path.name}:\n{text_of(path)}" for path in sorted(Path().iterdir()))
                 for path in Path().iterdir():
                     path.unlink()
                 found[line] = f"> {line}\n{said}{written}"

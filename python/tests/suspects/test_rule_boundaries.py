@@ -9,24 +9,21 @@ import pytest
 
 from netrev.connection.shapes import is_shaped
 from netrev.explore import failures as failing
+from netrev.explore import script as scripts
+from netrev.explore.control_flow import Operation
+from netrev.explore.environment import Environment
 from netrev.explore.failures import _of_socket
-from netrev.explore.schedules import _late_delays
-from netrev.explore.scripts import arrivals
-from netrev.explore.scripts.actors import Others
-from netrev.explore.scripts.control import ScriptPlace, is_about
-from netrev.explore.scripts.operations import TakenApart
-from netrev.explore.scripts.runs import Delay
-from netrev.explore.scripts.scripts import Operation
+from netrev.explore.goroutine_scripts import GoroutineScript
+from netrev.explore.schedules import Delay, _late_delays
 from netrev.findings.suspects.keeping import KeptReference
 from netrev.recording.notes import By, Hold
 from netrev.reduce import reduced
 from netrev.reduce.reduced import Wanted, wanted_by
 from netrev.reduce.units import Dependencies
-from netrev.run.flow import BY_STATUS, OperationType
+from netrev.run.flow import OperationType
 from netrev.session.commands import parts_of, whole_words
 from netrev.session.line_hints import hint
 from netrev.session.session import Session, UsageError
-from netrev.timeline.drawing import LETTER, Drawing, fitted
 from netrev.timeline.trace import END, write_events
 from netrev_go import cli as recorder
 from netrev_go.steps.analysis import hanging, never_closed
@@ -158,14 +155,6 @@ def test_why_a_move_of_an_editor_stops(
 # other schedules
 
 
-@pytest.mark.parametrize("status", [*BY_STATUS, "idle", "queued", "parked"])
-def test_the_object_whose_number_the_next_step_needs(status: str) -> None:
-    operation, place = Operation(OperationType.READ, 3, 8, "r"), ScriptPlace()
-    found = is_about((status, 3, "r"), place, operation)
-    assert found == (None if status in BY_STATUS else (True, 3))
-    assert status in BY_STATUS or is_about((status, 3, "r"), place._replace(is_waiting=True), operation) == (False, 8)
-
-
 def script(*goroutines: list[Operation], length: int = 20) -> Any:
     return Made(goroutines=list(goroutines), length=length)
 
@@ -211,15 +200,17 @@ def test_a_deadline_of_both_sides_may_pass_after_the_other_one_was_moved(
     [(True, 7, "r", "w"), (True, 7, "rw", ""), (True, 6, "r", "rw"), (False, 7, "r", "rw")],
 )
 def test_bytes_that_no_event_has_reported(is_open: bool, tag: int, sides: str, fresh: str) -> None:
-    others = Others(cast(Any, None))
-    board = cast(Any, Made(is_open=lambda d: is_open, descs=[Made(fdseq=7, socket=3)]))
+    environment = Environment(cast(Any, None))
+    machine = Made(is_open=lambda d: is_open, descs=[Made(fdseq=7, socket=3)])
+    state = cast(Any, Made(machine=machine))
     for step in (("arrive", 3, "00"), ("drain", 3, 1), ("peerclose", 4), ("sysread", 0, 3, 1)):
-        others.see(cast(Any, step), board)
-    others.see(cast(Any, ("pollevent", 0, tag, sides, 0)), board)
-    assert {side for (socket, side), is_fresh in others.fresh.items() if is_fresh and socket == 3} == set(fresh)
-    assert others.fresh[4, "r"] and (5, "r") not in others.fresh
-    others.see(cast(Any, ("increfclose", 0, 4)), board)
-    assert others.closed == {4}
+        environment.record(cast(Any, step), state)
+    environment.record(cast(Any, ("pollevent", 0, tag, sides, 0)), state)
+    unreported = environment.unreported
+    assert {side for (socket, side), is_new in unreported.items() if is_new and socket == 3} == set(fresh)
+    assert unreported[4, "r"] and (5, "r") not in unreported
+    environment.record(cast(Any, ("increfclose", 0, 4)), state)
+    assert environment.closed == {4}
 
 
 @pytest.mark.parametrize(
@@ -241,10 +232,10 @@ def test_what_ended_a_wait(
     cause: Optional[int],
     ends_unread: bool,
 ) -> None:
-    apart = TakenApart(cast(Any, None), {}, {(8, "r"): told} if told else {})
-    apart.operations = [Operation(sort, 3, 8, "r", steps=[5])]
-    apart._goes_on(cast(Any, Made(kind=kind, number=6, answer=answer)))
-    (operation,) = apart.operations
+    script = GoroutineScript(cast(Any, None), {}, {(8, "r"): told} if told else {})
+    script.operations = [Operation(sort, 3, 8, "r", steps=[5])]
+    script._extend(cast(Any, Made(kind=kind, number=6, answer=answer)))
+    (operation,) = script.operations
     found = operation.steps, operation.is_brief, operation.cause, operation.ends_unread
     assert found == ([5, 6], is_brief, cause, ends_unread)
 
@@ -255,9 +246,9 @@ def test_what_ended_a_wait(
 )
 def test_what_a_lock_that_failed_would_have_led_to(asked: dict[int, int], is_open: bool, sorts: list[str]) -> None:
     uses = [Made(socket=9), Made(socket=3)] if is_open else []
-    apart = TakenApart(cast(Any, Made(uses=uses, socket_of=lambda event: 3)), asked, {})
-    apart._rwlock(cast(Any, Made(kind="rwlock", number=6, arguments=(1, 3, "r"), answer=("no",))))
-    supposed = [operation for operation in apart.operations if not operation.steps]
+    script = GoroutineScript(cast(Any, Made(uses=uses, socket_of=lambda event: 3)), asked, {})
+    script._rwlock(cast(Any, Made(kind="rwlock", number=6, arguments=(1, 3, "r"), answer=("no",))))
+    supposed = [operation for operation in script.operations if not operation.steps]
     assert [operation.sort.name for operation in supposed] == sorts
     assert [operation.use for operation in supposed] == [1] * (len(sorts) - 1) + [-1]
     assert {(operation.socket, operation.side) for operation in supposed} == {(3, "r")}
@@ -357,7 +348,7 @@ def test_the_suspect_that_a_reduction_keeps(
     suspects = [Made(rule=rule, is_shown=word == "yes") for rule, word in zip("abc", shown.split())]
     monkeypatch.setattr(reduced, "suspects_of", lambda recording: Made(suspects=suspects))
     monkeypatch.setattr(reduced, "SuspectTarget", lambda events, suspect, at: (suspect.rule, at))
-    wanted = cast(Any, Made(hangs=-1, behind=[], cell="", suspect=number))
+    wanted = cast(Any, Made(hangs=-1, steps=[], cell="", suspect=number))
     if found:
         assert reduced._target(cast(Any, None), cast(Any, None), wanted) == (found, number)
     else:
@@ -365,24 +356,7 @@ def test_the_suspect_that_a_reduction_keeps(
             reduced._target(cast(Any, None), cast(Any, None), wanted)
 
 
-# drawings and traces
-
-
-@pytest.mark.parametrize("letters, shown", [(9, "goroutine"), (8, "gorouti…"), (4, "gor…"), (3, ""), (2, "")])
-def test_the_beginning_of_a_text_that_fits(letters: int, shown: str) -> None:
-    assert fitted("goroutine", letters * LETTER + 0.1) == shown
-
-
-@pytest.mark.parametrize(
-    "length, wide, ticks", [(3, 40, [0, 1, 2, 3]), (3, 39, [0, 2]), (10, 8, [0, 5, 10]), (10, 7.9, [0, 10])]
-)
-def test_the_ruler_has_round_distances_of_forty_pixels(length: int, wide: float, ticks: list[int]) -> None:
-    written: list[tuple[float, float, str]] = []
-    own = Made(_x=lambda position: position * wide, _recording=Made(length=length), _parts=[])
-    own._write = lambda x, y, text, kind: written.append((x, y, text))
-    Drawing._ruler(cast(Any, own), 100)
-    assert written == [*((tick * wide + 3, 78, str(tick)) for tick in ticks), (12, 78, "position")]
-    assert own._parts == [f'<path class="line" d="M{tick * wide} 76V100"/>' for tick in ticks]
+# traces
 
 
 def test_events_are_written_as_one_list() -> None:
@@ -443,14 +417,14 @@ def test_a_session_without_a_file_has_no_recording() -> None:
 def test_bytes_that_come_or_go_as_there_is_room(
     kind: str, value: Any, held: int, peer_closed: bool, is_made: Optional[bool]
 ) -> None:
-    others = Others(cast(Any, None))
+    environment = Environment(cast(Any, None))
     buffers = (b"x" * held, b"") if kind == "arrive" else (b"", b"x" * held)
-    board = Made(sockets=[Made(peer_closed=peer_closed, buffers=buffers, capacities=(8, 3))])
+    machine = Made(sockets=[Made(peer_closed=peer_closed, buffers=buffers, capacities=(8, 3))])
     values = () if value is None else (value,)
-    item = Made(event=Made(kind=kind, arguments=(0, *values), number=5))
-    found = others._moves(cast(Any, item), cast(Any, board), 0)
+    action = Made(event=Made(kind=kind, arguments=(0, *values), number=5))
+    found = environment._transfer(cast(Any, action), cast(Any, Made(machine=machine, sockets={0: 0})))
     assert found == ([(kind, 0, *values)] if is_made else [] if is_made is False else None)
-    assert others.tries == ({5: 1} if is_made is None else {})
+    assert environment.tries == ({5: 1} if is_made is None else {})
 
 
 @pytest.mark.parametrize(
@@ -463,6 +437,6 @@ def test_bytes_that_come_or_go_as_there_is_room(
 def test_when_what_came_is_due(told: list[int], every: list[int], in_vain: list[int], due: int) -> None:
     events = [Made(number=number, arguments=(0, 1, "r")) for number in told] + [Made(number=9, arguments=(0, 1, "w"))]
     item = Made(due=20, event=Made(number=10, kind="arrive"))
-    found = arrivals._due(cast(Any, item), cast(Any, events), cast(Any, Made(all=every, in_vain=in_vain)))
-    assert found == (20 if due == 20 else due - arrivals.JUST_BEFORE)
-    assert arrivals._due(cast(Any, item), cast(Any, events), None) == 20
+    found = scripts._due(cast(Any, item), cast(Any, events), cast(Any, Made(all=every, in_vain=in_vain)))
+    assert found == (20 if due == 20 else due - scripts.JUST_BEFORE)
+    assert scripts._due(cast(Any, item), cast(Any, events), None) == 20

@@ -143,7 +143,7 @@ def test_a_command_that_takes_a_file_has_the_rest_of_the_line() -> None:
 def test_a_file_whose_name_has_a_semicolon_is_written(tmp_path: Path) -> None:
     name = tmp_path / "a;b.json"
     nrdb("--batch", "-ex", f"trace {name}", "-ex", f"report {tmp_path / 'c;d.md'}", LOST)
-    assert sorted(os.listdir(tmp_path)) == ["a;b.json", "c;d.jsonl", "c;d.md", "c;d.svg"]
+    assert sorted(os.listdir(tmp_path)) == ["a;b.json", "c;d.html", "c;d.jsonl", "c;d.md"]
 
 
 def test_a_recording_larger_than_memory_is_one_line(tmp_path: Path) -> None:

@@ -3,14 +3,15 @@ again; and NAME.where is written beside it."""
 
 import re
 import unittest
-import xml.etree.ElementTree as ET
 from pathlib import Path
 
 from dev.fuzz.generators.injections import Bug, Traffic
 from netrev.findings.suspects.found import Suspect
 from netrev.findings.suspects.ranking import suspects_of
 from netrev.recording.recording import Recording
+from netrev.timeline.picture import MOST as MOST_IN_A_PAGE
 from tests.program.nrdb.common.support import EXAMPLES, HUNTS, ROOT, netrev, nrdb
+from tests.program.nrdb.pages.test_timeline import data_in
 from tests.program.nrdb.test_suspects import checked
 from tests.support.examples import KNOWN
 from tests.support.folders import folder_of
@@ -28,6 +29,7 @@ MOST = {
     "real/hijacked": 20,
 }
 LENGTH = 1_500
+KINDS_LEFT_BEHIND = ["setdeadline", "setdeadline", "fire", "pollreset"]  # the suspect's steps in real/hijacked
 # the seeds of runs of this length in which the planted bug occurs and is found
 SEEDS = {
     Bug.RELEASE: 700,
@@ -111,11 +113,12 @@ class Reducing(unittest.TestCase):
             self.assertEqual(left.step(new).kind, whole.step(old).kind)
             self.assertEqual(left.lines.of(new), whole.lines.of(old))
         self.assertIn("main.go:34", text)
-        picture = ET.parse(self.folder / "bug.svg").getroot()
-        self.assertIn("](bug.svg)", text)
-        words = [node.text or "" for node in picture.iter() if node.tag.endswith("}text")]
-        self.assertTrue(any(one.startswith("Write · timed out") for one in words), words)
-        self.assertEqual([one for one in words if one in "1234"][-4:], ["1", "2", "3", "4"])
+        self.assertIn("[bug.html](bug.html)", text)
+        page = data_in((self.folder / "bug.html").read_text())
+        self.assertEqual((page["name"], page["first"], page["last"]), ("bug.jsonl", 0, left.length))
+        self.assertLessEqual({"Write", "timed out"}, set(page["calls"]["texts"]))
+        (suspect,) = page["suspects"]
+        self.assertEqual([whole.step(dict(pairs)[step]).kind for step in suspect["steps"]], KINDS_LEFT_BEHIND)
         (diagram,) = re.findall(r"```mermaid\n(.*?)```", text, re.DOTALL)
         self.assertEqual(len(re.findall("->>", diagram)), left.length)
         self.assertIn(f"`ok {left.length} steps`", text)
@@ -124,14 +127,34 @@ class Reducing(unittest.TestCase):
     def test_a_hang_is_reported_with_all_its_steps(self) -> None:
         path = ROOT / "python/tests/caused/both-bad.jsonl"
         said = nrdb("--batch", "-ex", f"report {self.folder / 'hang.md'}", path)
-        self.assertIn("hang.md with hang.svg: Deadlock: two calls wait for one another.", said)
+        self.assertIn("hang.md with hang.html: Deadlock: two calls wait for one another.", said)
         text = (self.folder / "hang.md").read_text()
         self.assertTrue(text.startswith("# A deadlock\n\nDeadlock: two calls wait for one another.\n"), text)
         for words in ("## Goroutine 2\n", "## Goroutine 3\n", "* main.go:223", "`ok 97 steps`", "-ex 'info hangs'"):
             self.assertIn(words, text)
-        self.assertIn("](hang.svg)", text)
-        ET.parse(self.folder / "hang.svg")
+        self.assertIn("[hang.html](hang.html)", text)
+        self.assertEqual(data_in((self.folder / "hang.html").read_text())["length"], 97)
         self.assertFalse((self.folder / "hang.jsonl").exists())
+
+    def test_a_long_hang_is_reported_with_a_part_of_its_values(self) -> None:
+        path, length = self.folder / "long.jsonl", MOST_IN_A_PAGE + 2_000
+        header, *steps = (EXAMPLES / "real/hung.jsonl").read_text().splitlines()
+        ticks = [f'["tick",{time},"done"]' for time in range(10**12, 10**12 + length - len(steps))]
+        path.write_text("\n".join([header, *steps, *ticks, ""]))
+        nrdb("--batch", "-ex", f"report {self.folder / 'hang.md'}", path)
+        page = data_in((self.folder / "hang.html").read_text())
+        self.assertEqual(page["length"], length)
+        self.assertLess(page["last"] - page["first"], MOST_IN_A_PAGE)
+
+    def test_a_report_never_overwrites_its_recording(self) -> None:
+        for name in ("bug.html", "bug.md", "bug.jsonl"):
+            path = self.folder / name
+            data = (EXAMPLES / "real/hijacked.jsonl").read_bytes()
+            path.write_bytes(data)
+            said = nrdb("--batch", "-ex", f"report {self.folder / 'bug.md'}", path)
+            self.assertIn(f"{path} is the recording itself", said)
+            self.assertEqual((path.read_bytes(), [each.name for each in self.folder.iterdir()]), (data, [name]))
+            path.unlink()
 
     def test_what_is_not_there_has_no_value(self) -> None:
         out, path = self.folder / "o.jsonl", EXAMPLES / "real/hijacked.jsonl"

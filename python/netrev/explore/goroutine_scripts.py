@@ -1,4 +1,4 @@
-"""Divides the steps of each goroutine into operations, by the control flow of Go's calls."""
+"""Goroutines' scripts: divides the steps of each goroutine into operations, by the control flow of Go's calls."""
 
 from typing import Any, Optional
 
@@ -6,13 +6,13 @@ from netrev.reduce.events import Event, Events
 from netrev.run.flow import ENDS, LAST, SORTS, TRIES, Consequence, OperationType, came
 from netrev.text.vocabulary import KINDS
 
-from .scripts import Operation
+from .control_flow import Operation
 
 ROOM = 4_096  # the number of bytes that a read asks for if that number is unknown
 OF_EACH = ("g", "s", "d", "side", "mode")  # the arguments of an operation other than its values
 
 
-class TakenApart:
+class GoroutineScript:
     """A goroutine's operations, built from its steps one after the other."""
 
     def __init__(self, events: Events, sizes: dict[int, int], last_events: dict[tuple[int, str], int]) -> None:
@@ -20,9 +20,9 @@ class TakenApart:
         self.operations: list[Operation] = []
         self.answer: tuple[Any, ...] = ()  # the answer of its last step
 
-    def see(self, event: Event) -> None:
+    def add(self, event: Event) -> None:
         """Adds the goroutine's next step."""
-        handler = getattr(self, f"_{event.kind}", self._begins if event.kind in SORTS else self._goes_on)
+        handler = getattr(self, f"_{event.kind}", self._begin if event.kind in SORTS else self._extend)
         handler(event)
         self.answer = event.answer
 
@@ -30,28 +30,28 @@ class TakenApart:
     def last(self) -> Optional[Operation]:
         return self.operations[-1] if self.operations else None
 
-    def _begins(self, event: Event) -> Operation:
+    def _begin(self, event: Event) -> Operation:
         """Begins an operation with a step, which names its object."""
         arguments = dict(zip(KINDS[event.kind].arguments, event.arguments))
         socket, use = self.events.socket_of(event), arguments.get("d", -1)
         values = tuple(value for form, value in arguments.items() if form not in OF_EACH)
         side = arguments.get("side", arguments.get("mode", ""))
-        return self._adds(event, Operation(SORTS[event.kind], -1 if socket is None else socket, use, side, values))
+        return self._append(event, Operation(SORTS[event.kind], -1 if socket is None else socket, use, side, values))
 
-    def _adds(self, event: Event, operation: Operation) -> Operation:
+    def _append(self, event: Event, operation: Operation) -> Operation:
         self.operations.append(operation)
-        self._goes_on(event)
+        self._extend(event)
         return operation
 
-    def _goes_on(self, event: Event) -> None:
+    def _extend(self, event: Event) -> None:
         """Adds a step to the last operation."""
         assert self.last
         self.last.steps.append(event.number)
         self.last.kinds.append(event.kind)
         if event.kind in ("blockarm", "blockswap", "waitcheck"):
-            self._waited(event)
+            self._end_wait(event)
 
-    def _waited(self, event: Event) -> None:
+    def _end_wait(self, event: Event) -> None:
         """Records the end of a wait, if this step ended it."""
         last = self.last
         assert last
@@ -63,56 +63,56 @@ class TakenApart:
         if is_ready and last.sort in (OperationType.READ, OperationType.WRITE):
             last.ends_unread = True  # until a try follows the wait
 
-    def _supposed(self, sort: OperationType, socket: int, use: int = -1, side: str = "", *values: Any) -> None:
+    def _suppose(self, sort: OperationType, socket: int, use: int = -1, side: str = "", *values: Any) -> None:
         """Adds an operation that the recording doesn't show because the call ended before the operation."""
         self.operations.append(Operation(sort, socket, use, side, values))
 
-    def _supposed_try(self, socket: int, use: int, side: str) -> None:
+    def _suppose_try(self, socket: int, use: int, side: str) -> None:
         """Adds the tries that a call would have made. The recording doesn't show them, because the descriptor was
         closing or the deadline had passed."""
         if socket not in self.sizes:
-            self._supposed(OperationType.WAIT, socket, use, side)
+            self._suppose(OperationType.WAIT, socket, use, side)
         elif side == "r":
-            self._supposed(OperationType.READ, socket, use, side, self.sizes[socket])
+            self._suppose(OperationType.READ, socket, use, side, self.sizes[socket])
         else:
-            self._supposed(OperationType.WRITE, socket, use, side, b"\0")
+            self._suppose(OperationType.WRITE, socket, use, side, b"\0")
 
     def _sockopen(self, event: Event) -> None:
-        self._adds(event, Operation(OperationType.MAKE, event.arguments[2], values=event.arguments[:2]))
+        self._append(event, Operation(OperationType.MAKE, event.arguments[2], values=event.arguments[:2]))
 
     def _pollopen(self, event: Event) -> None:
         use = next(at for at, candidate in enumerate(self.events.uses) if candidate.opened == event.number)
-        self._begins(event).use = use
+        self._begin(event).use = use
 
     def _rwlock(self, event: Event) -> None:
         _, s, side = event.arguments
         if self.last and self.last.sort is OperationType.LOCK and self.last.kinds[-1] == "acquire":
-            self._goes_on(event)
+            self._extend(event)
         else:
-            self._begins(event)
+            self._begin(event)
         if came(event.kind, event.answer) is Consequence.FAILS:
-            use = self._use_of(s)
+            use = self._first_use(s)
             if use is not None:
-                self._supposed(OperationType.RESET, s, use, side)
-                self._supposed_try(s, use, side)
-            self._supposed(OperationType.UNLOCK, s, -1, side)
+                self._suppose(OperationType.RESET, s, use, side)
+                self._suppose_try(s, use, side)
+            self._suppose(OperationType.UNLOCK, s, -1, side)
 
-    def _use_of(self, socket: int) -> Optional[int]:
+    def _first_use(self, socket: int) -> Optional[int]:
         return next((at for at, use in enumerate(self.events.uses) if use.socket == socket), None)
 
     def _incref(self, event: Event) -> None:
-        self._begins(event)
+        self._begin(event)
         if came(event.kind, event.answer) is Consequence.FAILS:
-            self._supposed(OperationType.GIVE_UP, event.arguments[1])
+            self._suppose(OperationType.GIVE_UP, event.arguments[1])
 
     def _increfclose(self, event: Event) -> None:
         s = event.arguments[1]
-        self._begins(event)
+        self._begin(event)
         if came(event.kind, event.answer) is Consequence.FAILS:
-            use = self._use_of(s)
+            use = self._first_use(s)
             if use is not None:
-                self._supposed(OperationType.EVICT, s, use)
-            self._supposed(OperationType.GIVE_UP, s)
+                self._suppose(OperationType.EVICT, s, use)
+            self._suppose(OperationType.GIVE_UP, s)
 
     def _socket_of(self, event: Event) -> int:
         socket = self.events.socket_of(event)
@@ -126,31 +126,31 @@ class TakenApart:
             and self.answer in (LAST, ("done",))
             and "pollclose" not in self.last.kinds
         ):
-            self._goes_on(event)
+            self._extend(event)
         else:
-            self._begins(event)
+            self._begin(event)
 
     def _pollreset(self, event: Event) -> None:
         _, use, side = event.arguments
-        self._begins(event)
+        self._begin(event)
         if came(event.kind, event.answer) is Consequence.FAILS:
-            self._supposed_try(self._socket_of(event), use, side)
+            self._suppose_try(self._socket_of(event), use, side)
 
     def _waitbegin(self, event: Event) -> None:
         _, use, side = event.arguments
         if self.answer == ("again",) and self.last and self.last.side == side:
             self.last.use = use
-            self._goes_on(event)
+            self._extend(event)
         else:
-            self._begins(event)
+            self._begin(event)
 
     def _sysread(self, event: Event) -> None:
-        self._tries(OperationType.READ, "r", event)
+        self._try(OperationType.READ, "r", event)
 
     def _syswrite(self, event: Event) -> None:
-        self._tries(OperationType.WRITE, "w", event)
+        self._try(OperationType.WRITE, "w", event)
 
-    def _tries(self, sort: OperationType, side: str, event: Event) -> None:
+    def _try(self, sort: OperationType, side: str, event: Event) -> None:
         """Adds a try of a read or a write: the first try of a call, a try after a wait, or a further try if the call
         moves bytes in several steps."""
         last, (_, s, value) = self.last, event.arguments
@@ -161,13 +161,13 @@ class TakenApart:
             is_again = sort is OperationType.READ and self.answer[:1] != ("got",)
             last.values = (*last.values[:-1], value) if is_again else (*last.values, value)
             last.ends_unread = False
-            self._goes_on(event)
+            self._extend(event)
         else:
-            last = self._adds(event, Operation(sort, s, self._use_at(s, event), side, (value,)))
+            last = self._append(event, Operation(sort, s, self._last_use(s, event), side, (value,)))
         if sort is OperationType.WRITE:
             last.moved.append(event.answer[1] if event.answer[0] == "put" else 0)
 
-    def _use_at(self, socket: int, event: Event) -> int:
+    def _last_use(self, socket: int, event: Event) -> int:
         found = [at for at, use in enumerate(self.events.uses) if use.socket == socket and use.opened < event.number]
         return found[-1] if found else -1
 
@@ -181,22 +181,22 @@ def goroutines_of(events: Events, count: int) -> list[list[Operation]]:
         elif event.kind == "syswrite":
             sizes.setdefault(event.arguments[1], ROOM)
     last_events: dict[tuple[int, str], int] = {}
-    apart = [TakenApart(events, sizes, last_events) for _ in range(count)]
+    scripts = [GoroutineScript(events, sizes, last_events) for _ in range(count)]
     makers, sockets = {
         event.arguments[1]: event.arguments[0] for event in reversed(events.all) if event.kind == "pollopen"
     }, 0
     for event in events.all:
         if event.kind == "sockopen":
             if sockets in makers:
-                apart[makers[sockets]].see(event._replace(arguments=(*event.arguments, sockets)))
+                scripts[makers[sockets]].add(event._replace(arguments=(*event.arguments, sockets)))
             sockets += 1
         elif event.named("g") is not None:
-            apart[event.arguments[0]].see(event)
+            scripts[event.arguments[0]].add(event)
         elif event.kind == "pollevent":
             last_events.update({(event.arguments[0], side): event.number for side in event.arguments[2]})
-    for goroutine, rest in zip(apart, _rests(events, count)):
-        _finish(goroutine.operations, rest)
-    return [goroutine.operations for goroutine in apart]
+    for script, rest in zip(scripts, _rests(events, count)):
+        _finish(script.operations, rest)
+    return [script.operations for script in scripts]
 
 
 def _rests(events: Events, count: int) -> list[bool]:
