@@ -3,6 +3,7 @@
 import random
 import signal
 import tempfile
+from contextlib import ExitStack
 from pathlib import Path
 from typing import Any, Iterator
 
@@ -90,3 +91,10 @@ def dice(request: pytest.FixtureRequest) -> random.Random:
     seed = request.config.getoption("--seed")
     print(f"--seed {seed}")
     return random.Random(seed)
+
+
+@pytest.fixture
+def cleanups() -> Iterator[ExitStack]:
+    """What is entered and called back here ends after the test, the last first."""
+    with ExitStack() as stack:
+        yield stack
