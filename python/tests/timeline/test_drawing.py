@@ -2,7 +2,6 @@
 numbered, and text from a recording is escaped."""
 
 import re
-import unittest
 import xml.etree.ElementTree as ET
 from collections import Counter
 from pathlib import Path
@@ -42,93 +41,98 @@ def elements(picture: str, name: str) -> list[ET.Element]:
     return [node for node in ET.fromstring(picture).iter() if node.tag.endswith(f"}}{name}")]
 
 
-class Drawings(unittest.TestCase):
-    def test_each_call_is_there_and_each_step_of_the_story(self) -> None:
-        for name in REAL:
-            recording = read(name)
-            story = next(causes_data(recording), None)
-            picture = drawing(recording, story)
-            kinds = Counter(node.get("class") for node in elements(picture, "rect"))
-            calls = [one for one in book_of(recording).calls if one.socket >= 0]
-            self.assertEqual(sum(kinds[kind] for kind in CLASS.values()), len(calls), name)
-            hanging = [one for one in calls if not one.last and is_waiting(index_of(recording), one)]
-            self.assertEqual(kinds[CLASS[HANGS]], len(hanging), name)
-            heads = [node.text for node in elements(picture, "text") if (node.text or "").startswith("connection ")]
-            self.assertEqual(len(heads), len({one.socket for one in calls}))
-            numbers = [node.text for node in elements(picture, "text") if node.get("class") == "count"]
-            self.assertEqual(numbers, [str(at) for at in range(1, len(story["steps"] if story else ()) + 1)], name)
-            if story:
-                self.assertEqual(heads[0], f"connection {story['s']}")
-                self.assertIn(story["says"][:40], "".join(ET.fromstring(picture).itertext()))
-
-    def test_bars_are_where_their_steps_are(self) -> None:
-        recording = read("lost")
-        picture = drawing(recording, None)
-        (hangs,) = [node for node in elements(picture, "rect") if node.get("class") == CLASS[HANGS]]
-        ticks = {node.text: node for node in elements(picture, "text") if node.get("class") == "tick"}
-        self.assertTrue(all(ticks))
-        (call,) = [one for one in book_of(recording).calls if not one.last and one.name == "Read"]
-        per = float(ticks["5"].get("x", 0)) - float(ticks["0"].get("x", 0))
-        begin = float(ticks["0"].get("x", 0)) - 3 + per * (call.first - 1) / 5
-        self.assertAlmostEqual(float(hangs.get("x", 0)), begin, delta=0.1)
-        self.assertAlmostEqual(float(hangs.get("width", 0)), per * (recording.length + 2 - call.first) / 5, delta=1.2)
-
-    def test_what_failed_is_red_and_says_so_where_there_is_room(self) -> None:
-        picture = drawing(read("leak"), None)
-        (failed,) = [node for node in elements(picture, "rect") if node.get("class") == CLASS[FAILED]]
-        self.assertGreater(float(failed.get("width", 0)), 100)
-        self.assertTrue(any((node.text or "").startswith("Read · closed") for node in elements(picture, "text")))
-
-    def test_a_call_of_gos_own_code_is_labelled_with_its_function(self) -> None:
-        recording = Recording.read(str(EXAMPLES / "races/http-watchdog.jsonl"))
-        labels = [node.text or "" for node in elements(drawing(recording, None), "text")]
-        self.assertEqual([label for label in labels if label.endswith("· in")], [])
-        self.assertIn("Write · closed · in internal/poll.(*fdMutex).rwlock", labels)
-
-    def test_texts_of_others_stay_texts(self) -> None:
-        recording = with_lines_of(HOSTILE)
-        picture = drawing(recording, None)
-        self.assertEqual(elements(picture, "script"), [])
-        self.assertNotIn("\u202e", picture)
-        picture = drawing(with_lines_of("<b>&'"), None)
-        self.assertEqual(elements(picture, "b"), [])
-        self.assertIn("g2 <b>&'", [node.text for node in elements(picture, "text")])
-
-    def test_a_text_is_cut_where_there_is_no_room(self) -> None:
-        self.assertEqual(fitted("Read", 5 * LETTER), "Read")
-        self.assertEqual(fitted("Read of more", 6.5 * LETTER), "Read …")
-        self.assertEqual(fitted("Read", 2 * LETTER), "")
+def test_each_call_is_there_and_each_step_of_the_story() -> None:
+    for name in REAL:
+        recording = read(name)
+        story = next(causes_data(recording), None)
+        picture = drawing(recording, story)
+        kinds = Counter(node.get("class") for node in elements(picture, "rect"))
+        calls = [one for one in book_of(recording).calls if one.socket >= 0]
+        assert sum(kinds[kind] for kind in CLASS.values()) == len(calls), name
+        hanging = [one for one in calls if not one.last and is_waiting(index_of(recording), one)]
+        assert kinds[CLASS[HANGS]] == len(hanging), name
+        heads = [node.text for node in elements(picture, "text") if (node.text or "").startswith("connection ")]
+        assert len(heads) == len({one.socket for one in calls})
+        numbers = [node.text for node in elements(picture, "text") if node.get("class") == "count"]
+        assert numbers == [str(at) for at in range(1, len(story["steps"] if story else ()) + 1)], name
+        if story:
+            assert heads[0] == f"connection {story['s']}"
+            assert story["says"][:40] in "".join(ET.fromstring(picture).itertext())
 
 
-class Sequences(unittest.TestCase):
-    def test_each_step_is_a_message_in_its_order(self) -> None:
-        recording = read("leak")
-        told = sequence(recording, {"steps": [61, 71]})
-        self.assertEqual(told.splitlines()[0], "sequenceDiagram")
-        steps = re.findall(r"^    (\w+)->>(\w+): (\d+) (\w+)", told, re.MULTILINE)
-        self.assertEqual([int(one[2]) for one in steps], list(range(1, recording.length + 1)))
-        for who, where, number, kind in steps:
-            step = recording.step(int(number))
-            g, s = step.argument("g"), step.argument("s")
-            self.assertEqual((kind, who), (step.kind, "net" if g is None else f"g{g}"))
-            if s is not None:
-                self.assertEqual(where, f"s{s}")
-        named = set(re.findall(r"^    participant (\w+) as ", told, re.MULTILINE))
-        self.assertEqual({one for who, where, *_ in steps for one in (who, where)} - named, set())
-        self.assertEqual(len(re.findall(r"^    Note over g[24]: [12]\. ", told, re.MULTILINE)), 2)
+def test_bars_are_where_their_steps_are() -> None:
+    recording = read("lost")
+    picture = drawing(recording, None)
+    (hangs,) = [node for node in elements(picture, "rect") if node.get("class") == CLASS[HANGS]]
+    ticks = {node.text: node for node in elements(picture, "text") if node.get("class") == "tick"}
+    assert all(ticks)
+    (call,) = [one for one in book_of(recording).calls if not one.last and one.name == "Read"]
+    per = float(ticks["5"].get("x", 0)) - float(ticks["0"].get("x", 0))
+    begin = float(ticks["0"].get("x", 0)) - 3 + per * (call.first - 1) / 5
+    assert float(hangs.get("x", 0)) == pytest.approx(begin, abs=0.1)
+    assert float(hangs.get("width", 0)) == pytest.approx(per * (recording.length + 2 - call.first) / 5, abs=1.2)
 
-    def test_texts_of_others_stay_texts(self) -> None:
-        told = sequence(with_lines_of(HOSTILE), None)
-        for line in told.splitlines()[1:]:
-            head, _, message = line.partition(": ")
-            self.assertNotRegex(message if "->>" in line else "", r"[<>\"{}%]|:(?! )")
-            self.assertRegex(head, r"^    (participant|\w+->>\w+)")
-        self.assertEqual(spelled("a;b#c\nd"), "a#59;b#35;c#92;nd")
 
-    def test_a_long_recording_has_none(self) -> None:
-        recording = read("hung")
-        self.assertGreater(recording.length, MOST)
-        self.assertEqual(sequence(recording, None), "")
+def test_what_failed_is_red_and_says_so_where_there_is_room() -> None:
+    picture = drawing(read("leak"), None)
+    (failed,) = [node for node in elements(picture, "rect") if node.get("class") == CLASS[FAILED]]
+    assert float(failed.get("width", 0)) > 100
+    assert any((node.text or "").startswith("Read · closed") for node in elements(picture, "text"))
+
+
+def test_a_call_of_gos_own_code_is_labelled_with_its_function() -> None:
+    recording = Recording.read(str(EXAMPLES / "races/http-watchdog.jsonl"))
+    labels = [node.text or "" for node in elements(drawing(recording, None), "text")]
+    assert [label for label in labels if label.endswith("· in")] == []
+    assert "Write · closed · in internal/poll.(*fdMutex).rwlock" in labels
+
+
+def test_texts_of_others_stay_texts_in_drawings() -> None:
+    recording = with_lines_of(HOSTILE)
+    picture = drawing(recording, None)
+    assert elements(picture, "script") == []
+    assert "\u202e" not in picture
+    picture = drawing(with_lines_of("<b>&'"), None)
+    assert elements(picture, "b") == []
+    assert "g2 <b>&'" in [node.text for node in elements(picture, "text")]
+
+
+def test_a_text_is_cut_where_there_is_no_room() -> None:
+    assert fitted("Read", 5 * LETTER) == "Read"
+    assert fitted("Read of more", 6.5 * LETTER) == "Read …"
+    assert fitted("Read", 2 * LETTER) == ""
+
+
+def test_each_step_is_a_message_in_its_order() -> None:
+    recording = read("leak")
+    told = sequence(recording, {"steps": [61, 71]})
+    assert told.splitlines()[0] == "sequenceDiagram"
+    steps = re.findall(r"^    (\w+)->>(\w+): (\d+) (\w+)", told, re.MULTILINE)
+    assert [int(one[2]) for one in steps] == list(range(1, recording.length + 1))
+    for who, where, number, kind in steps:
+        step = recording.step(int(number))
+        g, s = step.argument("g"), step.argument("s")
+        assert (kind, who) == (step.kind, "net" if g is None else f"g{g}")
+        if s is not None:
+            assert where == f"s{s}"
+    named = set(re.findall(r"^    participant (\w+) as ", told, re.MULTILINE))
+    assert {one for who, where, *_ in steps for one in (who, where)} - named == set()
+    assert len(re.findall(r"^    Note over g[24]: [12]\. ", told, re.MULTILINE)) == 2
+
+
+def test_texts_of_others_stay_texts_in_sequences() -> None:
+    told = sequence(with_lines_of(HOSTILE), None)
+    for line in told.splitlines()[1:]:
+        head, _, message = line.partition(": ")
+        assert not re.search(r"[<>\"{}%]|:(?! )", message if "->>" in line else "")
+        assert re.search(r"^    (participant|\w+->>\w+)", head)
+    assert spelled("a;b#c\nd") == "a#59;b#35;c#92;nd"
+
+
+def test_a_long_recording_has_none() -> None:
+    recording = read("hung")
+    assert recording.length > MOST
+    assert sequence(recording, None) == ""
 
 
 @pytest.mark.parametrize("length", [1, 9, 17, 33, 44, 90, 170, 215, 440, 870, 1_800, 2_000, 3_900, 4_300, 9_000])
