@@ -3,7 +3,6 @@ deadlocks, and waits that may be normal come last."""
 
 import json
 import re
-import tempfile
 from pathlib import Path
 from typing import Any
 
@@ -95,18 +94,17 @@ def test_what_all_wait_for_is_said_first() -> None:
     assert graph.shown[0].needs[0].certainty == Certainty.PERHAPS
 
 
-def test_another_method_that_locks_the_same_mutex_may_hold_it() -> None:
+def test_another_method_that_locks_the_same_mutex_may_hold_it(folder: Path) -> None:
     """The source shows that a method may hold the mutex. Without the source, no holder is named, and a method that
     has already unlocked the mutex is never named."""
     waits = [[9, 0, 2, "", 3, -1]]
     assert len(graph_of(BLOCKED, waits).shown) == 2
-    with tempfile.TemporaryDirectory() as folder:
-        file = str(Path(folder) / "hub.go")
-        Path(file).write_text(SOURCE, encoding="utf-8")
-        (hang,) = graph_of(BLOCKED, waits, WRITES, file).shown
-        assert (hang.waiting, hang.perhaps) == (1, 1)
-        assert len(graph_of(BLOCKED, waits, NAMES_WRITE, file).shown) == 2
-        assert len(graph_of(BLOCKED, [[9, 0, 2, "", 4, -1]], NAMES_WRITE, file).shown) == 2
+    file = str(folder / "hub.go")
+    Path(file).write_text(SOURCE, encoding="utf-8")
+    (hang,) = graph_of(BLOCKED, waits, WRITES, file).shown
+    assert (hang.waiting, hang.perhaps) == (1, 1)
+    assert len(graph_of(BLOCKED, waits, NAMES_WRITE, file).shown) == 2
+    assert len(graph_of(BLOCKED, [[9, 0, 2, "", 4, -1]], NAMES_WRITE, file).shown) == 2
 
 
 def test_a_goroutine_that_ended_a_wait_before_is_waited_for() -> None:

@@ -235,13 +235,12 @@ def test_a_wait_group_is_one_object_by_its_waits_and_by_what_is_added() -> None:
     assert [timer.is_stopped for some in read.timers.values() for timer in some] == [True]
 
 
-def test_a_file_without_them_has_the_first_form() -> None:
-    with tempfile.TemporaryDirectory() as folder:
-        path = pathlib.Path(folder, "x.where")
-        write_where(path, [0] * 3, {})
-        assert json.loads(path.read_text().splitlines()[0]) == {"where": 1, "steps": 3}
-        read = SourceLines.beside(str(path), 3)
-        assert (read.fault, read.parks, read.goroutines, read.objects) == ("", {}, {}, {})
+def test_a_file_without_them_has_the_first_form(folder: pathlib.Path) -> None:
+    path = folder / "x.where"
+    write_where(path, [0] * 3, {})
+    assert json.loads(path.read_text().splitlines()[0]) == {"where": 1, "steps": 3}
+    read = SourceLines.beside(str(path), 3)
+    assert (read.fault, read.parks, read.goroutines, read.objects) == ("", {}, {}, {})
 
 
 def test_what_is_of_gos_own_code_alone_is_left_out() -> None:
@@ -325,7 +324,9 @@ def test_of_those_that_are_over_a_quarter_as_many_are_kept() -> None:
     assert read.left_out == [LeftOut(where.A_VALUE, 0, 0, 48)]
 
 
-def test_a_program_of_a_hundred_thousand_goroutines_has_room(monkeypatch: pytest.MonkeyPatch) -> None:
+def test_a_program_of_a_hundred_thousand_goroutines_has_room(
+    folder: pathlib.Path, monkeypatch: pytest.MonkeyPatch
+) -> None:
     """Each of the goroutines waits on its own channel until the end, and some of them slept before that. One further
     goroutine has steps."""
     count, sleepers = 100_000, 1_000
@@ -335,18 +336,17 @@ def test_a_program_of_a_hundred_thousand_goroutines_has_room(monkeypatch: pytest
         for kind, a in (*slept, (PointKind.PARKS, VALUE)):
             number = len(points)
             points.append(Point(number, kind, goid, goid * 96 if a == VALUE else 0, a, 0, 0, 1_000 * number, 3))
-    with tempfile.TemporaryDirectory() as folder:
-        log, name = pathlib.Path(folder, "log.1"), pathlib.Path(folder, "x.jsonl")
-        log.write_bytes(binary(points, {3: PointStack(500, 600, (700,))}))
-        symbols = {699: ("main.work", "/x/main.go", 7), 499: ("main.main", "/x/main.go", 30)}
-        go = Go("go", pathlib.Path("/nowhere"), "go1", "linux/amd64", "")
-        with monkeypatch.context() as patch:
-            patch.setattr(lines, "shift", lambda *_, **__: 0)
-            patch.setattr(lines, "looked_up", lambda *_, **__: symbols)
-            patch.setattr(converting, "report", lambda *_, **__: (True, []))
-            convert(log, name, go, RecordingOptions())
-        size = name.with_suffix(".where").stat().st_size
-        read = SourceLines.beside(str(name), 2)
+    log, name = folder / "log.1", folder / "x.jsonl"
+    log.write_bytes(binary(points, {3: PointStack(500, 600, (700,))}))
+    symbols = {699: ("main.work", "/x/main.go", 7), 499: ("main.main", "/x/main.go", 30)}
+    go = Go("go", pathlib.Path("/nowhere"), "go1", "linux/amd64", "")
+    with monkeypatch.context() as patch:
+        patch.setattr(lines, "shift", lambda *_, **__: 0)
+        patch.setattr(lines, "looked_up", lambda *_, **__: symbols)
+        patch.setattr(converting, "report", lambda *_, **__: (True, []))
+        convert(log, name, go, RecordingOptions())
+    size = name.with_suffix(".where").stat().st_size
+    read = SourceLines.beside(str(name), 2)
     assert read.fault == ""
     assert size < 8 * 2**20
     assert sum(map(len, read.parks.values())) == MOST

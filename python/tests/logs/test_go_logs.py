@@ -136,15 +136,14 @@ def test_steps_that_a_point_brings_besides_have_its_time() -> None:
     assert recording.times == [10, 20, 700, 700]
 
 
-def test_nrdb_reads_the_times_that_were_written() -> None:
+def test_nrdb_reads_the_times_that_were_written(folder: pathlib.Path) -> None:
     times = [17 * at * at for at in range(2_500)]
-    with tempfile.TemporaryDirectory() as folder:
-        name = pathlib.Path(folder, "x.where")
-        write_where(name, [0] * len(times), {}, times=times)
-        lines = SourceLines.beside(str(name.with_suffix(".jsonl")), len(times))
-        assert (lines.fault, list(lines.times)) == ("", times)
-        write_where(name, [0] * len(times), {}, times=times[:-1])
-        assert list(SourceLines.beside(str(name.with_suffix(".jsonl")), len(times)).times) == []
+    name = folder / "x.where"
+    write_where(name, [0] * len(times), {}, times=times)
+    lines = SourceLines.beside(str(name.with_suffix(".jsonl")), len(times))
+    assert (lines.fault, list(lines.times)) == ("", times)
+    write_where(name, [0] * len(times), {}, times=times[:-1])
+    assert list(SourceLines.beside(str(name.with_suffix(".jsonl")), len(times)).times) == []
 
 
 def stacks(*points: tuple[PointKind, int, int, int]) -> list[int]:
@@ -189,17 +188,16 @@ def test_what_is_no_log_is_said() -> None:
         read_log(pathlib.Path("/nowhere/log.1"))
 
 
-def test_a_copy_that_a_program_couldn_t_make_says_why() -> None:
-    with tempfile.TemporaryDirectory() as folder:
-        copy = pathlib.Path(folder, "log.1.snapshot")
-        copy.with_name(copy.name + ".failed.028").touch()
-        copy.with_name("log.2.snapshot.failed.005").touch()
-        with pytest.raises(NotALogError, match="couldn't copy its log: No space left on device"):
-            read_log(copy)
-        with pytest.raises(NotALogError, match="can't be read: No such file"):
-            read_log(copy.with_name("log.3.snapshot"))
-        copy.write_bytes(binary(opened(2)))
-        assert len(read_log(copy).points) == 4
+def test_a_copy_that_a_program_couldn_t_make_says_why(folder: pathlib.Path) -> None:
+    copy = folder / "log.1.snapshot"
+    copy.with_name(copy.name + ".failed.028").touch()
+    copy.with_name("log.2.snapshot.failed.005").touch()
+    with pytest.raises(NotALogError, match="couldn't copy its log: No space left on device"):
+        read_log(copy)
+    with pytest.raises(NotALogError, match="can't be read: No such file"):
+        read_log(copy.with_name("log.3.snapshot"))
+    copy.write_bytes(binary(opened(2)))
+    assert len(read_log(copy).points) == 4
 
 
 def test_a_log_that_is_cut_short_gives_what_is_whole() -> None:
@@ -316,17 +314,16 @@ def test_the_programs_line_comes_before_a_librarys() -> None:
     assert own_line(Calls(CALLS[:1], None)) is None
 
 
-def test_nrdb_reads_the_lines_that_were_written() -> None:
+def test_nrdb_reads_the_lines_that_were_written(folder: pathlib.Path) -> None:
     made = LineCall("main.main", "main.go", 18, "program")
-    with tempfile.TemporaryDirectory() as folder:
-        name = pathlib.Path(folder, "a.where")
-        write_where(name, [7, 0, 9, 7] * 600, {7: Calls(CALLS, made), 9: Calls((), None)})
-        told = SourceLines.beside(str(name.with_suffix(".jsonl")), 2_400)
-        assert not SourceLines.beside(str(name.with_suffix(".jsonl")), 2_399)
-        assert told.words(1) == "main.go:14 ext.Read"
-        assert (told.words(2), told.words(3), told.words(2_400)) == ("", "", "main.go:14 ext.Read")
-        made_at = told.of(1).made
-        assert (made_at and made_at.place()) == "main.go:18"
+    name = folder / "a.where"
+    write_where(name, [7, 0, 9, 7] * 600, {7: Calls(CALLS, made), 9: Calls((), None)})
+    told = SourceLines.beside(str(name.with_suffix(".jsonl")), 2_400)
+    assert not SourceLines.beside(str(name.with_suffix(".jsonl")), 2_399)
+    assert told.words(1) == "main.go:14 ext.Read"
+    assert (told.words(2), told.words(3), told.words(2_400)) == ("", "", "main.go:14 ext.Read")
+    made_at = told.of(1).made
+    assert (made_at and made_at.place()) == "main.go:18"
 
 
 def test_lines_of_another_form_are_none() -> None:
@@ -376,11 +373,10 @@ def test_addresses_become_lines(monkeypatch: pytest.MonkeyPatch) -> None:
     assert looked_up(pathlib.Path("p"), ["go"], [5, 4], 0) == {4: ("main.f", "/p/main.go", 14)}
 
 
-def test_without_go_there_is_a_recording_without_lines(monkeypatch: pytest.MonkeyPatch) -> None:
+def test_without_go_there_is_a_recording_without_lines(folder: pathlib.Path, monkeypatch: pytest.MonkeyPatch) -> None:
     monkeypatch.setattr(converting, "report", lambda *_: Conversion(True, []))
-    with tempfile.TemporaryDirectory() as folder:
-        log, name = pathlib.Path(folder, "log.1"), pathlib.Path(folder, "made.jsonl")
-        log.write_bytes(from_text((REAL / "past.log").read_text())[0])
-        assert convert(log, name, None, RecordingOptions()).taken
-        assert name.exists()
-        assert not name.with_suffix(".where").exists()
+    log, name = folder / "log.1", folder / "made.jsonl"
+    log.write_bytes(from_text((REAL / "past.log").read_text())[0])
+    assert convert(log, name, None, RecordingOptions()).taken
+    assert name.exists()
+    assert not name.with_suffix(".where").exists()
