@@ -159,7 +159,8 @@ def sentences_about_readers(folder: Path, source: str = READER, more: list[Any] 
 def test_one_for_each_call(folder: Path) -> None:
     (sentence,) = sentences_about_readers(folder)
     assert re.search(
-        r"^Perhaps bytes that it had read before are lost: a.go:4 makes a new reader with a buffer in each call\.", sentence
+        r"^Perhaps bytes that it had read before are lost: a.go:4 makes a new reader with a buffer in each call\.",
+        sentence,
     )
 
 

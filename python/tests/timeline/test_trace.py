@@ -26,6 +26,8 @@ from netrev.timeline.searched_cells import DEADLINES_AND_CLOCK, STATUSES, search
 from netrev.timeline.trace import AT_ONCE, Tracing, packed, together, write_events
 from tests.support.modelled import changes_in
 
+pytestmark = pytest.mark.together
+
 EXAMPLES = Path(__file__).resolve().parents[3] / "examples"
 REQUIRED = {
     "M": {"pid", "name", "args"},
