@@ -3,13 +3,18 @@
 import random
 import signal
 import tempfile
+from contextlib import ExitStack
+from functools import cache
 from pathlib import Path
 from typing import Any, Iterator
 
 import pytest
 from tests.program.support.sharing import NETREV, is_program
 
-PLAYED = Path(__file__).parent / "python/tests/program"
+pytest.register_assert_rewrite("tests.support")
+
+ROOT = Path(__file__).resolve().parent
+PLAYED = ROOT / "python/tests/program"
 IS_BUILT = is_program(NETREV)
 UNBUILT = f"{NETREV} is no program: `make netrev` builds it, and NETREV=FILE names another"
 
@@ -34,10 +39,10 @@ def pytest_configure() -> None:
 
 
 def pytest_collection_modifyitems(config: pytest.Config, items: list[pytest.Item]) -> None:
-    """Long tests come first. Test functions and rows of tables come last, because they fill the time in which processes would wait
-    for longer tests. Tests that need the built program are skipped if it isn't built. Tests that must run alone are skipped
-    under `-n`."""
-    items.sort(key=lambda item: (item.get_closest_marker("long") is None, item.getparent(pytest.Class) is None))
+    """Long tests come first, and then modules whose tests run together: the other tests fill the time in which processes
+    would wait for them. Tests that need the built program are skipped if it isn't built. Tests that must run alone are
+    skipped under `-n`."""
+    items.sort(key=lambda item: [item.get_closest_marker(name) is None for name in ("long", "together")])
     for item in items:
         if PLAYED in item.path.parents and not IS_BUILT:
             item.add_marker(pytest.mark.skip(reason=UNBUILT))
@@ -47,14 +52,18 @@ def pytest_collection_modifyitems(config: pytest.Config, items: list[pytest.Item
 
 @pytest.hookimpl(optionalhook=True)
 def pytest_xdist_make_scheduler(config: pytest.Config, log: Any) -> Any:
-    """With `-n`, one process runs all classes of a module, because they may share objects that take long to make. Any process
-    that is free runs a test function or a row of a table."""
+    """With `-n`, any process that is free runs a test, but one process runs all tests of a module with
+    `pytestmark = pytest.mark.together`, because they share an object that takes long to make."""
     from xdist.scheduler import LoadScopeScheduling
+
+    @cache
+    def is_together(module: str) -> bool:
+        return "pytest.mark.together" in (ROOT / module).read_text(encoding="utf-8")
 
     class Scheduling(LoadScopeScheduling):
         def _split_scope(self, nodeid: str) -> str:
-            module, *names = nodeid.partition("[")[0].split("::")
-            return module if len(names) > 1 else nodeid
+            module = nodeid.partition("::")[0]
+            return module if is_together(module) else nodeid
 
     return Scheduling(config, log)
 
@@ -90,3 +99,10 @@ def dice(request: pytest.FixtureRequest) -> random.Random:
     seed = request.config.getoption("--seed")
     print(f"--seed {seed}")
     return random.Random(seed)
+
+
+@pytest.fixture
+def cleanups() -> Iterator[ExitStack]:
+    """What is entered and called back here ends after the test, the last first."""
+    with ExitStack() as stack:
+        yield stack

@@ -8,8 +8,7 @@ import sys
 from collections.abc import Iterator
 from contextlib import ExitStack, contextmanager
 from pathlib import Path
-from typing import Any, Optional, cast
-from unittest import mock
+from typing import Any, Optional
 
 import pytest
 
@@ -25,6 +24,7 @@ from nrdb.dap.view import debuggee
 from nrdb.dap.view.debuggee import Debuggee
 from nrdb.dap.view.looking import GOIDS, NETWORK, maker_of, thread_of
 from nrdb.dap.view.messages import EditorStreams, Request, UnanswerableError
+from tests.support.stubs import raising, stub
 from tests.suspects.test_suspects import COMES, OPEN, READ, recording_of
 
 from .test_dap_heard import framed, messages_in
@@ -114,9 +114,10 @@ def test_where_a_launch_stops(stop_at: Any, is_taken: bool) -> None:
 
 @pytest.mark.parametrize("fault", ["", "no stack"])
 @pytest.mark.parametrize("begins", ["", "the recording begins at step 5"])
-def test_an_editor_is_told_what_a_recording_lacks(fault: str, begins: str) -> None:
-    lines = mock.Mock(fault=fault, why_unused=lambda path: f"{path}: {fault}")
-    debugged, target = mock.Mock(recording=mock.Mock(lines=lines)), mock.Mock()
+def test_an_editor_is_told_what_a_recording_lacks(monkeypatch: pytest.MonkeyPatch, fault: str, begins: str) -> None:
+    lines = stub(fault=fault, why_unused=lambda path: f"{path}: {fault}")
+    calls: list[str] = []
+    debugged = stub(recording=stub(lines=lines), length=0, say_nothing_yet=lambda: calls.append("say_nothing_yet"))
 
     @contextmanager
     def opened(*_: Any) -> Iterator[Any]:
@@ -125,40 +126,45 @@ def test_an_editor_is_told_what_a_recording_lacks(fault: str, begins: str) -> No
     written = io.BytesIO()
     wire = EditorStreams(io.BytesIO(), written)
     began = Adapter(wire, Reading(wire), "netrev")
-    with mock.patch.object(adapter, "debuggee", opened), mock.patch.object(adapter, "DebugTarget", target):
-        with mock.patch.object(adapter, "begin_words", lambda _: begins):
-            outcome = began._begin(Launch.of(Request(1, "launch", {"program": "x.jsonl"})))
+    monkeypatch.setattr(adapter, "debuggee", opened)
+    monkeypatch.setattr(adapter, "DebugTarget", lambda *_: stub(moves=stub(goto=lambda *_: None)))
+    monkeypatch.setattr(adapter, "begin_words", lambda _: begins)
+    outcome = began._begin(Launch.of(Request(1, "launch", {"program": "x.jsonl"})))
     told = [one["body"]["output"] for one in messages_in(written.getvalue()) if one.get("event") == "output"]
     assert told == [*([f"| x.jsonl: {fault}\n"] if fault else []), *([f"| {begins}\n"] if begins else [])]
     assert outcome.event == "initialized"
-    debugged.say_nothing_yet.assert_called_once_with()
+    assert calls == ["say_nothing_yet"]
 
 
 @pytest.mark.parametrize(
     ("sent", "status", "says"), [(b"", 0, ""), (INITIALIZE, 0, ""), (framed(1, "disconnect"), 0, ""), (b"Hello\r\n\r\n", 3, "nrdb --dap: ")]
 )  # fmt: skip
-def test_the_exit_status(sent: bytes, status: int, says: str, capsys: pytest.CaptureFixture[str]) -> None:
+def test_the_exit_status(
+    monkeypatch: pytest.MonkeyPatch, sent: bytes, status: int, says: str, capsys: pytest.CaptureFixture[str]
+) -> None:
     assert serving.serve(EditorStreams(io.BytesIO(sent), io.BytesIO()), "netrev") == status
     assert capsys.readouterr().err.startswith(says)
-    with mock.patch.object(Adapter, "serve", side_effect=BrokenPipeError):
-        assert serving.serve(EditorStreams(io.BytesIO(), io.BytesIO()), "netrev") == 3
+    monkeypatch.setattr(Adapter, "serve", raising(BrokenPipeError))
+    assert serving.serve(EditorStreams(io.BytesIO(), io.BytesIO()), "netrev") == 3
 
 
-def test_an_editor_is_served_over_the_standard_streams() -> None:
+def test_an_editor_is_served_over_the_standard_streams(monkeypatch: pytest.MonkeyPatch) -> None:
     reader, writer = os.pipe()
     os.write(writer, INITIALIZE)
     os.close(writer)
-    with open(reader, "rb") as stdin, mock.patch.object(sys, "stdin", stdin):
+    with open(reader, "rb") as stdin, monkeypatch.context() as patch:
+        patch.setattr(sys, "stdin", stdin)
         written = io.BytesIO()
-        with mock.patch.object(sys, "stdout", mock.Mock(buffer=written)):
-            assert serving.serve_streams("netrev") == 0
+        patch.setattr(sys, "stdout", stub(buffer=written))
+        assert serving.serve_streams("netrev") == 0
         assert not stdin.closed
     (answer, *_) = messages_in(written.getvalue())
     assert (answer["command"], answer["success"]) == ("initialize", True)
 
 
-def test_who_says_nothing_delays_nobody_and_is_ended() -> None:
-    with socket.create_server(("127.0.0.1", 0)) as listening, mock.patch.object(handshakes, "IN_TIME", 0.3):
+def test_who_says_nothing_delays_nobody_and_is_ended(monkeypatch: pytest.MonkeyPatch) -> None:
+    monkeypatch.setattr(handshakes, "IN_TIME", 0.3)
+    with socket.create_server(("127.0.0.1", 0)) as listening:
         shaking = handshakes.Handshakes(listening, TOKEN)
         with socket.create_connection(listening.getsockname()) as silent:
             with socket.create_connection(listening.getsockname()) as editor:
@@ -173,10 +179,9 @@ def test_who_says_nothing_delays_nobody_and_is_ended() -> None:
                 connection.close()
 
 
-def test_of_many_who_say_nothing_the_oldest_is_ended() -> None:
-    with socket.create_server(("127.0.0.1", 0)) as listening, mock.patch.object(
-        handshakes, "MOST", 2
-    ), ExitStack() as opened:
+def test_of_many_who_say_nothing_the_oldest_is_ended(monkeypatch: pytest.MonkeyPatch) -> None:
+    monkeypatch.setattr(handshakes, "MOST", 2)
+    with socket.create_server(("127.0.0.1", 0)) as listening, ExitStack() as opened:
         handshakes.Handshakes(listening, TOKEN)
         silent = [opened.enter_context(socket.create_connection(listening.getsockname())) for _ in range(3)]
         silent[0].settimeout(60)
@@ -199,10 +204,11 @@ def test_a_port_can_be_served_again_at_once(capsys: pytest.CaptureFixture[str]) 
                 accepted, _ = listening.accept()
                 accepted.close()
                 assert editor.recv(1) == b""
-            return mock.Mock(next=mock.Mock(side_effect=KeyboardInterrupt))
+            return stub(next=raising(KeyboardInterrupt))
 
         ports: list[int] = []
-        with mock.patch.object(serving, "Handshakes", connected):
+        with pytest.MonkeyPatch.context() as patch:
+            patch.setattr(serving, "Handshakes", connected)
             return serving.serve_port("netrev", port), ports[-1] if ports else 0
 
     status, port = served(0)
@@ -218,9 +224,9 @@ def test_a_port_that_cannot_be_served(port: int, capsys: pytest.CaptureFixture[s
 
 
 @pytest.mark.parametrize("token", ["short", "\u00e4" * 40, "line\n" * 10])
-def test_a_token_that_is_none(token: str, capsys: pytest.CaptureFixture[str]) -> None:
-    with mock.patch.dict(os.environ, {NAMED_BY: token}):
-        assert serving.serve_port("netrev", 0) == 2
+def test_a_token_that_is_none(monkeypatch: pytest.MonkeyPatch, token: str, capsys: pytest.CaptureFixture[str]) -> None:
+    monkeypatch.setenv(NAMED_BY, token)
+    assert serving.serve_port("netrev", 0) == 2
     assert capsys.readouterr().err.startswith("nrdb --dap-port: ")
 
 
@@ -229,23 +235,23 @@ def test_a_token_that_is_none(token: str, capsys: pytest.CaptureFixture[str]) ->
 
 def debugged(position: int) -> Debuggee:
     recording = recording_of(OPEN + READ + COMES + [["tick", 5]] + [["rwunlock", 1, 0, "r"], ["tick", 9], ["tick", 12]])
-    return Debuggee(cast(Any, mock.Mock(stood=position)), recording, Collecting(), "x.jsonl")
+    return Debuggee(stub(stood=position), recording, Collecting(), "x.jsonl")
 
 
 MAKERS = [None, None, None, 0, 1, 1, 1, None, None, None, 1, None, None]  # of the steps from 1 on
 
 
 @pytest.mark.parametrize("position", range(len(MAKERS)))
-def test_the_steps_of_a_thread(position: int) -> None:
+def test_the_steps_of_a_thread(monkeypatch: pytest.MonkeyPatch, position: int) -> None:
     shown = debugged(position)
     assert [shown.maker(number) for number in range(1, len(MAKERS))] == MAKERS[1:]
     assert shown.maker_here() == MAKERS[min(position + 1, len(MAKERS) - 1)]
     for maker in (None, 0, 1, 2):
         made = [number for number in range(1, position + 1) if MAKERS[number] == maker]
         assert shown.last_step_of(maker) == max(made, default=0)
-    with mock.patch.object(debuggee, "FAR", 2):  # a search for a step that no goroutine makes ends after FAR steps
-        near = [number for number in range(max(position - 1, 1), position + 1) if MAKERS[number] is None]
-        assert shown.last_step_of(None) == max(near, default=0)
+    monkeypatch.setattr(debuggee, "FAR", 2)
+    near = [number for number in range(max(position - 1, 1), position + 1) if MAKERS[number] is None]
+    assert shown.last_step_of(None) == max(near, default=0)
 
 
 def test_the_step_on_a_line_or_after_it() -> None:

@@ -1,9 +1,7 @@
 """Copies of the recorded run change nothing: the findings are the same as when each schedule runs from its first step to its last."""
 
-import unittest
 from pathlib import Path
 from typing import Any, Optional
-from unittest.mock import patch
 
 import pytest
 from dev.fuzz.generators.injections import Traffic
@@ -42,53 +40,68 @@ def outcome(exploring: Search, schedule: Schedule) -> Any:
         return keys, str(impossible)
 
 
-class ShortCuts(unittest.TestCase):
-    def setUp(self) -> None:
+class ShortCuts:
+    """Compares a search with one that takes no short cuts, and counts the short cuts."""
+
+    def __init__(self) -> None:
         self.came_back = self.had_rest = 0
 
-    def assert_the_same(self, recording: Recording) -> None:
+    def compare(self, recording: Recording) -> None:
         """Explores a recording in both ways."""
         script = script_of(recording)
         short = Search(script, recording.lines.words)
         plain = PlainSearch(script, recording.lines.words)
-        self.assertEqual(short.recorded, plain.recorded)
+        assert short.recorded == plain.recorded
         for schedule in list(schedules(short.delays, MOST))[::AT_ONCE]:
-            self.assert_ends_the_same(short, plain, schedule)
+            self.compare_ends(short, plain, schedule)
         for name in ("found", "times", "known", "tried", "impossible", "seed", "delays"):
-            self.assertEqual(getattr(short, name), getattr(plain, name), name)
-        self.assertEqual(list(short.found), list(plain.found))
+            assert getattr(short, name) == getattr(plain, name), name
+        assert list(short.found) == list(plain.found)
 
-    def assert_ends_the_same(self, short: Search, plain: Search, schedule: Schedule) -> None:
-        with patch.object(short, "_with_the_rest", side_effect=short._with_the_rest) as with_the_rest:
+    def compare_ends(self, short: Search, plain: Search, schedule: Schedule) -> None:
+        with_the_rest, calls = short._with_the_rest, []
+
+        def counted(*arguments: Any) -> Any:
+            calls.append(arguments)
+            return with_the_rest(*arguments)
+
+        with pytest.MonkeyPatch.context() as patch:
+            patch.setattr(short, "_with_the_rest", counted)
             keys, played = outcome(short, schedule)
-        self.had_rest += with_the_rest.called
+        self.had_rest += bool(calls)
         plain_keys, plain_played = outcome(plain, schedule)
-        self.assertEqual(keys, plain_keys, schedule)
+        assert keys == plain_keys, schedule
         if played is not None:
-            self.assertEqual(played, plain_played, schedule)
+            assert played == plain_played, schedule
         else:
             self.came_back += 1
-            self.assertLessEqual(plain_played.has_news, plain.recorded.has_news)
+            assert plain_played.has_news <= plain.recorded.has_news
             statuses, recorded = plain_played.world.goroutines, plain.recorded.world.goroutines
-            self.assertEqual([one[0] for one in statuses], [one[0] for one in recorded])
-            self.assertEqual(plain_played.places, plain.recorded.places)
-
-    def test_in_recordings_of_real_programs(self) -> None:
-        self.in_all(REAL)
-
-    def test_in_races(self) -> None:
-        self.in_all(RACES)
-        self.assertGreater(self.had_rest, 5)
+            assert [one[0] for one in statuses] == [one[0] for one in recorded]
+            assert plain_played.places == plain.recorded.places
 
     def in_all(self, paths: list[Path]) -> None:
-        self.assertGreater(len(paths), 5)
+        assert len(paths) > 5
         for path in paths:
-            with self.subTest(path.stem):
-                self.assert_the_same(answered(path))
-        self.assertGreater(self.came_back, len(paths))
+            self.compare(answered(path))
+        assert self.came_back > len(paths)
 
-    def test_in_random_traffic(self) -> None:
-        for seed in TRAFFIC:
-            with self.subTest(seed):
-                self.assert_the_same(with_answers(Recording(Traffic(seed, None, LENGTH).run().text())))
-        self.assertGreater(self.came_back, 5)
+
+@pytest.fixture
+def comparison() -> ShortCuts:
+    return ShortCuts()
+
+
+def test_in_recordings_of_real_programs(comparison: ShortCuts) -> None:
+    comparison.in_all(REAL)
+
+
+def test_in_races(comparison: ShortCuts) -> None:
+    comparison.in_all(RACES)
+    assert comparison.had_rest > 5
+
+
+def test_in_random_traffic(comparison: ShortCuts) -> None:
+    for seed in TRAFFIC:
+        comparison.compare(with_answers(Recording(Traffic(seed, None, LENGTH).run().text())))
+    assert comparison.came_back > 5

@@ -1,8 +1,7 @@
 """The text about findings in terms of calls, and the target of a finding's reduced recording and of a report."""
 
 from collections import Counter
-from typing import Any, Optional, cast
-from unittest import mock
+from typing import Any, Callable, Optional
 
 import pytest
 
@@ -17,6 +16,7 @@ from netrev.reduce import report
 from netrev.reduce.reduced import Reduced, Wanted
 from netrev.reduce.units import UnitKind
 from netrev.run.index import run_of
+from tests.support.stubs import stub
 from tests.suspects.test_suspects import COMES, OPEN, READ, Steps, recording_of
 
 READS: Steps = [*READ, ["rwunlock", 1, 0, "r"]]
@@ -69,7 +69,7 @@ def test_a_delay_is_described_by_its_calls(before: int, until: int, says: str) -
 def test_the_summary_of_all_schedules(
     played: int, delays: int, seed: int, taken_over: int, left: int, found: int, stopped: bool, says: str
 ) -> None:
-    exploring = mock.Mock(tried=played, delays=[None] * delays, seed=seed, taken_over=taken_over, impossible=left)
+    exploring = stub(tried=played, delays=[None] * delays, seed=seed, taken_over=taken_over, impossible=left)
     exploring.found = dict.fromkeys(range(found))
     assert summary(exploring, 1.5, stopped) == says
 
@@ -88,10 +88,10 @@ FOUND = [suspect("a", False), suspect("b"), suspect("b", socket=1), suspect("c",
     ("one", "number"),
     [(FOUND[1], 1), (FOUND[2], 2), (FOUND[3], 3), (FOUND[0], 1), (suspect("c", goroutine=3), 1), (suspect("d"), 1)],
 )
-def test_a_suspect_is_reduced_by_its_number(one: Suspect, number: int) -> None:
+def test_a_suspect_is_reduced_by_its_number(monkeypatch: pytest.MonkeyPatch, one: Suspect, number: int) -> None:
     """The number counts only the shown suspects of the finding's own recording. A suspect that isn't among them gets 1."""
-    with mock.patch.object(commands, "suspects_of", return_value=mock.Mock(suspects=FOUND)):
-        wanted = FindingFiles(mock.Mock(), mock.Mock())._wanted(mock.Mock(length=9), mock.Mock(suspect=one))
+    monkeypatch.setattr(commands, "suspects_of", lambda *_, **__: stub(suspects=FOUND))
+    wanted = FindingFiles(stub(), stub())._wanted(stub(length=9), stub(suspect=one))
     assert wanted == Wanted(number, "", "", 9)
 
 
@@ -101,16 +101,25 @@ def test_a_suspect_is_reduced_by_its_number(one: Suspect, number: int) -> None:
         (7, 8, Wanted(0, "", "", 9, steps=(1, 2))), (7, None, Wanted(0, "", "", 9, 3, (4, 5))), (None, None, Wanted(0, "", "", 9, 3, (4, 5))),
     ],
 )  # fmt: skip
-def test_a_failure_or_a_hang_is_reduced_with_its_steps(failed: Any, reason: Any, wanted: Wanted) -> None:
-    finding = mock.Mock(suspect=None, reason=reason, hangs=3, run=mock.Mock(failed=failed, places=[0, 1, 2, 3]))
-    with mock.patch.object(commands, "stays_of", return_value=(1, 2)) as stays:
-        with mock.patch.object(commands, "moved_by", return_value=(4, 5)) as moved:
-            telling, whole = mock.Mock(), mock.Mock(length=9)
-            assert FindingFiles(mock.Mock(), telling)._wanted(whole, finding) == wanted
-    if wanted.hangs == 3:
-        moved.assert_called_once_with(telling.script, 3, 3, finding.run.steps)
-    else:
-        stays.assert_called_once_with(telling.script, 7, 8, finding.run.steps)
+def test_a_failure_or_a_hang_is_reduced_with_its_steps(
+    monkeypatch: pytest.MonkeyPatch, failed: Any, reason: Any, wanted: Wanted
+) -> None:
+    schedule = stub(failed=failed, places=[0, 1, 2, 3], steps=object())
+    finding, sentences = stub(suspect=None, reason=reason, hangs=3, run=schedule), stub(script=object())
+    calls: list[tuple[Any, ...]] = []
+
+    def function_of(name: str, steps: tuple[int, int]) -> Callable[..., tuple[int, int]]:
+        def function(*arguments: Any) -> tuple[int, int]:
+            calls.append((name, *arguments))
+            return steps
+
+        return function
+
+    monkeypatch.setattr(commands, "stays_of", function_of("stays_of", (1, 2)))
+    monkeypatch.setattr(commands, "moved_by", function_of("moved_by", (4, 5)))
+    assert FindingFiles(stub(), sentences)._wanted(stub(length=9), finding) == wanted
+    name, numbers = ("moved_by", (3, 3)) if wanted.hangs == 3 else ("stays_of", (7, 8))
+    assert calls == [(name, sentences.script, *numbers, schedule.steps)]
 
 
 # ---- reports
@@ -137,11 +146,11 @@ def table_of(*rules: str) -> Table:
         (3, ["# three", "Three at 1.", "- netrev: `answer 1`", "- main.go:7", "In the whole recording: three at 3."]),
     ],
 )
-def test_a_report_begins_with_its_own_suspect(number: int, head: list[str]) -> None:
+def test_a_report_begins_with_its_own_suspect(monkeypatch: pytest.MonkeyPatch, number: int, head: list[str]) -> None:
     """The reduced recording may show the suspects in another order."""
-    session = cast(Any, mock.Mock())
-    with mock.patch.object(report, "suspects_table", return_value=table_of("one", "two", "three")):
-        found = report._of_suspect(session, table_of("three", "two", "one"), Wanted(number, "", "", 9))
+    session = stub(looks=stub, text=stub)
+    monkeypatch.setattr(report, "suspects_table", lambda *_, **__: table_of("one", "two", "three"))
+    found = report._of_suspect(session, table_of("three", "two", "one"), Wanted(number, "", "", 9))
     assert [line.replace("\\", "") for line in found] == head
 
 

@@ -2,11 +2,8 @@
 it are removed too; and new numbers are assigned."""
 
 import random
-import tempfile
-import unittest
 from pathlib import Path
 from typing import Any
-from unittest.mock import patch
 
 import pytest
 
@@ -54,116 +51,120 @@ def told(player: ReplayPlayer) -> list[str]:
     return [line_of(step, None) for step, _ in player.steps]
 
 
-class Units(unittest.TestCase):
-    def kinds(self, steps: Steps) -> list[list[str]]:
-        """The kinds of the steps of each unit."""
-        _, units, events = player_of(recording_of(steps))
-        return [[events.all[place].kind for place in unit.events] for unit in units]
-
-    def test_a_call_is_from_rest_to_rest(self) -> None:
-        self.assertEqual(self.kinds(OPEN + CALL)[-1], ["rwlock", "pollreset", "sysread", "rwunlock"])
-
-    def test_a_timer_that_goes_off_twice_before_it_is_run_is_two(self) -> None:
-        late: Steps = [["tick", 17], ["pop"]]
-        twice: Steps = [["setdeadline", 0, 0, "w", 3], *late, ["setdeadline", 0, 0, "w", 3], ["tick", 40], ["pop"]]
-        for runs, wanted in (([0, 0], [[6, 10], [9, 11]]), ([1, 0], [[6, 11], [9, 10]])):
-            _, units, events = player_of(recording_of(OPEN + twice + [["fire", place] for place in runs]))
-            found = [[events.all[place].number for place in unit.events] for unit in units]
-            self.assertEqual([one for one in found if len(one) > 1], wanted)
-
-    def test_a_reference_that_is_kept_is_no_call_for_ever(self) -> None:
-        self.assertEqual(self.kinds(OPEN + [["incref", 1, 0]] + CALL)[-2:], [["incref"], [step[0] for step in CALL]])
-
-    def test_bytes_go_with_their_event_and_the_freeing_with_its_close(self) -> None:
-        self.assertEqual(self.kinds(OPEN + COMES)[-1], ["arrive", "pollevent"])
-        self.assertIn(["increfclose", "evict", "decref", "pollclose"], self.kinds(OPEN + USED_AGAIN))
-
-    def test_each_step_is_in_one_unit(self) -> None:
-        for path in sorted(EXAMPLES.glob("real/*.jsonl")):
-            _, units, events = player_of(Recording.read(str(path)))
-            places = sorted(place for unit in units for place in unit.events)
-            self.assertEqual(places, list(range(len(events.all))))
+def kinds(steps: Steps) -> list[list[str]]:
+    """The kinds of the steps of each unit."""
+    _, units, events = player_of(recording_of(steps))
+    return [[events.all[place].kind for place in unit.events] for unit in units]
 
 
-class Playing(unittest.TestCase):
-    def test_all_units_are_the_recording(self) -> None:
-        recordings = [Recording.read(str(path)) for path in sorted(EXAMPLES.glob("real/*.jsonl"))]
-        recordings += [recording_of(OPEN + READ + PARK + PAST + BACK + LOOKS), recording_of(OPEN + USED_AGAIN)]
-        for recording in recordings:
-            player, units, _ = player_of(recording)
-            self.assertEqual(player.settle(range(len(units))), set(range(len(units))))
-            steps: list[Any] = [values[:-1] for values in recording.arrays()]
-            self.assertEqual(
-                [[part.hex() if isinstance(part, bytes) else part for part in step] for step, _ in player.steps], steps
-            )
+def test_a_call_is_from_rest_to_rest() -> None:
+    assert kinds(OPEN + CALL)[-1] == ["rwlock", "pollreset", "sysread", "rwunlock"]
 
-    def test_numbers_are_made_anew(self) -> None:
-        player, units, events = player_of(recording_of(OPEN + USED_AGAIN + [["pollevent", 0, 2, "rw", 1], ["spawn"]]))
-        kept = {at for at, unit in enumerate(units) if events.all[unit.events[0]].kind != "increfclose"}
-        first = {at for at in kept if events.all[units[at].events[0]].number in (2, 3)}
-        player.settle(kept - first)
-        self.assertEqual(
-            told(player),
-            ['["spawn"]', '["sockopen",16,16]', '["pollopen",0,0]', '["pollevent",0,1,"rw",1]', '["spawn"]'],
-        )
 
-    def test_what_no_longer_goes_is_left_out(self) -> None:
-        player, units, events = player_of(recording_of(OPEN + READ + PARK + COMES + LOOKS[:1] + PAST[:1]))
-        without = {at for at, unit in enumerate(units) if events.all[unit.events[0]].kind != "arrive"}
-        left = player.settle(without)
-        self.assertLess(len(left), len(without))  # (the read that waited is left out too)
-        self.assertNotIn("blockswap", [step[0] for step, _ in player.steps])
+def test_a_timer_that_goes_off_twice_before_it_is_run_is_two() -> None:
+    late: Steps = [["tick", 17], ["pop"]]
+    twice: Steps = [["setdeadline", 0, 0, "w", 3], *late, ["setdeadline", 0, 0, "w", 3], ["tick", 40], ["pop"]]
+    for runs, wanted in (([0, 0], [[6, 10], [9, 11]]), ([1, 0], [[6, 11], [9, 10]])):
+        _, units, events = player_of(recording_of(OPEN + twice + [["fire", place] for place in runs]))
+        found = [[events.all[place].number for place in unit.events] for unit in units]
+        assert [one for one in found if len(one) > 1] == wanted
 
-    def test_goes_back_to_the_same_state(self) -> None:
-        recording = Recording.read(str(EXAMPLES / "real/hijacked.jsonl"))
+
+def test_a_reference_that_is_kept_is_no_call_for_ever() -> None:
+    assert kinds(OPEN + [["incref", 1, 0]] + CALL)[-2:] == [["incref"], [step[0] for step in CALL]]
+
+
+def test_bytes_go_with_their_event_and_the_freeing_with_its_close() -> None:
+    assert kinds(OPEN + COMES)[-1] == ["arrive", "pollevent"]
+    assert ["increfclose", "evict", "decref", "pollclose"] in kinds(OPEN + USED_AGAIN)
+
+
+def test_each_step_is_in_one_unit() -> None:
+    for path in sorted(EXAMPLES.glob("real/*.jsonl")):
+        _, units, events = player_of(Recording.read(str(path)))
+        places = sorted(place for unit in units for place in unit.events)
+        assert places == list(range(len(events.all)))
+
+
+def test_all_units_are_the_recording() -> None:
+    recordings = [Recording.read(str(path)) for path in sorted(EXAMPLES.glob("real/*.jsonl"))]
+    recordings += [recording_of(OPEN + READ + PARK + PAST + BACK + LOOKS), recording_of(OPEN + USED_AGAIN)]
+    for recording in recordings:
         player, units, _ = player_of(recording)
-        for skipped in (90, 60, 40, 11, 62, 2):
-            kept = set(range(len(units))) - {skipped}
-            fresh, _, _ = player_of(recording)
-            self.assertEqual(player.settle(kept), fresh.settle(kept))
-            self.assertEqual(told(player), told(fresh))
-            self.assertEqual((player.world, player.numbers), (fresh.world, fresh.numbers))
+        assert player.settle(range(len(units))) == set(range(len(units)))
+        steps: list[Any] = [values[:-1] for values in recording.arrays()]
+        assert [[part.hex() if isinstance(part, bytes) else part for part in step] for step, _ in player.steps] == steps
 
 
-class Targets(unittest.TestCase):
-    def test_a_cell_of_a_timer_keeps_the_deadline(self) -> None:
-        traffic = OPEN + CALL + CALL + [["spawn"], ["sockopen", 16, 16], ["tick", 3]]
-        recording = recording_of(traffic + [["setdeadline", 0, 0, "r", 5], ["incref", 0, 0]] + PASSES + CALL)
-        player, units, events = player_of(recording)
-        target = CellTarget(events, "rd 0", "-1", recording.length)
-        Shrinking(player, events, units, target).run()
-        kinds = [step[0] for step, _ in player.steps]
-        self.assertEqual(kinds, ["sockopen", "pollopen", "setdeadline", "tick", "pop", "fire"])
+def test_numbers_are_made_anew() -> None:
+    player, units, events = player_of(recording_of(OPEN + USED_AGAIN + [["pollevent", 0, 2, "rw", 1], ["spawn"]]))
+    kept = {at for at, unit in enumerate(units) if events.all[unit.events[0]].kind != "increfclose"}
+    first = {at for at in kept if events.all[units[at].events[0]].number in (2, 3)}
+    player.settle(kept - first)
+    assert told(player) == [
+        '["spawn"]',
+        '["sockopen",16,16]',
+        '["pollopen",0,0]',
+        '["pollevent",0,1,"rw",1]',
+        '["spawn"]',
+    ]
 
 
-class Completion(unittest.TestCase):
-    def test_a_cell_is_completed_behind_the_file(self) -> None:
-        for command in ("reduce", "report"):
-            self.assertIn("lock", candidates([command, "x.jsonl"], lambda of: ["7"]))
-            self.assertEqual(candidates([command, "x.jsonl", "gor"], lambda of: ["7"]), ["7"])
-            self.assertIn("parked", candidates([command, "x.jsonl", "gor", "7"], lambda of: ["7"]))
-            self.assertEqual(candidates([command], lambda of: ["7"]), [])
+def test_what_no_longer_goes_is_left_out() -> None:
+    player, units, events = player_of(recording_of(OPEN + READ + PARK + COMES + LOOKS[:1] + PAST[:1]))
+    without = {at for at, unit in enumerate(units) if events.all[unit.events[0]].kind != "arrive"}
+    left = player.settle(without)
+    assert len(left) < len(without)  # (the read that waited is left out too)
+    assert "blockswap" not in [step[0] for step, _ in player.steps]
 
 
-class Where(unittest.TestCase):
-    def test_lines_are_those_of_the_steps_that_are_kept(self) -> None:
-        recording = Recording.read(str(EXAMPLES / "real/past.jsonl"))
-        numbers = [5, 9, 30, 31, recording.length]
-        lines = SourceLines(where_text(recording.lines, numbers), len(numbers))
-        self.assertEqual([lines.of(at) for at in range(1, 6)], [recording.lines.of(number) for number in numbers])
-        self.assertTrue(any(lines.words(at) for at in range(1, 6)))
+def test_goes_back_to_the_same_state() -> None:
+    recording = Recording.read(str(EXAMPLES / "real/hijacked.jsonl"))
+    player, units, _ = player_of(recording)
+    for skipped in (90, 60, 40, 11, 62, 2):
+        kept = set(range(len(units))) - {skipped}
+        fresh, _, _ = player_of(recording)
+        assert player.settle(kept) == fresh.settle(kept)
+        assert told(player) == told(fresh)
+        assert (player.world, player.numbers) == (fresh.world, fresh.numbers)
 
-    def test_lines_of_another_recording_go(self) -> None:
-        lines = Recording.read(str(EXAMPLES / "real/past.jsonl")).lines
-        with tempfile.TemporaryDirectory() as folder:
-            path, beside = f"{folder}/x.jsonl", Path(folder) / "x.where"
-            write_recording(path, "", b"steps", lines, [5, 9])
-            self.assertEqual((Path(path).read_bytes(), SourceLines.beside(path, 2).of(2)), (b"steps", lines.of(9)))
-            write_recording(path, "", b"steps", SourceLines(), [1])
-            self.assertFalse(beside.exists())
-            beside.write_text("mine")
-            write_recording(path, "", b"steps", SourceLines(), [1])
-            self.assertEqual(beside.read_text(), "mine")
+
+def test_a_cell_of_a_timer_keeps_the_deadline() -> None:
+    traffic = OPEN + CALL + CALL + [["spawn"], ["sockopen", 16, 16], ["tick", 3]]
+    recording = recording_of(traffic + [["setdeadline", 0, 0, "r", 5], ["incref", 0, 0]] + PASSES + CALL)
+    player, units, events = player_of(recording)
+    target = CellTarget(events, "rd 0", "-1", recording.length)
+    Shrinking(player, events, units, target).run()
+    kinds = [step[0] for step, _ in player.steps]
+    assert kinds == ["sockopen", "pollopen", "setdeadline", "tick", "pop", "fire"]
+
+
+def test_a_cell_is_completed_behind_the_file() -> None:
+    for command in ("reduce", "report"):
+        assert "lock" in candidates([command, "x.jsonl"], lambda of: ["7"])
+        assert candidates([command, "x.jsonl", "gor"], lambda of: ["7"]) == ["7"]
+        assert "parked" in candidates([command, "x.jsonl", "gor", "7"], lambda of: ["7"])
+        assert candidates([command], lambda of: ["7"]) == []
+
+
+def test_lines_are_those_of_the_steps_that_are_kept() -> None:
+    recording = Recording.read(str(EXAMPLES / "real/past.jsonl"))
+    numbers = [5, 9, 30, 31, recording.length]
+    lines = SourceLines(where_text(recording.lines, numbers), len(numbers))
+    assert [lines.of(at) for at in range(1, 6)] == [recording.lines.of(number) for number in numbers]
+    assert any(lines.words(at) for at in range(1, 6))
+
+
+def test_lines_of_another_recording_go(folder: Path) -> None:
+    lines = Recording.read(str(EXAMPLES / "real/past.jsonl")).lines
+    path, beside = f"{folder}/x.jsonl", folder / "x.where"
+    write_recording(path, "", b"steps", lines, [5, 9])
+    assert (Path(path).read_bytes(), SourceLines.beside(path, 2).of(2)) == (b"steps", lines.of(9))
+    write_recording(path, "", b"steps", SourceLines(), [1])
+    assert not beside.exists()
+    beside.write_text("mine")
+    write_recording(path, "", b"steps", SourceLines(), [1])
+    assert beside.read_text() == "mine"
 
 
 def reopened(socket: int) -> Steps:
@@ -196,7 +197,7 @@ def settled(recording: Recording, kept: set[int]) -> tuple[set[int], list[str]]:
 
 
 @pytest.mark.parametrize("name", ["real/hijacked", "real/half", "real/lost", "stale-deadline"])
-def test_units_are_dropped_until_all_apply(name: str) -> None:
+def test_units_are_dropped_until_all_apply(monkeypatch: pytest.MonkeyPatch, name: str) -> None:
     recording = with_answers(Recording.read(str(EXAMPLES / f"{name}.jsonl")))
     player, units, _ = player_of(recording)
     dice, dropped = random.Random(name), 0
@@ -209,10 +210,10 @@ def test_units_are_dropped_until_all_apply(name: str) -> None:
 
 
 @pytest.mark.parametrize(("numbers", "times"), [([1, 2, 3], [10, 12, 15]), ([2, 5, 6], [12, 27, 38]), ([6], [38])])
-def test_steps_keep_their_times(numbers: list[int], times: list[int]) -> None:
+def test_steps_keep_their_times(monkeypatch: pytest.MonkeyPatch, numbers: list[int], times: list[int]) -> None:
     lines = Recording.read(str(EXAMPLES / "real/past.jsonl")).lines
-    with patch.object(lines, "times", [10, 12, 15, 20, 27, 38]):
-        assert list(SourceLines(where_text(lines, numbers), len(numbers)).times) == times
+    monkeypatch.setattr(lines, "times", [10, 12, 15, 20, 27, 38])
+    assert list(SourceLines(where_text(lines, numbers), len(numbers)).times) == times
 
 
 def test_ctrl_c_is_looked_for_while_steps_are_replayed() -> None:

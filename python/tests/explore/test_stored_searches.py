@@ -11,9 +11,8 @@ import re
 import sys
 import tempfile
 from collections.abc import Iterator
-from contextlib import ExitStack, contextmanager
+from contextlib import contextmanager
 from pathlib import Path
-from unittest import mock
 
 import pytest
 
@@ -58,12 +57,12 @@ def own(_: str, path: str, interrupts: Interrupts) -> Modelled:
 @contextmanager
 def modelled() -> Iterator[None]:
     """In this context, the model answers instead of netrev, and one process runs the schedules."""
-    with ExitStack() as patched:
+    with pytest.MonkeyPatch.context() as patch:
         for module in ANSWERED:
-            patched.enter_context(mock.patch(f"netrev.{module}.answered_by", answered_by))
-        patched.enter_context(mock.patch("netrev.reduce.report.Own", own))
-        patched.enter_context(mock.patch("netrev.reduce.report.read_with_changes", read_with_changes))
-        patched.enter_context(mock.patch("netrev.explore.commands.processors", lambda: 1))
+            patch.setattr(f"netrev.{module}.answered_by", answered_by)
+        patch.setattr("netrev.reduce.report.Own", own)
+        patch.setattr("netrev.reduce.report.read_with_changes", read_with_changes)
+        patch.setattr("netrev.explore.commands.processors", lambda: 1)
         yield
 
 

@@ -6,10 +6,11 @@ import contextlib
 import json
 import os
 import re
-import unittest
 from pathlib import Path
 from typing import Any, Iterator, NamedTuple
-from unittest.mock import patch
+from unittest import mock
+
+import pytest
 
 from dev.fuzz.generators.injections import Traffic
 from netrev.findings.causes import errors_table, first_words
@@ -148,152 +149,168 @@ def in_the_folder_of_the_source(source: Path = SOURCE) -> Iterator[None]:
         os.chdir(here)
 
 
-class Causes(unittest.TestCase):
-    def test_the_line_of_each_bug_is_said_first(self) -> None:
-        for name in ALL:
-            recording = Recording.read(str(CAUSED / f"{name}-bad.jsonl"))
-            recording.lines.written = float("inf")  # (a clone's files are newer than the recording)
-            with self.subTest(name), in_the_folder_of_the_source(source_of(name)):
-                told = "\n".join(first_words(recording, name))
-                self.assertEqual(re.search(rf"{bug_line(name)}\b", told) is not None, name not in WITHOUT_A_LINE, told)
-
-    def test_good_runs_have_no_suspect(self) -> None:
-        for name in ALL:
-            with self.subTest(name):
-                self.assertEqual(rules_of(Recording.read(str(CAUSED / f"{name}-good.jsonl"))), [])
-
-    def test_what_is_said_of_a_timeout(self) -> None:
-        told = first_words(Recording.read(str(CAUSED / "pool-bad.jsonl")), "pool.jsonl")
-        self.assertRegex(
-            told[0], r"cause:  Read at main.go:\d+ in ask, called at main.go:\d+ \(goroutine 0\) ended with a timeout\."
-        )
-        self.assertRegex(
-            told[1],
-            r" Its deadline was set at main.go:\d+ in pool.func1, called at main.go:\d+ \(goroutine 0, step \d+\), 80 ms ahead; 1 Read went",
-        )
-        self.assertRegex(told[-1], r"next:   \S*nrdb pool.jsonl -ex 'goto \d+' -ex 'history rd 1'")
-
-    def test_calls_that_wait_for_one_another(self) -> None:
-        recording = Recording.read(str(CAUSED / "both-bad.jsonl"))
-        rows = hangs_table(recording, recording.length).rows
-        self.assertEqual(rows[0].text, "Deadlock: two calls wait for one another.")
-        self.assertEqual(rules_of(recording), ["both ends write"])
-        self.assertEqual(hangs_table(recording, 10).rows, [])
-
-    def test_who_reads_what_another_writes_is_in_no_ring(self) -> None:
-        recording = with_lines(TWO_ENDS + writes(0) + READS_ON)
-        told = "\n".join(row.text for row in hangs_table(recording, recording.length).rows)
-        self.assertIn("There Write at a.go:1 in main (goroutine 0) is itself under way", told)
-        self.assertNotIn("wait for one another", told)
-        self.assertEqual(rules_of(recording), [])
-
-    def test_a_write_needs_room_also_where_its_reader_has_shut_its_own_writing(self) -> None:
-        told = "\n".join(first_words(Recording.read(str(CAUSED / "unread-bad.jsonl")), "unread"))
-        self.assertRegex(told, r"Write at main.go:\d+ in unread.func1 .* waits on socket 3")
-        self.assertIn("Socket 3 has no room: its other end, socket 2, was never read.", told)
-        self.assertNotIn("closed for writing", told)
-
-    def test_pieces_of_two_messages_that_are_mixed(self) -> None:
-        told = "\n".join(first_words(Recording.read(str(CAUSED / "writers-bad.jsonl")), "writers"))
-        self.assertRegex(
-            told, r"Perhaps: writes of two goroutines are mixed at socket \d\.\n +Write at main.go:\d+ in writers.func1"
-        )
-        self.assertEqual(first_words(Recording.read(str(CAUSED / "writers-good.jsonl")), "writers"), [])
-
-    def test_a_wait_that_go_ended_itself_is_no_failed_call(self) -> None:
-        recording = Recording.read(str(CAUSED / "body-good.jsonl"))
-        table = errors_table(recording, recording.length, None)
-        self.assertEqual([row for row in table.rows if "timed out" in row.text], [])
-        self.assertIn("waits of Go's own code, which it ended itself", table.rest)
-
-    def test_a_broken_connection_is_told_by_its_other_end(self) -> None:
-        recording = Recording.read(str(CAUSED / "body-bad.jsonl"))
-        table = errors_table(recording, recording.length, None)
-        self.assertIn("ECONNRESET", table.rows[0].text)
-        self.assertRegex(table.rows[1].text, r"The other end, socket 2, was closed in net/http")
-
-    def test_of_calls_that_fail_alike_one_cause_is_looked_for(self) -> None:
-        """A program that spins on a closed descriptor has a failed call for each step."""
-        recording = with_lines([*OPEN, *CLOSES_IT, *[["rwlock", 1, 0, "r"]] * 500])
-        with patch("netrev.findings.causes.first.cause_of", wraps=cause_of) as looks:
-            told = first_words(recording, "spin")
-        self.assertEqual(looks.call_count, 1)
-        self.assertIn("499 more like it.", told[2])
-
-    def test_the_source_is_shown_to_the_end_of_its_function(self) -> None:
-        self.assertEqual(behind(["func f() {", "\tx()", "}", "", "y"], 2), [(2, "    x()")])
-
-    def test_under_a_deadline_are_the_calls_that_ended_since_it_was_set(self) -> None:
-        found = 0
-        for seed in range(5):
-            index = run_of(Recording(Traffic(seed, None, 800).run().text()))
-            for call in index.calls:
-                same_side = [one for one in index.by_socket[call.socket] if one.name == call.name]
-                under = [one for one in same_side if call.cause < one.last <= call.first]
-                self.assertEqual(index.under_its_deadline(call), under)
-                found += bool(call.cause and under)
-        self.assertGreater(found, 0)
-
-    def test_times_are_in_the_largest_unit(self) -> None:
-        self.assertEqual(
-            [duration(time) for time in (0, 999, 1500, 999_499_999, 999_999_900, 90 * 10**9)],
-            ["0 ns", "999 ns", "1.5 µs", "999 ms", "1 s", "90 s"],
-        )
-
-
-class Rules(unittest.TestCase):
-    def test_each_finds_its_bug_and_not_what_is_nearly_that(self) -> None:
-        self.assertEqual(set(PAIRS), {rule.name for rule in RULES_OF_CALLS})
-        for rule, pair in PAIRS.items():
-            with self.subTest(rule):
-                self.assertIn(rule, rules_of(with_lines(pair.bad)))
-                self.assertNotIn(rule, rules_of(with_lines(pair.good)))
-
-    def test_those_of_lines_and_of_other_ends_say_nothing_without(self) -> None:
-        for rule in {rule.name for rule in RULES_OF_CALLS} - {"timeout again and again", "bytes thrown away"}:
-            self.assertNotIn(rule, rules_of(recording_of(PAIRS[rule].bad)), rule)
-
-    def test_an_end_that_was_not_passed_on_is_said_first(self) -> None:
-        recording = with_lines(PAIRS["end not passed on"].bad)
-        told = first_words(recording, "a.jsonl")
-        self.assertRegex(
-            told[0],
-            r"cause:  The end of a stream isn't passed on: Read at a.go:1 in main \(goroutine 1\) met it on socket 2",
-        )
-        self.assertIn("waits for it at the other end, socket 1", told[1])
-
-    def test_a_relay_that_has_not_written_all_or_reads_elsewhere_is_none(self) -> None:
-        for steps in (
-            [
-                *THREE,
-                *PUTS,
-                ["arrive", 2, "6869"],
-                *TAKES,
-                ["peerclose", 2],
-                *TAKES,
-                *TICKS,
-            ],  # (its last line isn't passed on)
-            [*RELAYS, *TICKS[:-1]],  # (it may still close)
-            [*RELAYS, *PUTS, *TICKS],
-        ):
-            self.assertNotIn("end not passed on", rules_of(with_lines(steps)))
-
-    def test_a_timeout_by_a_deadline_under_which_calls_went_well_is_no_suspect(self) -> None:
-        """The text about the failed call has the line that set the deadline and the number of calls that succeeded
-        before the deadline passed."""
-        for name in ("forgotten", "pool"):
-            recording = Recording.read(str(CAUSED / f"{name}-bad.jsonl"))
-            self.assertEqual(all_suspects_of(recording).suspects, [])
+def test_the_line_of_each_bug_is_said_first() -> None:
+    for name in ALL:
+        recording = Recording.read(str(CAUSED / f"{name}-bad.jsonl"))
+        recording.lines.written = float("inf")  # (a clone's files are newer than the recording)
+        with in_the_folder_of_the_source(source_of(name)):
             told = "\n".join(first_words(recording, name))
-            self.assertRegex(
-                told, rf"Its deadline was set at {bug_line(name)} in .*; 1 (Read|Write) went well under it"
-            )
+            assert (re.search(rf"{bug_line(name)}\b", told) is not None) == (name not in WITHOUT_A_LINE), told
 
-    def test_go_s_own_code_is_not_suspected(self) -> None:
-        for rule in {rule.name for rule in RULES_OF_CALLS} - {"both ends write"}:
-            self.assertNotIn(rule, rules_of(with_lines(PAIRS[rule].bad, "go")), rule)
 
-    def test_they_come_after_the_others_and_say_perhaps(self) -> None:
-        for rule in ("left open", "two readers"):
-            found = all_suspects_of(with_lines(PAIRS[rule].bad)).suspects
-            self.assertTrue(found[-1].sentence().startswith("perhaps: "), rule)
+@pytest.mark.parametrize("name", ALL)
+def test_good_runs_have_no_suspect(name: Any) -> None:
+    assert rules_of(Recording.read(str(CAUSED / f"{name}-good.jsonl"))) == []
+
+
+def test_what_is_said_of_a_timeout() -> None:
+    told = first_words(Recording.read(str(CAUSED / "pool-bad.jsonl")), "pool.jsonl")
+    assert re.search(
+        r"cause:  Read at main.go:\d+ in ask, called at main.go:\d+ \(goroutine 0\) ended with a timeout\.", told[0]
+    )
+    assert re.search(
+        r" Its deadline was set at main.go:\d+ in pool.func1, called at main.go:\d+ \(goroutine 0, step \d+\), 80 ms ahead; 1 Read went",
+        told[1],
+    )
+    assert re.search(r"next:   \S*nrdb pool.jsonl -ex 'goto \d+' -ex 'history rd 1'", told[-1])
+
+
+def test_calls_that_wait_for_one_another() -> None:
+    recording = Recording.read(str(CAUSED / "both-bad.jsonl"))
+    rows = hangs_table(recording, recording.length).rows
+    assert rows[0].text == "Deadlock: two calls wait for one another."
+    assert rules_of(recording) == ["both ends write"]
+    assert hangs_table(recording, 10).rows == []
+
+
+def test_who_reads_what_another_writes_is_in_no_ring() -> None:
+    recording = with_lines(TWO_ENDS + writes(0) + READS_ON)
+    told = "\n".join(row.text for row in hangs_table(recording, recording.length).rows)
+    assert "There Write at a.go:1 in main (goroutine 0) is itself under way" in told
+    assert "wait for one another" not in told
+    assert rules_of(recording) == []
+
+
+def test_a_write_needs_room_also_where_its_reader_has_shut_its_own_writing() -> None:
+    told = "\n".join(first_words(Recording.read(str(CAUSED / "unread-bad.jsonl")), "unread"))
+    assert re.search(r"Write at main.go:\d+ in unread.func1 .* waits on socket 3", told)
+    assert "Socket 3 has no room: its other end, socket 2, was never read." in told
+    assert "closed for writing" not in told
+
+
+def test_pieces_of_two_messages_that_are_mixed() -> None:
+    told = "\n".join(first_words(Recording.read(str(CAUSED / "writers-bad.jsonl")), "writers"))
+    assert re.search(
+        r"Perhaps: writes of two goroutines are mixed at socket \d\.\n +Write at main.go:\d+ in writers.func1", told
+    )
+    assert first_words(Recording.read(str(CAUSED / "writers-good.jsonl")), "writers") == []
+
+
+def test_a_wait_that_go_ended_itself_is_no_failed_call() -> None:
+    recording = Recording.read(str(CAUSED / "body-good.jsonl"))
+    table = errors_table(recording, recording.length, None)
+    assert [row for row in table.rows if "timed out" in row.text] == []
+    assert "waits of Go's own code, which it ended itself" in table.rest
+
+
+def test_a_broken_connection_is_told_by_its_other_end() -> None:
+    recording = Recording.read(str(CAUSED / "body-bad.jsonl"))
+    table = errors_table(recording, recording.length, None)
+    assert "ECONNRESET" in table.rows[0].text
+    assert re.search(r"The other end, socket 2, was closed in net/http", table.rows[1].text)
+
+
+def test_of_calls_that_fail_alike_one_cause_is_looked_for() -> None:
+    """A program that spins on a closed descriptor has a failed call for each step."""
+    recording = with_lines([*OPEN, *CLOSES_IT, *[["rwlock", 1, 0, "r"]] * 500])
+    with mock.patch("netrev.findings.causes.first.cause_of", wraps=cause_of) as looks:
+        told = first_words(recording, "spin")
+    assert looks.call_count == 1
+    assert "499 more like it." in told[2]
+
+
+def test_the_source_is_shown_to_the_end_of_its_function() -> None:
+    assert behind(["func f() {", "\tx()", "}", "", "y"], 2) == [(2, "    x()")]
+
+
+def test_under_a_deadline_are_the_calls_that_ended_since_it_was_set() -> None:
+    found = 0
+    for seed in range(5):
+        index = run_of(Recording(Traffic(seed, None, 800).run().text()))
+        for call in index.calls:
+            same_side = [one for one in index.by_socket[call.socket] if one.name == call.name]
+            under = [one for one in same_side if call.cause < one.last <= call.first]
+            assert index.under_its_deadline(call) == under
+            found += bool(call.cause and under)
+    assert found > 0
+
+
+def test_times_are_in_the_largest_unit() -> None:
+    assert [duration(time) for time in (0, 999, 1500, 999_499_999, 999_999_900, 90 * 10**9)] == [
+        "0 ns",
+        "999 ns",
+        "1.5 µs",
+        "999 ms",
+        "1 s",
+        "90 s",
+    ]
+
+
+def test_each_finds_its_bug_and_not_what_is_nearly_that() -> None:
+    assert set(PAIRS) == {rule.name for rule in RULES_OF_CALLS}
+    for rule, pair in PAIRS.items():
+        assert rule in rules_of(with_lines(pair.bad)), rule
+        assert rule not in rules_of(with_lines(pair.good)), rule
+
+
+def test_those_of_lines_and_of_other_ends_say_nothing_without() -> None:
+    for rule in {rule.name for rule in RULES_OF_CALLS} - {"timeout again and again", "bytes thrown away"}:
+        assert rule not in rules_of(recording_of(PAIRS[rule].bad)), rule
+
+
+def test_an_end_that_was_not_passed_on_is_said_first() -> None:
+    recording = with_lines(PAIRS["end not passed on"].bad)
+    told = first_words(recording, "a.jsonl")
+    assert re.search(
+        r"cause:  The end of a stream isn't passed on: Read at a.go:1 in main \(goroutine 1\) met it on socket 2",
+        told[0],
+    )
+    assert "waits for it at the other end, socket 1" in told[1]
+
+
+def test_a_relay_that_has_not_written_all_or_reads_elsewhere_is_none() -> None:
+    for steps in (
+        [
+            *THREE,
+            *PUTS,
+            ["arrive", 2, "6869"],
+            *TAKES,
+            ["peerclose", 2],
+            *TAKES,
+            *TICKS,
+        ],  # (its last line isn't passed on)
+        [*RELAYS, *TICKS[:-1]],  # (it may still close)
+        [*RELAYS, *PUTS, *TICKS],
+    ):
+        assert "end not passed on" not in rules_of(with_lines(steps))
+
+
+def test_a_timeout_by_a_deadline_under_which_calls_went_well_is_no_suspect() -> None:
+    """The text about the failed call has the line that set the deadline and the number of calls that succeeded
+    before the deadline passed."""
+    for name in ("forgotten", "pool"):
+        recording = Recording.read(str(CAUSED / f"{name}-bad.jsonl"))
+        assert all_suspects_of(recording).suspects == []
+        told = "\n".join(first_words(recording, name))
+        assert re.search(rf"Its deadline was set at {bug_line(name)} in .*; 1 (Read|Write) went well under it", told)
+
+
+def test_go_s_own_code_is_not_suspected() -> None:
+    for rule in {rule.name for rule in RULES_OF_CALLS} - {"both ends write"}:
+        assert rule not in rules_of(with_lines(PAIRS[rule].bad, "go")), rule
+
+
+def test_they_come_after_the_others_and_say_perhaps() -> None:
+    for rule in ("left open", "two readers"):
+        found = all_suspects_of(with_lines(PAIRS[rule].bad)).suspects
+        assert found[-1].sentence().startswith("perhaps: "), rule

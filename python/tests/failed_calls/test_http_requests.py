@@ -3,7 +3,6 @@ were cancelled. The recording is of tools/go/samples/requests."""
 
 import pathlib
 import re
-import unittest
 from typing import Any, Callable
 
 from dev.recorder.suites import SAMPLES
@@ -35,81 +34,83 @@ def says_with(change: Callable[[Any], None]) -> list[str]:
     return [" ".join(one.says(changed)) for one in cancelled_requests(run_of(changed))]
 
 
-class Requests(unittest.TestCase):
-    def test_each_is_on_the_connection_on_which_it_was_written(self) -> None:
-        rows = requests_table(recording()).rows
-        firsts = [row.text for row in rows if row.values]
-        self.assertEqual(len(firsts), 3)
-        self.assertRegex(
-            firsts[0],
-            rf"^socket 2 +3 requests at {line_of('client')} in fetch \(goroutine 0\), the last after step \d+$",
-        )
-        self.assertEqual([row.values["socket"] for row in rows if row.values], [2, 4, 6])
+def test_each_is_on_the_connection_on_which_it_was_written() -> None:
+    rows = requests_table(recording()).rows
+    firsts = [row.text for row in rows if row.values]
+    assert len(firsts) == 3
+    assert re.search(
+        rf"^socket 2 +3 requests at {line_of('client')} in fetch \(goroutine 0\), the last after step \d+$", firsts[0]
+    )
+    assert [row.values["socket"] for row in rows if row.values] == [2, 4, 6]
 
-    def test_two_goroutines_that_take_from_one_channel_are_no_connection(self) -> None:
-        changed = recording()
-        lines = changed.lines
-        loop = {use.goid for uses in lines.uses.values() for use in uses if use.what == "took"} - {1}
+
+def test_two_goroutines_that_take_from_one_channel_are_no_connection() -> None:
+    changed = recording()
+    lines = changed.lines
+    loop = {use.goid for uses in lines.uses.values() for use in uses if use.what == "took"} - {1}
+    for number, uses in lines.uses.items():
+        lines.uses[number] = [*uses, *(use._replace(goid=max(loop) + 1) for use in uses if use.goid in loop)]
+    assert requests_of(run_of(changed)) == []
+
+
+def test_without_lines_nothing_is_said() -> None:
+    table = requests_table(Recording((CAUSED / "requests.jsonl").read_bytes()))
+    assert table.rows == []
+    assert "no request" in table.rest
+
+
+def test_the_first_print_names_the_deadlines() -> None:
+    lines = [line for line in first_words(recording(), "requests.jsonl") if "serves the request" not in line]
+    client, set_here, context, at_context, *_ = lines
+    assert re.search(
+        rf"^cause:  The request at {line_of('client')} in fetch .* ended because its client's Timeout passed \(step \d+\)\.$",
+        client,
+    )
+    assert re.search(
+        rf"It counts from the call at {line_of('client')} in fetch \(step \d+\), 40 ms earlier\.$", set_here
+    )
+    assert re.search(
+        r"^cause:  The request at main\.go:43 in ask .* the deadline of its context passed \(step \d+\)\.$", context
+    )
+    assert re.search(rf"That was set at {line_of('context')} in main \(step \d+\), 40 ms ahead\.$", at_context)
+
+
+def test_one_that_the_program_cancelled_is_no_failure() -> None:
+    assert line_of("cancelled") not in "\n".join(first_words(recording(), "requests.jsonl"))
+    assert any(
+        re.search(rf"cancelled at {line_of('cancelled')} in main.func1 \(goid \d+", says)
+        for says in says_with(lambda _: None)
+    )
+
+
+def test_info_errors_says_why_the_connection_was_closed() -> None:
+    told = [row.text for row in errors_table(recording(), 10**6, None).rows]
+    at = next(number for number, text in enumerate(told) if "It was closed at main.go:29" in text)
+    assert "ended because its client's Timeout passed" in told[at + 1]
+
+
+def test_of_two_deadlines_none_is_named() -> None:
+    def twice(lines: Any) -> None:
+        some = [timer for timer in lines.timers[0] if lines.stacks[timer.stack].own()]
+        lines.timers[0] += [timer._replace(goid=99, due=timer.due - 1) for timer in some]
+
+    says = says_with(twice)
+    # the request's own goroutine made only one of the two timers
+    assert re.search(r"its client's Timeout passed .* It counts from the call at", says[0])
+    assert re.search(r"ended because a deadline of its context passed \(step \d+\)\.$", says[1])
+
+
+def test_a_deadline_that_is_later_is_not_the_one() -> None:
+    def later(lines: Any) -> None:
+        lines.timers[0] = [timer._replace(due=timer.due + 10**12) for timer in lines.timers[0]]
+
+    for says in says_with(later)[:2]:
+        assert re.search(r"ended because a deadline of its context passed \(step \d+\)\.$", says)
+
+
+def test_a_channel_that_was_closed_twice_is_two_channels() -> None:
+    def again(lines: Any) -> None:
         for number, uses in lines.uses.items():
-            lines.uses[number] = [*uses, *(use._replace(goid=max(loop) + 1) for use in uses if use.goid in loop)]
-        self.assertEqual(requests_of(run_of(changed)), [])
+            lines.uses[number] = [*uses, *(use for use in uses if use.what == CLOSED)]
 
-    def test_without_lines_nothing_is_said(self) -> None:
-        table = requests_table(Recording((CAUSED / "requests.jsonl").read_bytes()))
-        self.assertEqual(table.rows, [])
-        self.assertIn("no request", table.rest)
-
-
-class Ended(unittest.TestCase):
-    def test_the_first_print_names_the_deadlines(self) -> None:
-        lines = [line for line in first_words(recording(), "requests.jsonl") if "serves the request" not in line]
-        client, set_here, context, at_context, *_ = lines
-        self.assertRegex(
-            client,
-            rf"^cause:  The request at {line_of('client')} in fetch .* ended because its client's Timeout passed \(step \d+\)\.$",
-        )
-        self.assertRegex(
-            set_here, rf"It counts from the call at {line_of('client')} in fetch \(step \d+\), 40 ms earlier\.$"
-        )
-        self.assertRegex(
-            context, r"^cause:  The request at main\.go:43 in ask .* the deadline of its context passed \(step \d+\)\.$"
-        )
-        self.assertRegex(at_context, rf"That was set at {line_of('context')} in main \(step \d+\), 40 ms ahead\.$")
-
-    def test_one_that_the_program_cancelled_is_no_failure(self) -> None:
-        self.assertNotIn(line_of("cancelled"), "\n".join(first_words(recording(), "requests.jsonl")))
-        self.assertTrue(
-            any(
-                re.search(rf"cancelled at {line_of('cancelled')} in main.func1 \(goid \d+", says)
-                for says in says_with(lambda _: None)
-            )
-        )
-
-    def test_info_errors_says_why_the_connection_was_closed(self) -> None:
-        told = [row.text for row in errors_table(recording(), 10**6, None).rows]
-        at = next(number for number, text in enumerate(told) if "It was closed at main.go:29" in text)
-        self.assertIn("ended because its client's Timeout passed", told[at + 1])
-
-    def test_of_two_deadlines_none_is_named(self) -> None:
-        def twice(lines: Any) -> None:
-            some = [timer for timer in lines.timers[0] if lines.stacks[timer.stack].own()]
-            lines.timers[0] += [timer._replace(goid=99, due=timer.due - 1) for timer in some]
-
-        says = says_with(twice)
-        # the request's own goroutine made only one of the two timers
-        self.assertRegex(says[0], r"its client's Timeout passed .* It counts from the call at")
-        self.assertRegex(says[1], r"ended because a deadline of its context passed \(step \d+\)\.$")
-
-    def test_a_deadline_that_is_later_is_not_the_one(self) -> None:
-        def later(lines: Any) -> None:
-            lines.timers[0] = [timer._replace(due=timer.due + 10**12) for timer in lines.timers[0]]
-
-        for says in says_with(later)[:2]:
-            self.assertRegex(says, r"ended because a deadline of its context passed \(step \d+\)\.$")
-
-    def test_a_channel_that_was_closed_twice_is_two_channels(self) -> None:
-        def again(lines: Any) -> None:
-            for number, uses in lines.uses.items():
-                lines.uses[number] = [*uses, *(use for use in uses if use.what == CLOSED)]
-
-        self.assertEqual(says_with(again), [])
+    assert says_with(again) == []

@@ -3,8 +3,10 @@ redirected. The text about a wait for a WaitGroup names the goroutines that the 
 waiting goroutine itself."""
 
 import json
-import unittest
+import re
 from typing import Any
+
+import pytest
 
 from netrev.findings.causes.failing import causes_of
 from netrev.findings.evidence.responses import contains
@@ -45,86 +47,77 @@ def timeout_says(functions: tuple[str, ...]) -> str:
     return "\n".join(causes_of(made, made.length)[0].says)
 
 
-class OfServers(unittest.TestCase):
-    def test_a_deadline_that_the_server_set_is_one_of_its_own(self) -> None:
-        for by in (("net/http.(*conn).readRequest",), ("net/http.(*conn).readRequest.func1",), ()):
-            with self.subTest(by):
-                self.assertIn("of its http.Server", timeout_says((*SETTER, *by, *SERVES)))
-
-    def test_one_that_a_handler_set_is_none(self) -> None:
-        stops = ("net/http.(*connReader).abortPendingRead", "net/http.(*response).finishRequest")
-        for by in (HANDLER, CONTROLLER + HANDLER, stops, ("example.com/lib.limit", *HANDLER)):
-            with self.subTest(by):
-                says = timeout_says((*SETTER, *by, *SERVES))
-                self.assertIn("ended with a timeout", says)
-                self.assertNotIn("of its http.Server", says)
+@pytest.mark.parametrize("by", [("net/http.(*conn).readRequest",), ("net/http.(*conn).readRequest.func1",), ()])
+def test_a_deadline_that_the_server_set_is_one_of_its_own(by: tuple[Any, ...]) -> None:
+    assert "of its http.Server" in timeout_says((*SETTER, *by, *SERVES))
 
 
-class OfClients(unittest.TestCase):
-    def says(self, *earlier: tuple[int, int]) -> str:
-        """The text about an http.Client's time limit. Its goroutine also made earlier timers at the same place, one for
-        each pair in `earlier`: how much earlier the timer was made, and how much earlier it was due."""
-        made = recording()
-        lines = made.lines
-        timer = next(one for one in lines.timers[0] if contains(lines.stacks[one.stack], CLIENT_TIMEOUT))
-        lines.timers[0] += [timer._replace(time=timer.time - time, due=timer.due - due) for time, due in earlier]
-        use = next(use for uses in lines.uses.values() for use in uses)
-        return cancel_says(run_of(made), Cancel(1, use, [timer]))
+def test_one_that_a_handler_set_is_none() -> None:
+    stops = ("net/http.(*connReader).abortPendingRead", "net/http.(*response).finishRequest")
+    for by in (HANDLER, CONTROLLER + HANDLER, stops, ("example.com/lib.limit", *HANDLER)):
+        says = timeout_says((*SETTER, *by, *SERVES))
+        assert "ended with a timeout" in says, by
+        assert "of its http.Server" not in says, by
 
-    def test_what_a_redirect_left_is_no_limit(self) -> None:
-        begins = r"had found that the Timeout of an http.Client had passed; the request began at main.go:\d+ in \w+ "
-        self.assertRegex(self.says(), rf"{begins}\(goroutine \d+, step \d+\), \d+ ms earlier\.$")
-        self.assertRegex(self.says((5 * MILLISECOND, -110)), rf"{begins}\(goroutine \d+\)\.$")
 
-    def test_a_request_before_it_has_a_limit_of_its_own(self) -> None:
-        self.assertRegex(self.says((5 * MILLISECOND, 5 * MILLISECOND - 90)), r", \d+ ms earlier\.$")
+def says(*earlier: tuple[int, int]) -> str:
+    """The text about an http.Client's time limit. Its goroutine also made earlier timers at the same place, one for
+    each pair in `earlier`: how much earlier the timer was made, and how much earlier it was due."""
+    made = recording()
+    lines = made.lines
+    timer = next(one for one in lines.timers[0] if contains(lines.stacks[one.stack], CLIENT_TIMEOUT))
+    lines.timers[0] += [timer._replace(time=timer.time - time, due=timer.due - due) for time, due in earlier]
+    use = next(use for uses in lines.uses.values() for use in uses)
+    return cancel_says(run_of(made), Cancel(1, use, [timer]))
 
-    def test_a_request_that_ended_names_no_rest_either(self) -> None:
-        def redirected(lines: Any) -> None:
-            lines.timers[0] += [
-                one._replace(time=one.time - 5 * MILLISECOND, due=one.due + 90) for one in lines.timers[0]
-            ]
 
-        self.assertRegex(
-            says_with(lambda lines: None)[0], r"It counts from the call at main.go:\d+ .* \d+ ms earlier\.$"
+def test_what_a_redirect_left_is_no_limit() -> None:
+    begins = r"had found that the Timeout of an http.Client had passed; the request began at main.go:\d+ in \w+ "
+    assert re.search(rf"{begins}\(goroutine \d+, step \d+\), \d+ ms earlier\.$", says())
+    assert re.search(rf"{begins}\(goroutine \d+\)\.$", says((5 * MILLISECOND, -110)))
+
+
+def test_a_request_before_it_has_a_limit_of_its_own() -> None:
+    assert re.search(r", \d+ ms earlier\.$", says((5 * MILLISECOND, 5 * MILLISECOND - 90)))
+
+
+def test_a_request_that_ended_names_no_rest_either() -> None:
+    def redirected(lines: Any) -> None:
+        lines.timers[0] += [one._replace(time=one.time - 5 * MILLISECOND, due=one.due + 90) for one in lines.timers[0]]
+
+    assert re.search(r"It counts from the call at main.go:\d+ .* \d+ ms earlier\.$", says_with(lambda lines: None)[0])
+    assert re.search(r"It counts from the call at main.go:\d+ in \w+\.$", says_with(redirected)[0])
+
+
+def text_of_group(*others: tuple[int, int], waiter: int = 0, maker: int = 1) -> str:
+    """The text about the wait of a goroutine that `main.walk` started together with other goroutines. `others` has
+    pairs: a goroutine's number, and the number of the goroutine that started it."""
+    made = with_lines(TWO_ENDS)
+    go = line(4, "walk")
+    stack = Stack((line(9, "walk"),), go)
+    names = [Name(7, True), *(Name(goid, True) for goid, _ in others)]
+    made.lines.goroutines.update(
+        {goid: GoGoroutine(goid, -1, go, maker, 0, -1, 0, -1) for goid, maker in [(7, maker), *others]}
+    )
+    groups = Groups(run_of(made), waits_of(made), [(name, stack) for name in names], made.length)
+    for name in (names[0], names[waiter]):
+        need = groups.of(Waiter(name, 1, stack), (), lambda name: "waits for nothing")
+    return " ".join(need.says) if need else ""
+
+
+def test_nobody_waits_for_itself() -> None:
+    assert text_of_group() == ""
+
+
+def test_who_waits_in_the_same_lines_has_not_started_the_same() -> None:
+    assert "goid 8, started at bank.go:4, and" in text_of_group((8, 1), maker=8)
+    assert "goid 7, which it started, and" in text_of_group((8, 1), maker=8, waiter=1)
+
+
+def test_who_started_a_goroutine_is_said_if_it_is_known() -> None:
+    assert text_of_group((8, 7)) == "Perhaps it waits for goid 8, which it started, and which waits for nothing."
+    for maker in (0, 1):
+        assert (
+            text_of_group((8, maker))
+            == "Perhaps it waits for goid 8, started at bank.go:4, and which waits for nothing."
         )
-        self.assertRegex(says_with(redirected)[0], r"It counts from the call at main.go:\d+ in \w+\.$")
-
-
-class OfGroups(unittest.TestCase):
-    """Goroutine 7 waits in `main.walk`. The same function started goroutine 7."""
-
-    def says(self, *others: tuple[int, int], waiter: int = 0, maker: int = 1) -> str:
-        """The text about the wait of a goroutine that `main.walk` started together with other goroutines. `others` has
-        pairs: a goroutine's number, and the number of the goroutine that started it."""
-        made = with_lines(TWO_ENDS)
-        go = line(4, "walk")
-        stack = Stack((line(9, "walk"),), go)
-        names = [Name(7, True), *(Name(goid, True) for goid, _ in others)]
-        made.lines.goroutines.update(
-            {goid: GoGoroutine(goid, -1, go, maker, 0, -1, 0, -1) for goid, maker in [(7, maker), *others]}
-        )
-        groups = Groups(run_of(made), waits_of(made), [(name, stack) for name in names], made.length)
-        for name in (names[0], names[waiter]):
-            need = groups.of(Waiter(name, 1, stack), (), lambda name: "waits for nothing")
-        return " ".join(need.says) if need else ""
-
-    def test_nobody_waits_for_itself(self) -> None:
-        self.assertEqual(self.says(), "")
-
-    def test_who_waits_in_the_same_lines_has_not_started_the_same(self) -> None:
-        self.assertIn("goid 8, started at bank.go:4, and", self.says((8, 1), maker=8))
-        self.assertIn("goid 7, which it started, and", self.says((8, 1), maker=8, waiter=1))
-
-    def test_who_started_a_goroutine_is_said_if_it_is_known(self) -> None:
-        self.assertEqual(
-            self.says((8, 7)), "Perhaps it waits for goid 8, which it started, and which waits for nothing."
-        )
-        for maker in (0, 1):
-            self.assertEqual(
-                self.says((8, maker)), "Perhaps it waits for goid 8, started at bank.go:4, and which waits for nothing."
-            )
-
-
-if __name__ == "__main__":
-    unittest.main()

@@ -1,7 +1,10 @@
 """netrev-go's first output for a program that failed: why calls failed or hang, before netrev has checked the recording and long before the
 suspects are known."""
 
-from unittest import mock
+from contextlib import ExitStack
+from pathlib import Path
+
+import pytest
 
 from dev.fuzz.generators.logs import from_text
 from netrev.findings.finding import SuspectFindings
@@ -23,8 +26,8 @@ exit 1
 class FirstPrint(Run):
     """A run of a program that hung. A stand-in for netrev ends only after netrev-go has printed something."""
 
-    def setUp(self) -> None:
-        super().setUp()
+    def __init__(self, folder: Path, monkeypatch: pytest.MonkeyPatch, cleanups: ExitStack) -> None:
+        super().__init__(folder, monkeypatch, cleanups)
         self.log.write_bytes(from_text(HUNG.read_text())[0])
         self.netrev = self.folder / "netrev"
         self.netrev.write_text(LATE)
@@ -44,43 +47,54 @@ class FirstPrint(Run):
             seen.append(len(self.said))
             raise ends("it takes long")
 
-        with (
-            mock.patch.object(keeping, "say", self.hear),
-            mock.patch.object(Analysis, "suspects", suspects),
-            mock.patch.multiple(changes, AT_LEAST=0.1, A_STEP=0),
-        ):
+        with pytest.MonkeyPatch.context() as patch:
+            patch.setattr(keeping, "say", self.hear)
+            patch.setattr(Analysis, "suspects", suspects)
+            patch.setattr(changes, "AT_LEAST", 0.1)
+            patch.setattr(changes, "A_STEP", 0)
             status, _ = self.called("-o", "hung", "run", "main.go", status=3, netrev=str(self.netrev))
-        self.assertEqual(len(seen), 1)
-        self.assertGreaterEqual(
-            seen[0], 2, "the causes and what netrev says are printed before the suspects are asked for"
-        )
+        assert len(seen) == 1
+        assert seen[0] >= 2, "the causes and what netrev says are printed before the suspects are asked for"
         return status
 
-    def test_the_causes_are_printed_before_netrev_has_checked(self) -> None:
-        self.assertEqual(self.first(LateError), 3)
-        self.assertTrue(self.said[0][0].startswith(CAUSE), self.said[0])
-        self.assertTrue(self.said[1][0].startswith("hung.jsonl: ok 9 steps; "), self.said[1])
-        self.assertTrue(any("it takes long: `" in line for line in self.said[-1]), self.said[-1])
 
-    def test_ctrl_c_ends_the_suspects_alone(self) -> None:
-        self.assertEqual(self.first(KeyboardInterrupt), 3)
-        self.assertTrue(self.said[0][0].startswith(CAUSE), self.said[0])
-        interrupted = [line for line in self.said[-1] if "the search for suspects was interrupted: `" in line]
-        self.assertEqual(len(interrupted), 1)
-        self.assertTrue(interrupted[0].endswith(" --suspects hung.jsonl` prints them"), interrupted)
-        self.assertFalse(any("the logs are in" in line for lines in self.said for line in lines))
+@pytest.fixture
+def run(folder: Path, monkeypatch: pytest.MonkeyPatch, cleanups: ExitStack) -> FirstPrint:
+    return FirstPrint(folder, monkeypatch, cleanups)
 
-    def test_causes_of_a_recording_that_netrev_refuses_may_be_wrong(self) -> None:
-        self.netrev.write_text("#!/bin/sh\necho refused\nexit 1\n")
-        with mock.patch.object(keeping, "say", self.hear):
-            self.called("-o", "hung", "run", "main.go", status=3, netrev=str(self.netrev))
-        printed = [line for lines in self.said for line in lines]
-        self.assertTrue(printed[0].startswith(CAUSE), printed)
-        self.assertTrue(any("the causes above may be wrong" in line for line in printed), printed)
 
-    def test_the_causes_ask_the_same_netrev_what_the_steps_changed(self) -> None:
-        self.netrev.write_text('#!/bin/sh\necho "$@" >> asked\necho refused\nexit 1\n')
-        with mock.patch.object(keeping, "say", self.hear):
-            self.called("-o", "hung", "run", "main.go", status=3, netrev=str(self.netrev))
-        self.assertIn("changes hung.jsonl", (self.folder / "asked").read_text().splitlines())
-        self.assertTrue(self.said[0][0].startswith(CAUSE), self.said[0])
+def test_the_causes_are_printed_before_netrev_has_checked(run: FirstPrint) -> None:
+    assert run.first(LateError) == 3
+    assert run.said[0][0].startswith(CAUSE), run.said[0]
+    assert run.said[1][0].startswith("hung.jsonl: ok 9 steps; "), run.said[1]
+    assert any("it takes long: `" in line for line in run.said[-1]), run.said[-1]
+
+
+def test_ctrl_c_ends_the_suspects_alone(run: FirstPrint) -> None:
+    assert run.first(KeyboardInterrupt) == 3
+    assert run.said[0][0].startswith(CAUSE), run.said[0]
+    interrupted = [line for line in run.said[-1] if "the search for suspects was interrupted: `" in line]
+    assert len(interrupted) == 1
+    assert interrupted[0].endswith(" --suspects hung.jsonl` prints them"), interrupted
+    assert not any("the logs are in" in line for lines in run.said for line in lines)
+
+
+def test_causes_of_a_recording_that_netrev_refuses_may_be_wrong(
+    monkeypatch: pytest.MonkeyPatch, run: FirstPrint
+) -> None:
+    run.netrev.write_text("#!/bin/sh\necho refused\nexit 1\n")
+    monkeypatch.setattr(keeping, "say", run.hear)
+    run.called("-o", "hung", "run", "main.go", status=3, netrev=str(run.netrev))
+    printed = [line for lines in run.said for line in lines]
+    assert printed[0].startswith(CAUSE), printed
+    assert any("the causes above may be wrong" in line for line in printed), printed
+
+
+def test_the_causes_ask_the_same_netrev_what_the_steps_changed(
+    monkeypatch: pytest.MonkeyPatch, run: FirstPrint
+) -> None:
+    run.netrev.write_text('#!/bin/sh\necho "$@" >> asked\necho refused\nexit 1\n')
+    monkeypatch.setattr(keeping, "say", run.hear)
+    run.called("-o", "hung", "run", "main.go", status=3, netrev=str(run.netrev))
+    assert "changes hung.jsonl" in (run.folder / "asked").read_text().splitlines()
+    assert run.said[0][0].startswith(CAUSE), run.said[0]

@@ -2,15 +2,16 @@
 is needed."""
 
 import pathlib
+import re
 import shlex
 import subprocess
-import tempfile
-import unittest
+
+import pytest
 
 from netrev_go.go_command.linking import KEEP, kept
 from netrev_go.go_command.toolchain import Go
 
-from . import test_go_tests
+from .test_go_tests import Tested
 
 LINKER = """#!/bin/sh
 echo "$*" >> {folder}/called
@@ -22,11 +23,12 @@ ID = "-buildid=ac_t-ion/ma/in/ac_t-ion"
 GO = Go("go", pathlib.Path("/"), "go1", "linux/amd64", "")
 
 
-class Keeping(unittest.TestCase):
-    def setUp(self) -> None:
-        folder = tempfile.TemporaryDirectory(prefix="with a blank ")
-        self.addCleanup(folder.cleanup)
-        self.folder = pathlib.Path(folder.name)
+class Keeping:
+    """A folder with the script for the linker."""
+
+    def __init__(self, folder: pathlib.Path) -> None:
+        self.folder = folder / "with a blank"
+        self.folder.mkdir()
         self.script = self.folder / "keep"
         self.script.write_text(KEEP)
         (self.folder / "kept").mkdir()
@@ -50,59 +52,70 @@ class Keeping(unittest.TestCase):
     def text(self, name: str) -> str:
         return (self.folder / name).read_text()
 
-    def test_what_has_the_same_id_is_linked_once(self) -> None:
-        self.assertEqual(self.ran("link", "-o", "a.test", ID), 0)
-        (self.folder / "a.test").write_text("Go writes its sum into it")
-        self.assertEqual(self.ran("link", "-o", "b.test", ID), 0)
-        self.assertEqual((self.calls(), self.text("b.test")), (1, f"{ID} of 1\n"))
-        self.assertTrue((self.folder / "b.test").stat().st_mode & 0o100)
-        self.ran("link", "-o", "c.test", f"{ID}x")
-        self.assertEqual((self.calls(), self.text("c.test")), (2, f"{ID}x of 2\n"))
 
-    def test_all_else_goes_to_the_tool(self) -> None:
-        for words in (("link", "-V=full", "x"), ("compile", "-o", "x", ID), ("link", "-o", "x", "y")):
-            before = self.calls()
-            self.ran(*words)
-            self.ran(*words)
-            self.assertEqual(self.calls(), before + 2, words)
-
-    def test_a_failure_is_the_linkers_and_nothing_is_kept(self) -> None:
-        self.assertEqual(self.ran("link", "-o", "a", ID, broken="yes"), 9)
-        self.assertEqual(list((self.folder / "kept").iterdir()), [])
-        self.assertEqual((self.ran("link", "-o", "a", ID), self.calls()), (0, 2))
-
-    def test_where_there_is_no_room_it_is_linked_again(self) -> None:
-        for times in (1, 2):
-            self.assertEqual((self.ran("link", "-o", "a", ID, room=0), self.calls()), (0, times))
-        self.assertEqual(self.text("a"), f"{ID} of 2\n")
+@pytest.fixture
+def linking(folder: pathlib.Path) -> Keeping:
+    return Keeping(folder)
 
 
-class Flags(test_go_tests.Tested):
-    def words(self, *options: str) -> list[str]:
-        """The arguments with which Go is called in the first run."""
-        seen = self.folder / "seen"
-        self.told(*options, status=1, does=f'[ -e {seen} ] || printf "%s\\n" "$@" > {seen}')
-        words = seen.read_text().splitlines()
-        seen.unlink()
-        return words
+def test_what_has_the_same_id_is_linked_once(linking: Keeping) -> None:
+    assert linking.ran("link", "-o", "a.test", ID) == 0
+    (linking.folder / "a.test").write_text("Go writes its sum into it")
+    assert linking.ran("link", "-o", "b.test", ID) == 0
+    assert (linking.calls(), linking.text("b.test")) == (1, f"{ID} of 1\n")
+    assert (linking.folder / "b.test").stat().st_mode & 0o100
+    linking.ran("link", "-o", "c.test", f"{ID}x")
+    assert (linking.calls(), linking.text("c.test")) == (2, f"{ID}x of 2\n")
 
-    def test_who_runs_once_links_as_ever(self) -> None:
-        self.assertEqual(self.words("test", "."), self.words("--runs", "1", "test", "."))
-        self.assertFalse(any("toolexec" in word for word in self.words("test", ".")))
 
-    def test_more_runs_are_linked_once(self) -> None:
-        for options in (["--runs", "2"], ["--until-failure"], ["--seconds", "0"]):
-            words = self.words(*options, "test", ".")
-            self.assertRegex(words[1], r"^-toolexec=sh '.*/keep' '.*' \d+$")
-            self.assertEqual([words[0], *words[2:]], self.words("test", "."))
+def test_all_else_goes_to_the_tool(linking: Keeping) -> None:
+    for words in (("link", "-V=full", "x"), ("compile", "-o", "x", ID), ("link", "-o", "x", "y")):
+        before = linking.calls()
+        linking.ran(*words)
+        linking.ran(*words)
+        assert linking.calls() == before + 2, words
 
-    def test_a_flag_that_it_would_change_leaves_it_out(self) -> None:
-        for word in ("-toolexec=mine", "--toolexec", "-x", "-n", "-x=true"):
-            with kept(GO, [word, "."], True) as more:
-                self.assertEqual(more, [])
-        with kept(Go("go", GO.root, "go1", GO.system, "-v -toolexec=mine"), ["."], True) as more:
-            self.assertEqual(more, [])
-        with kept(GO, ["-run", "x", "./n"], True) as more:
-            folder = pathlib.Path(shlex.split(more[0])[2])
-            self.assertTrue(folder.is_dir())
-        self.assertFalse(folder.exists())
+
+def test_a_failure_is_the_linkers_and_nothing_is_kept(linking: Keeping) -> None:
+    assert linking.ran("link", "-o", "a", ID, broken="yes") == 9
+    assert list((linking.folder / "kept").iterdir()) == []
+    assert (linking.ran("link", "-o", "a", ID), linking.calls()) == (0, 2)
+
+
+def test_where_there_is_no_room_it_is_linked_again(linking: Keeping) -> None:
+    for times in (1, 2):
+        assert (linking.ran("link", "-o", "a", ID, room=0), linking.calls()) == (0, times)
+    assert linking.text("a") == f"{ID} of 2\n"
+
+
+def words_of(package: Tested, *options: str) -> list[str]:
+    """The arguments with which Go is called in the first run."""
+    seen = package.folder / "seen"
+    package.told(*options, status=1, does=f'[ -e {seen} ] || printf "%s\\n" "$@" > {seen}')
+    words = seen.read_text().splitlines()
+    seen.unlink()
+    return words
+
+
+def test_who_runs_once_links_as_ever(package: Tested) -> None:
+    assert words_of(package, "test", ".") == words_of(package, "--runs", "1", "test", ".")
+    assert not any("toolexec" in word for word in words_of(package, "test", "."))
+
+
+def test_more_runs_are_linked_once(package: Tested) -> None:
+    for options in (["--runs", "2"], ["--until-failure"], ["--seconds", "0"]):
+        words = words_of(package, *options, "test", ".")
+        assert re.search(r"^-toolexec=sh '.*/keep' '.*' \d+$", words[1])
+        assert [words[0], *words[2:]] == words_of(package, "test", ".")
+
+
+def test_a_flag_that_it_would_change_leaves_it_out() -> None:
+    for word in ("-toolexec=mine", "--toolexec", "-x", "-n", "-x=true"):
+        with kept(GO, [word, "."], True) as more:
+            assert more == []
+    with kept(Go("go", GO.root, "go1", GO.system, "-v -toolexec=mine"), ["."], True) as more:
+        assert more == []
+    with kept(GO, ["-run", "x", "./n"], True) as more:
+        folder = pathlib.Path(shlex.split(more[0])[2])
+        assert folder.is_dir()
+    assert not folder.exists()

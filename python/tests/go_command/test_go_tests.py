@@ -4,15 +4,15 @@ and its tests. Neither Go nor netrev is needed."""
 import contextlib
 import io
 import json
-import pathlib
 import re
 import signal
 import tempfile
 import time
-import unittest
+from contextlib import ExitStack
 from dataclasses import asdict
-from typing import Optional
-from unittest import mock
+from pathlib import Path
+from types import SimpleNamespace
+from typing import Any, Optional, cast
 from xml.etree import ElementTree
 
 import pytest
@@ -21,7 +21,7 @@ from netrev.findings.finding import Finding, Kind as FindingKind, Place, Sentenc
 from netrev.recording.where import SourceLines
 from netrev_go import cli
 from netrev_go.cli import ExitStatus
-from netrev_go.go_command.running import FROM_THE_TERMINAL, SIGNALS, GoRunner, RunLimits
+from netrev_go.go_command.running import FROM_THE_TERMINAL, GoRunner, RunLimits
 from netrev_go.go_command.toolchain import Go
 from netrev_go.log.goroutines import goroutines_of as everybody
 from netrev_go.log.points import Log, PointKind
@@ -34,9 +34,8 @@ from netrev_go.steps.forms import Cause, TestResult
 from netrev_go.steps.report import Conversion, Shown
 from netrev_go.tested import Recordings, file_name, short_name
 from tests.logs.test_go_converting import Points
-from tests.support.folders import folder_of
 
-from .test_go_keeping import PYTHON, Run
+from .test_go_keeping import PYTHON, Run, restore_signals
 
 MAIN, RED, PART, GREEN, CHILD = 1, 10, 11, 20, 12  # goroutines
 PACKAGE = "example.org/toy/v2"
@@ -73,114 +72,118 @@ LINES = f"""1 1 5 package {PACKAGE}
 def tests_of(lines: str) -> Tests:
     """The tests in a process's lines."""
     with tempfile.TemporaryDirectory() as folder:
-        log = pathlib.Path(folder, "log.1")
+        log = Path(folder, "log.1")
         log.with_name("log.1.tests").write_text(lines)
         return of_log(log)
 
 
-class Ranning(unittest.TestCase):
-    def test_each_test_is_known_by_its_name(self) -> None:
-        tests = tests_of(LINES)
-        self.assertEqual(
-            [(test.name, test.went().value, test.seconds()) for test in tests.ran],
-            [
-                ("TestRed", "failed", 2.0),
-                ("TestGreen", "passed", 2.0),
-                ("TestRed/a_part", "failed", 0.5),
-                ("TestLeft", "skipped", 0.0),
-            ],
-        )
-        self.assertEqual({test.package for test in tests.ran}, {PACKAGE})
-
-    def test_one_that_never_ended_ran_when_the_process_did(self) -> None:
-        tests = tests_of("1 1 5 package p\n2 3 9 runs TestHang\n")
-        self.assertEqual(tests.ran[0].went(), Went.UNFINISHED)
-        self.assertEqual(tests.to_keep(), tests.ran)
-
-    def test_of_a_test_and_its_part_the_part_is_kept(self) -> None:
-        self.assertEqual([test.name for test in tests_of(LINES).to_keep()], ["TestRed/a_part"])
-        self.assertEqual([test.name for test in tests_of(LINES).leaves()], ["TestGreen", "TestRed/a_part", "TestLeft"])
-
-    def test_where_it_failed_is_known_from_here(self) -> None:
-        here = pathlib.Path.cwd()
-        for place, wanted in ((f"{here}/x/a_test.go:7", ("x/a_test.go", 7)), ("", None), ("a:b", None), (":5", None)):
-            tests = tests_of(f"1 1 5 package p\n2 3 9 runs T\n2 3 9 fails T\t{place}\n2 3 9 fails T\tb.go:9\n")
-            self.assertEqual(tests.ran[0].place, wanted)
-
-    def test_a_damaged_line_says_nothing(self) -> None:
-        lines = f"x\n1 1\n1 1 -5 package p\n{10**30} 1 5 package p\n1 1 1 ends TestNone\n\x00\xff 1 1 runs T\n" + LINES
-        self.assertEqual(len(tests_of(lines).ran), 4)
-        self.assertEqual(of_log(pathlib.Path("/nowhere/log.1")).ran, [])
-
-    def test_the_file_is_mapped_and_zeros_say_nothing(self) -> None:
-        lines = "1 1 5 package p\n2 3 9 runs Te\0\0\0\0\n3 3 9 runs T\n3 3 9 fai\0\0\0\0" + "\0" * 10**6
-        self.assertEqual(
-            [(test.package, test.name, test.went()) for test in tests_of(lines).ran], [("p", "T", Went.UNFINISHED)]
-        )
-
-    def test_it_runs_again_by_the_same_name(self) -> None:
-        tests = tests_of("1 1 1 package p\n1 2 1 runs T\n1 2 1 ends T\n2 3 1 runs T\n2 3 1 fails T\n2 3 1 ends T\n")
-        self.assertEqual([test.went().value for test in tests.ran], ["passed", "failed"])
-
-    def test_a_bubble_of_synctest_is_part_of_the_test_of_its_name(self) -> None:
-        begins, ends, fails = "1 2 1 runs T\n1 3 1 runs T\n", "2 3 4 ends T\n", "2 3 3 fails T\ta.go:5\n"
-        for lines, went, seconds in (
-            (f"{begins}{ends}3 2 6 ends T\n", Went.PASSED, 5 / 10**9),
-            (f"{begins}{fails}{ends}3 2 6 ends T\n", Went.FAILED, 5 / 10**9),
-            (f"{begins}2 3 3 skips T\n{ends}3 2 6 ends T\n", Went.SKIPPED, 5 / 10**9),
-            (f"{begins}{ends}", Went.UNFINISHED, 0.0),
-            (f"{begins}{ends}3 4 5 runs T\n3 4 5 ends T\n3 2 6 ends T\n", Went.PASSED, 5 / 10**9),
-        ):
-            with self.subTest(lines=lines):
-                (test,) = tests_of(f"1 1 1 package p\n{lines}").ran
-                self.assertEqual((test.went(), test.goroutine), (went, 2))
-                self.assertAlmostEqual(test.seconds(), seconds)
+def test_each_test_is_known_by_its_name() -> None:
+    tests = tests_of(LINES)
+    assert [(test.name, test.went().value, test.seconds()) for test in tests.ran] == [
+        ("TestRed", "failed", 2.0),
+        ("TestGreen", "passed", 2.0),
+        ("TestRed/a_part", "failed", 0.5),
+        ("TestLeft", "skipped", 0.0),
+    ]
+    assert {test.package for test in tests.ran} == {PACKAGE}
 
 
-class Cutting(unittest.TestCase):
-    def kept(self, name: str) -> list[int]:
-        """The sockets of a test, numbered in the order in which the log opens them."""
-        tests, log = tests_of(LINES), Log(POINTS.points)
-        found = owned([point for point in log.points if point.kind != PointKind.READY])
-        return [socket.opening for socket in sockets_of(tests.by_name[name], log, found, tests.ran)]
+def test_one_that_never_ended_ran_when_the_process_did() -> None:
+    tests = tests_of("1 1 5 package p\n2 3 9 runs TestHang\n")
+    assert tests.ran[0].went() == Went.UNFINISHED
+    assert tests.to_keep() == tests.ran
 
-    def test_a_test_has_its_own_and_its_parts_and_nobodys_that_was_used(self) -> None:
-        self.assertEqual(self.kept("TestRed"), [0, 1, 3])
 
-    def test_a_part_has_those_of_the_test_that_it_is_part_of_where_they_are_used(self) -> None:
-        self.assertEqual(self.kept("TestRed/a_part"), [0, 3])
+def test_of_a_test_and_its_part_the_part_is_kept() -> None:
+    assert [test.name for test in tests_of(LINES).to_keep()] == ["TestRed/a_part"]
+    assert [test.name for test in tests_of(LINES).leaves()] == ["TestGreen", "TestRed/a_part", "TestLeft"]
 
-    def test_another_one_has_none_of_them(self) -> None:
-        self.assertEqual(self.kept("TestGreen"), [0, 2])
 
-    def test_a_test_has_no_goroutines_of_another_one(self) -> None:
-        """Another test has left a waiting goroutine, which is removed. The main goroutine, the goroutines of the test's
-        parts, and the goroutines with which it shares a socket are kept."""
-        points = Points()
-        points.points += POINTS.points
-        left, channel = 40, 5_000
-        points.add(PointKind.READY, RED, 0, left, 1)
-        for goroutine in (MAIN, RED, PART, GREEN, CHILD, left):
-            points.add(PointKind.PARKS, goroutine, channel, 1).add(PointKind.CHANNEL_CLOSED, goroutine, channel)
-            points.add(PointKind.TIMER, goroutine, channel)
-        found = everybody([point._replace(time=1_600_000_000) for point in points.points], [], 0)
-        tests = tests_of(LINES)
-        rows: list[tuple[str, dict[int, int], set[int]]] = [
-            ("TestGreen", {}, {MAIN, GREEN}),
-            ("TestGreen", {left: 0}, {MAIN, GREEN, left}),
-            ("TestRed", {}, {MAIN, RED, PART, CHILD, left}),
-            ("TestRed/a_part", {}, {MAIN, RED, PART, CHILD, left}),
-        ]
-        for name, numbers, expected in rows:
-            kept = goroutines_of(tests.by_name[name], found, tests.ran, numbers)
-            parks, timers = {park.goroutine for park in kept.parks}, {timer.goroutine for timer in kept.timers}
-            self.assertEqual([parks, timers, {use.goroutine for use in kept.uses}], [expected] * 3, (name, numbers))
+def test_where_it_failed_is_known_from_here() -> None:
+    here = Path.cwd()
+    for place, wanted in ((f"{here}/x/a_test.go:7", ("x/a_test.go", 7)), ("", None), ("a:b", None), (":5", None)):
+        tests = tests_of(f"1 1 5 package p\n2 3 9 runs T\n2 3 9 fails T\t{place}\n2 3 9 fails T\tb.go:9\n")
+        assert tests.ran[0].place == wanted
 
-    def test_goroutines_that_made_each_other_are_nobodys(self) -> None:
-        points = Points().add(PointKind.READY, 5, 0, 6, 1).add(PointKind.READY, 6, 0, 5, 1).opened(701, 901, g=5)
-        test = Ran("p", "T", 99, 0, 0)
-        found = owned([point for point in points.points if point.kind != PointKind.READY])
-        self.assertEqual(len(sockets_of(test, Log(points.points), found, [test])), 1)
+
+def test_a_damaged_line_says_nothing() -> None:
+    lines = f"x\n1 1\n1 1 -5 package p\n{10**30} 1 5 package p\n1 1 1 ends TestNone\n\x00\xff 1 1 runs T\n" + LINES
+    assert len(tests_of(lines).ran) == 4
+    assert of_log(Path("/nowhere/log.1")).ran == []
+
+
+def test_the_file_is_mapped_and_zeros_say_nothing() -> None:
+    lines = "1 1 5 package p\n2 3 9 runs Te\0\0\0\0\n3 3 9 runs T\n3 3 9 fai\0\0\0\0" + "\0" * 10**6
+    assert [(test.package, test.name, test.went()) for test in tests_of(lines).ran] == [("p", "T", Went.UNFINISHED)]
+
+
+def test_it_runs_again_by_the_same_name() -> None:
+    tests = tests_of("1 1 1 package p\n1 2 1 runs T\n1 2 1 ends T\n2 3 1 runs T\n2 3 1 fails T\n2 3 1 ends T\n")
+    assert [test.went().value for test in tests.ran] == ["passed", "failed"]
+
+
+def test_a_bubble_of_synctest_is_part_of_the_test_of_its_name() -> None:
+    begins, ends, fails = "1 2 1 runs T\n1 3 1 runs T\n", "2 3 4 ends T\n", "2 3 3 fails T\ta.go:5\n"
+    for lines, went, seconds in (
+        (f"{begins}{ends}3 2 6 ends T\n", Went.PASSED, 5 / 10**9),
+        (f"{begins}{fails}{ends}3 2 6 ends T\n", Went.FAILED, 5 / 10**9),
+        (f"{begins}2 3 3 skips T\n{ends}3 2 6 ends T\n", Went.SKIPPED, 5 / 10**9),
+        (f"{begins}{ends}", Went.UNFINISHED, 0.0),
+        (f"{begins}{ends}3 4 5 runs T\n3 4 5 ends T\n3 2 6 ends T\n", Went.PASSED, 5 / 10**9),
+    ):
+        (test,) = tests_of(f"1 1 1 package p\n{lines}").ran
+        assert (test.went(), test.goroutine) == (went, 2), lines
+        assert test.seconds() == pytest.approx(seconds, abs=5e-8), lines
+
+
+def kept(name: str) -> list[int]:
+    """The sockets of a test, numbered in the order in which the log opens them."""
+    tests, log = tests_of(LINES), Log(POINTS.points)
+    found = owned([point for point in log.points if point.kind != PointKind.READY])
+    return [socket.opening for socket in sockets_of(tests.by_name[name], log, found, tests.ran)]
+
+
+def test_a_test_has_its_own_and_its_parts_and_nobodys_that_was_used() -> None:
+    assert kept("TestRed") == [0, 1, 3]
+
+
+def test_a_part_has_those_of_the_test_that_it_is_part_of_where_they_are_used() -> None:
+    assert kept("TestRed/a_part") == [0, 3]
+
+
+def test_another_one_has_none_of_them() -> None:
+    assert kept("TestGreen") == [0, 2]
+
+
+def test_a_test_has_no_goroutines_of_another_one() -> None:
+    """Another test has left a waiting goroutine, which is removed. The main goroutine, the goroutines of the test's
+    parts, and the goroutines with which it shares a socket are kept."""
+    points = Points()
+    points.points += POINTS.points
+    left, channel = 40, 5_000
+    points.add(PointKind.READY, RED, 0, left, 1)
+    for goroutine in (MAIN, RED, PART, GREEN, CHILD, left):
+        points.add(PointKind.PARKS, goroutine, channel, 1).add(PointKind.CHANNEL_CLOSED, goroutine, channel)
+        points.add(PointKind.TIMER, goroutine, channel)
+    found = everybody([point._replace(time=1_600_000_000) for point in points.points], [], 0)
+    tests = tests_of(LINES)
+    rows: list[tuple[str, dict[int, int], set[int]]] = [
+        ("TestGreen", {}, {MAIN, GREEN}),
+        ("TestGreen", {left: 0}, {MAIN, GREEN, left}),
+        ("TestRed", {}, {MAIN, RED, PART, CHILD, left}),
+        ("TestRed/a_part", {}, {MAIN, RED, PART, CHILD, left}),
+    ]
+    for name, numbers, expected in rows:
+        kept = goroutines_of(tests.by_name[name], found, tests.ran, numbers)
+        parks, timers = {park.goroutine for park in kept.parks}, {timer.goroutine for timer in kept.timers}
+        assert [parks, timers, {use.goroutine for use in kept.uses}] == [expected] * 3, (name, numbers)
+
+
+def test_goroutines_that_made_each_other_are_nobodys() -> None:
+    points = Points().add(PointKind.READY, 5, 0, 6, 1).add(PointKind.READY, 6, 0, 5, 1).opened(701, 901, g=5)
+    test = Ran("p", "T", 99, 0, 0)
+    found = owned([point for point in points.points if point.kind != PointKind.READY])
+    assert len(sockets_of(test, Log(points.points), found, [test])) == 1
 
 
 SUSPECTED = Shown(
@@ -192,8 +195,8 @@ SUSPECTED = Shown(
 class Tested(Run):
     """`netrev-go test`, with a stand-in for Go that leaves a log with tests."""
 
-    def setUp(self) -> None:
-        super().setUp()
+    def __init__(self, folder: Path, monkeypatch: pytest.MonkeyPatch, cleanups: ExitStack) -> None:
+        super().__init__(folder, monkeypatch, cleanups)
         self.log.write_bytes(binary(POINTS.points))
         (self.folder / "lines").write_text(LINES)
 
@@ -203,11 +206,10 @@ class Tested(Run):
         out, error = io.StringIO(), io.StringIO()
         with contextlib.redirect_stdout(out), contextlib.redirect_stderr(error):
             go = self.go(does, status, leaves)
-            with (
-                mock.patch.object(cli, "find_go", lambda: go),
-                mock.patch.object(cli, "ready", lambda _: self.folder / "overlay.json"),
-                mock.patch.object(report, "netrev_program", lambda: None),
-            ):
+            with pytest.MonkeyPatch.context() as patch:
+                patch.setattr(cli, "find_go", lambda: go)
+                patch.setattr(cli, "ready", lambda _: self.folder / "overlay.json")
+                patch.setattr(report, "netrev_program", lambda: None)
                 returned = cli.main(list(words))
         return returned, out.getvalue(), error.getvalue()
 
@@ -215,110 +217,114 @@ class Tested(Run):
         return sorted(path.name for path in (self.folder / folder).glob("*.jsonl"))
 
 
-class Kept(Tested):
-    """The files that it leaves, and its output."""
+def test_the_recording_of_the_test_that_failed_is_kept(package: Tested) -> None:
+    returned, out, error = package.told("test", "./...")
+    assert (returned, out) == (1, "")
+    assert package.made() == ["toy.TestRed.a_part.jsonl"]
+    assert f"FAILED {PACKAGE} TestRed/a_part, at /else/a_test.go:31\n  recordings/toy.TestRed.a_part.jsonl: " in error
+    assert "netrev-go: 4 tests, 1 run; 2 failed" in error
+    assert "the logs are in" not in error
+    recording = package.folder / "recordings/toy.TestRed.a_part.jsonl"
+    lines = SourceLines.beside(str(recording), len(recording.read_text().splitlines()) - 1)
+    assert (lines.fault, lines.bytes) == ("", 64)
+    assert f"{PACKAGE} TestRed/a_part" in [name for _, _, name in lines.tests]
 
-    def test_the_recording_of_the_test_that_failed_is_kept(self) -> None:
-        returned, out, error = self.told("test", "./...")
-        self.assertEqual((returned, out), (1, ""))
-        self.assertEqual(self.made(), ["toy.TestRed.a_part.jsonl"])
-        self.assertIn(
-            f"FAILED {PACKAGE} TestRed/a_part, at /else/a_test.go:31\n  recordings/toy.TestRed.a_part.jsonl: ", error
-        )
-        self.assertIn("netrev-go: 4 tests, 1 run; 2 failed", error)
-        self.assertNotIn("the logs are in", error)
-        recording = self.folder / "recordings/toy.TestRed.a_part.jsonl"
-        lines = SourceLines.beside(str(recording), len(recording.read_text().splitlines()) - 1)
-        self.assertEqual((lines.fault, lines.bytes), ("", 64))
-        self.assertIn(f"{PACKAGE} TestRed/a_part", [name for _, _, name in lines.tests])
 
-    def test_all_are_kept_where_that_is_wanted(self) -> None:
-        self.told("--all", "-o", "mine", "test", ".", status=0)
-        self.assertEqual(self.made("mine"), ["toy.TestGreen.jsonl", "toy.TestRed.a_part.jsonl"])
+def test_all_are_kept_where_that_is_wanted(package: Tested) -> None:
+    package.told("--all", "-o", "mine", "test", ".", status=0)
+    assert package.made("mine") == ["toy.TestGreen.jsonl", "toy.TestRed.a_part.jsonl"]
 
-    def test_where_no_test_is_known_to_have_failed_the_process_is_kept(self) -> None:
-        (self.folder / "lines").write_text(f"1 1 5 package {PACKAGE}\n")
-        returned, _, error = self.told("test", ".", status=3)
-        self.assertEqual((returned, self.made()), (3, ["toy.jsonl"]))
-        self.assertIn("no test in it is known to have failed", error)
 
-    def test_of_tests_that_pass_nothing_is_kept_and_nothing_said(self) -> None:
-        (self.folder / "lines").write_text(LINES.replace("fails", "other"))
-        self.assertEqual(self.told("test", ".", status=0), (0, "", ""))
-        self.assertFalse((self.folder / "recordings").exists())
+def test_where_no_test_is_known_to_have_failed_the_process_is_kept(package: Tested) -> None:
+    (package.folder / "lines").write_text(f"1 1 5 package {PACKAGE}\n")
+    returned, _, error = package.told("test", ".", status=3)
+    assert (returned, package.made()) == (3, ["toy.jsonl"])
+    assert "no test in it is known to have failed" in error
 
-    def test_again_and_again(self) -> None:
-        returned, _, error = self.told("--runs", "3", "test", ".")
-        self.assertEqual(returned, 1)
-        self.assertIn(f"  {PACKAGE} TestRed/a_part: failed in 3 of 3 runs", error)
-        self.assertEqual(self.made(), ["toy.TestRed.a_part.jsonl"])
-        _, _, error = self.told("--until-failure", "--delays", "5", "test", ".", does="exit 1")
-        self.assertIn("run 1 (--delays 5) failed", error)
-        self.assertIn("4 tests, 1 run", error)
-        (self.folder / "lines").write_text(LINES.replace("fails", "other"))
-        seen = self.folder / "seen"
-        self.told(
-            "--runs", "3", "--delays", "5", "test", ".", status=0, does=f'echo "$GOMAXPROCS $NETREV_DELAYS" >> {seen}'
-        )
-        runs = [line.split(" ") for line in seen.read_text().splitlines()]
-        self.assertEqual([run[1] for run in runs], ["5", "6", "7"])
-        self.assertEqual(len({run[0] for run in runs}), 3)
 
-    def test_suspects_fail_where_that_is_wanted(self) -> None:
-        said = Conversion(True, ["x.jsonl: ok"], shown=[SUSPECTED])
-        with mock.patch.object(converting, "report", lambda *_: said):
-            for what, wanted in (("suspects", ExitStatus.SUSPECTED), ("possible", 0)):
-                self.assertEqual(self.told("--fail-on", what, "test", ".", status=0)[0], wanted)
-            self.assertEqual(self.told("test", ".", status=0)[0], 0)
-            self.assertEqual(self.told("--fail-on", "suspects", "test", ".", status=1)[0], 1)
-            self.assertEqual(self.told("--fail-on", "suspects", "run", ".", status=0)[0], ExitStatus.SUSPECTED)
+def test_of_tests_that_pass_nothing_is_kept_and_nothing_said(package: Tested) -> None:
+    (package.folder / "lines").write_text(LINES.replace("fails", "other"))
+    assert package.told("test", ".", status=0) == (0, "", "")
+    assert not (package.folder / "recordings").exists()
 
-    def test_each_form_is_read_as_its_consumer_does(self) -> None:
-        printed = ["x: ok 9 steps", "  a/b.go:7: net.Dial waits to read", "    1. lost wake-up: 100%: step 3, so"]
-        sentence = Sentence("a/b.go:7: net.Dial waits to read", Place("a/b.go", 7))
-        wait = Shown(Finding(FindingKind.WAIT, (sentence,)), [sentence])
-        said = Conversion(True, printed, shown=[wait, SUSPECTED])
-        with mock.patch.object(converting, "report", lambda *_: said):
-            _, out, _ = self.told("--json", "a.json", "--junit", "a.xml", "--github", "test", ".")
-        lines = [json.loads(line) for line in (self.folder / "a.json").read_text().splitlines()]
-        self.assertEqual([sorted(line) for line in lines], [sorted(keys_of_the_page())] * 4)
-        part = next(line for line in lines if line["test"] == "TestRed/a_part")
-        self.assertEqual((part["status"], part["runs"], part["failed"], part["seconds"]), ("failed", 1, 1, 0.5))
-        self.assertEqual(part["recording"], "recordings/toy.TestRed.a_part.jsonl")
-        self.assertEqual(part["causes"], [{"file": "a/b.go", "line": 7, "text": "a/b.go:7: net.Dial waits to read"}])
-        self.assertEqual(part["suspects"], ["lost wake-up: 100%: step 3, so"])
-        top = ElementTree.parse(self.folder / "a.xml").getroot()
-        suite = top[0]
-        self.assertEqual((top.tag, suite.get("name"), suite.get("tests")), ("testsuites", PACKAGE, "4"))
-        self.assertEqual((suite.get("failures"), suite.get("errors"), suite.get("skipped")), ("2", "0", "1"))
-        case = next(case for case in suite if case.get("name") == "TestRed/a_part")
-        self.assertEqual((case.get("classname"), case.get("time")), (PACKAGE, "0.500000"))
-        failure = case.find("failure")
-        assert failure is not None and failure.text is not None
-        self.assertIn("net.Dial waits to read", failure.text)
-        told = [as_github_reads(line) for line in out.splitlines()]
-        self.assertEqual(len(told), 1)
-        properties, message = told[0]
-        self.assertEqual((properties["file"], properties["line"]), ("/else/a_test.go", "31"))
-        self.assertEqual(properties["title"], f"{PACKAGE} TestRed/a_part")
-        self.assertEqual((part["file"], part["line"]), ("/else/a_test.go", 31))
-        self.assertIn("\n    1. lost wake-up: 100%: step 3, so", message)
 
-    def test_what_cannot_go_together_is_told_before_anything_runs(self) -> None:
-        for words in (
-            ["--github", "test", "-json", "."],
-            ["--runs", "0", "test", "."],
-            ["--runs", "2", "run", "."],
-            ["-o", "stored", "test", "."],
-        ):
-            returned, _, error = self.told(*words, does=f"touch {self.folder}/ran")
-            self.assertEqual(returned, ExitStatus.TROUBLE, error)
-        self.assertFalse((self.folder / "ran").exists())
+def test_again_and_again(package: Tested) -> None:
+    returned, _, error = package.told("--runs", "3", "test", ".")
+    assert returned == 1
+    assert f"  {PACKAGE} TestRed/a_part: failed in 3 of 3 runs" in error
+    assert package.made() == ["toy.TestRed.a_part.jsonl"]
+    _, _, error = package.told("--until-failure", "--delays", "5", "test", ".", does="exit 1")
+    assert "run 1 (--delays 5) failed" in error
+    assert "4 tests, 1 run" in error
+    (package.folder / "lines").write_text(LINES.replace("fails", "other"))
+    seen = package.folder / "seen"
+    package.told(
+        "--runs", "3", "--delays", "5", "test", ".", status=0, does=f'echo "$GOMAXPROCS $NETREV_DELAYS" >> {seen}'
+    )
+    runs = [line.split(" ") for line in seen.read_text().splitlines()]
+    assert [run[1] for run in runs] == ["5", "6", "7"]
+    assert len({run[0] for run in runs}) == 3
 
-    def test_a_file_that_cannot_be_written_is_said_and_changes_nothing(self) -> None:
-        returned, _, error = self.told("--json", "nowhere/a", "test", ".", status=0)
-        self.assertEqual(returned, 0)
-        self.assertIn("netrev-go: nowhere/a: No such file or directory", error)
+
+def test_suspects_fail_where_that_is_wanted(monkeypatch: pytest.MonkeyPatch, package: Tested) -> None:
+    said = Conversion(True, ["x.jsonl: ok"], shown=[SUSPECTED])
+    monkeypatch.setattr(converting, "report", lambda *_: said)
+    for what, wanted in (("suspects", ExitStatus.SUSPECTED), ("possible", 0)):
+        assert package.told("--fail-on", what, "test", ".", status=0)[0] == wanted
+    assert package.told("test", ".", status=0)[0] == 0
+    assert package.told("--fail-on", "suspects", "test", ".", status=1)[0] == 1
+    assert package.told("--fail-on", "suspects", "run", ".", status=0)[0] == ExitStatus.SUSPECTED
+
+
+def test_each_form_is_read_as_its_consumer_does(monkeypatch: pytest.MonkeyPatch, package: Tested) -> None:
+    printed = ["x: ok 9 steps", "  a/b.go:7: net.Dial waits to read", "    1. lost wake-up: 100%: step 3, so"]
+    sentence = Sentence("a/b.go:7: net.Dial waits to read", Place("a/b.go", 7))
+    wait = Shown(Finding(FindingKind.WAIT, (sentence,)), [sentence])
+    said = Conversion(True, printed, shown=[wait, SUSPECTED])
+    with monkeypatch.context() as patch:
+        patch.setattr(converting, "report", lambda *_: said)
+        _, out, _ = package.told("--json", "a.json", "--junit", "a.xml", "--github", "test", ".")
+    lines = [json.loads(line) for line in (package.folder / "a.json").read_text().splitlines()]
+    assert [sorted(line) for line in lines] == [sorted(keys_of_the_page())] * 4
+    part = next(line for line in lines if line["test"] == "TestRed/a_part")
+    assert (part["status"], part["runs"], part["failed"], part["seconds"]) == ("failed", 1, 1, 0.5)
+    assert part["recording"] == "recordings/toy.TestRed.a_part.jsonl"
+    assert part["causes"] == [{"file": "a/b.go", "line": 7, "text": "a/b.go:7: net.Dial waits to read"}]
+    assert part["suspects"] == ["lost wake-up: 100%: step 3, so"]
+    top = ElementTree.parse(package.folder / "a.xml").getroot()
+    suite = top[0]
+    assert (top.tag, suite.get("name"), suite.get("tests")) == ("testsuites", PACKAGE, "4")
+    assert (suite.get("failures"), suite.get("errors"), suite.get("skipped")) == ("2", "0", "1")
+    case = next(case for case in suite if case.get("name") == "TestRed/a_part")
+    assert (case.get("classname"), case.get("time")) == (PACKAGE, "0.500000")
+    failure = case.find("failure")
+    assert failure is not None and failure.text is not None
+    assert "net.Dial waits to read" in failure.text
+    told = [as_github_reads(line) for line in out.splitlines()]
+    assert len(told) == 1
+    properties, message = told[0]
+    assert (properties["file"], properties["line"]) == ("/else/a_test.go", "31")
+    assert properties["title"] == f"{PACKAGE} TestRed/a_part"
+    assert (part["file"], part["line"]) == ("/else/a_test.go", 31)
+    assert "\n    1. lost wake-up: 100%: step 3, so" in message
+
+
+def test_what_cannot_go_together_is_told_before_anything_runs(package: Tested) -> None:
+    for words in (
+        ["--github", "test", "-json", "."],
+        ["--runs", "0", "test", "."],
+        ["--runs", "2", "run", "."],
+        ["-o", "stored", "test", "."],
+    ):
+        returned, _, error = package.told(*words, does=f"touch {package.folder}/ran")
+        assert returned == ExitStatus.TROUBLE, error
+    assert not (package.folder / "ran").exists()
+
+
+def test_a_file_that_cannot_be_written_is_said_and_changes_nothing(package: Tested) -> None:
+    returned, _, error = package.told("--json", "nowhere/a", "test", ".", status=0)
+    assert returned == 0
+    assert "netrev-go: nowhere/a: No such file or directory" in error
 
 
 def as_github_reads(line: str) -> tuple[dict[str, str], str]:
@@ -346,101 +352,107 @@ def keys_of_the_page() -> list[str]:
     return [word for row in table.splitlines()[2:] for word in re.findall(r"`(\w+)`", row.split("|")[1] if row else "")]
 
 
-class Forms(unittest.TestCase):
-    NOWHERE = pathlib.Path("/nowhere")
+NOWHERE = Path("/nowhere")
 
-    def test_what_a_page_or_a_terminal_would_obey_is_written_out(self) -> None:
-        one = TestResult("p", "T\x1b[31m", "failed", 1, 1, says=["a\x07b"], causes=[Cause("x,y:z.go", 3, "")])
-        self.assertEqual(
-            forms.annotation(one),
-            "::error file=x%2Cy%3Az.go,line=3,title=p T\\x1b[31m::failed%0Aa\\x07b",
-        )
-        case = ElementTree.fromstring(forms.junit([one]))[0][0]
-        self.assertEqual(case.get("name"), "T\\x1b[31m")
 
-    def test_whatever_is_said_is_read_again_as_it_was(self) -> None:
-        strange = '100%, 50%25: a::b, c=d %0A %2C %3A </failure> & <!-- ]]> "x" ::error::'
-        one = TestResult("p", strange, "failed", 1, 1, file=strange, line=3, says=[strange, "b"], suspects=[strange])
-        properties, message = as_github_reads(forms.annotation(one))
-        self.assertEqual(properties, {"file": strange, "line": "3", "title": f"p {strange}"})
-        self.assertEqual(message, f"failed\n{strange}\nb")
-        (case,) = ElementTree.fromstring(forms.junit([one])).iter("testcase")
-        self.assertEqual((case.get("name"), case[0].text), (strange, f"{strange}\nb"))
-        (line,) = forms.json_lines([one]).splitlines()
-        self.assertEqual(json.loads(line), asdict(one))
+def test_what_a_page_or_a_terminal_would_obey_is_written_out() -> None:
+    one = TestResult("p", "T\x1b[31m", "failed", 1, 1, says=["a\x07b"], causes=[Cause("x,y:z.go", 3, "")])
+    assert forms.annotation(one) == "::error file=x%2Cy%3Az.go,line=3,title=p T\\x1b[31m::failed%0Aa\\x07b"
+    case = ElementTree.fromstring(forms.junit([one]))[0][0]
+    assert case.get("name") == "T\\x1b[31m"
 
-    def test_one_that_never_ended_is_an_error(self) -> None:
-        case = ElementTree.fromstring(forms.junit([TestResult("p", "T", "unfinished", 1, 1)]))[0][0]
-        self.assertEqual([part.tag for part in case], ["error"])
 
-    def test_names_of_files(self) -> None:
-        self.assertEqual(short_name("example.org/toy/v2"), "toy")
-        self.assertEqual(short_name("v2"), "v2")
-        self.assertEqual(file_name("toy", "Test/a b/../c"), "toy.Test.a_b....c")
-        self.assertLess(len(file_name("toy", "x" * 400)), 250)
+def test_whatever_is_said_is_read_again_as_it_was() -> None:
+    strange = '100%, 50%25: a::b, c=d %0A %2C %3A </failure> & <!-- ]]> "x" ::error::'
+    one = TestResult("p", strange, "failed", 1, 1, file=strange, line=3, says=[strange, "b"], suspects=[strange])
+    properties, message = as_github_reads(forms.annotation(one))
+    assert properties == {"file": strange, "line": "3", "title": f"p {strange}"}
+    assert message == f"failed\n{strange}\nb"
+    (case,) = ElementTree.fromstring(forms.junit([one])).iter("testcase")
+    assert (case.get("name"), case[0].text) == (strange, f"{strange}\nb")
+    (line,) = forms.json_lines([one]).splitlines()
+    assert json.loads(line) == asdict(one)
 
-    def test_each_recording_has_a_name_of_its_own(self) -> None:
-        recordings = Recordings(pathlib.Path("r"), Go("go", self.NOWHERE, "", "", ""), RecordingOptions(), False, False)
-        names = [recordings.name_of("p", test).name for test in ("T/a=b", "T/a_b", "T/a_b-2", "T/a b")]
-        self.assertEqual(names, ["p.T.a_b.jsonl", "p.T.a_b-2.jsonl", "p.T.a_b-2-2.jsonl", "p.T.a_b-3.jsonl"])
 
-    def test_a_long_line_is_searched_in_no_time(self) -> None:
-        begin = time.process_time()
-        lines = SourceLines()
-        lines._add({"call": 1, "function": "main.f", "file": "a.go", "line": 3, "of": "program"})
-        shown = Shown(Finding(FindingKind.HANG, ()), sentences_of(lines, ["x" * 100_000, "ba.go:9, a.go:7 and a.go:8"]))
-        self.assertEqual(forms.causes_in([shown]), [Cause("a.go", 7, "ba.go:9, a.go:7 and a.go:8")])
-        self.assertLess(time.process_time() - begin, 5)
+def test_one_that_never_ended_is_an_error() -> None:
+    case = ElementTree.fromstring(forms.junit([TestResult("p", "T", "unfinished", 1, 1)]))[0][0]
+    assert [part.tag for part in case] == ["error"]
 
-    def test_of_several_runs_it_is_said_in_how_many_it_failed(self) -> None:
-        self.assertEqual(TestResult("p", "T", "failed", 1, 1).outcome(), "failed")
-        self.assertEqual(TestResult("p", "T", "failed", 3, 1).outcome(), "failed in 1 of 3 runs")
 
-    def test_the_page_has_each_key_and_element(self) -> None:
-        page = (PYTHON.parent / "docs/reference/OPTIONS.md").read_text()
-        self.assertEqual(sorted(keys_of_the_page()), sorted(asdict(TestResult("p", "T"))))
-        table = page[page.index("| Element | Has |") : page.index("`--html` writes")]
-        named = set(re.findall(r"`(\w+)`", table))
-        red = [
-            TestResult("p", "T", status, 1, int(status != "skipped")) for status in ("failed", "unfinished", "skipped")
-        ]
-        top = ElementTree.fromstring(forms.junit(red))
-        self.assertEqual({part.tag for part in top.iter()} | {key for part in top.iter() for key in part.keys()}, named)
+def test_names_of_files() -> None:
+    assert short_name("example.org/toy/v2") == "toy"
+    assert short_name("v2") == "v2"
+    assert file_name("toy", "Test/a b/../c") == "toy.Test.a_b....c"
+    assert len(file_name("toy", "x" * 400)) < 250
+
+
+def test_each_recording_has_a_name_of_its_own() -> None:
+    recordings = Recordings(Path("r"), Go("go", NOWHERE, "", "", ""), RecordingOptions(), False, False)
+    names = [recordings.name_of("p", test).name for test in ("T/a=b", "T/a_b", "T/a_b-2", "T/a b")]
+    assert names == ["p.T.a_b.jsonl", "p.T.a_b-2.jsonl", "p.T.a_b-2-2.jsonl", "p.T.a_b-3.jsonl"]
+
+
+def test_a_long_line_is_searched_in_no_time() -> None:
+    begin = time.process_time()
+    lines = SourceLines()
+    lines._add({"call": 1, "function": "main.f", "file": "a.go", "line": 3, "of": "program"})
+    shown = Shown(Finding(FindingKind.HANG, ()), sentences_of(lines, ["x" * 100_000, "ba.go:9, a.go:7 and a.go:8"]))
+    assert forms.causes_in([shown]) == [Cause("a.go", 7, "ba.go:9, a.go:7 and a.go:8")]
+    assert time.process_time() - begin < 5
+
+
+def test_of_several_runs_it_is_said_in_how_many_it_failed() -> None:
+    assert TestResult("p", "T", "failed", 1, 1).outcome() == "failed"
+    assert TestResult("p", "T", "failed", 3, 1).outcome() == "failed in 1 of 3 runs"
+
+
+def test_the_page_has_each_key_and_element() -> None:
+    page = (PYTHON.parent / "docs/reference/OPTIONS.md").read_text()
+    assert sorted(keys_of_the_page()) == sorted(asdict(TestResult("p", "T")))
+    table = page[page.index("| Element | Has |") : page.index("`--html` writes")]
+    named = set(re.findall(r"`(\w+)`", table))
+    red = [TestResult("p", "T", status, 1, int(status != "skipped")) for status in ("failed", "unfinished", "skipped")]
+    top = ElementTree.fromstring(forms.junit(red))
+    assert {part.tag for part in top.iter()} | {key for part in top.iter() for key in part.keys()} == named
+
+
+@pytest.fixture
+def signals(cleanups: ExitStack) -> None:
+    restore_signals(cleanups)
+
+
+def ended(folder: Path, script: str, called: Optional[list[bool]] = None) -> tuple[int, bool]:
+    """The status of a command, and whether it was cancelled before its end."""
+    runner = GoRunner(["sh", "-c", script], folder, RunLimits())
+    status = runner.wait(lambda: (called if called is not None else []).append(True))
+    return status, runner.cancelled
 
 
 @pytest.mark.alone
-class Signals(unittest.TestCase):
-    """netrev-go's only thread gets the signals; a process of pytest-xdist has two threads."""
+@pytest.mark.usefixtures("signals")
+def test_what_cancels_netrev_go_goes_to_go(folder: Path) -> None:
+    loop = "while :; do sleep 0.05; done"
+    for name, status in (("TERM", 7), ("INT", 8)):
+        said = ended(folder, f"trap 'exit {status}' {name}; kill -{name} $PPID; {loop}")
+        assert said == (status, True), name
+    assert ended(folder, f"kill -TERM $PPID; {loop}") == (-signal.SIGTERM, True)
 
-    def setUp(self) -> None:
-        for number in SIGNALS:
-            self.addCleanup(signal.signal, number, signal.getsignal(number))
-        self.addCleanup(signal.pthread_sigmask, signal.SIG_SETMASK, signal.pthread_sigmask(signal.SIG_BLOCK, ()))
-        self.folder = folder_of(self)
 
-    def ended(self, script: str, called: Optional[list[bool]] = None) -> tuple[int, bool]:
-        """The status of a command, and whether it was cancelled before its end."""
-        runner = GoRunner(["sh", "-c", script], self.folder, RunLimits())
-        status = runner.wait(lambda: (called if called is not None else []).append(True))
-        return status, runner.cancelled
+@pytest.mark.alone
+@pytest.mark.usefixtures("signals")
+def test_what_the_terminal_sent_to_all_is_not_sent_twice(folder: Path) -> None:
+    runner = GoRunner(["true"], folder, RunLimits())
+    runner.wait(lambda: None)
+    for code, times in ((FROM_THE_TERMINAL, 0), (0, 1)):
+        sent: list[int] = []
+        runner.process = cast(Any, SimpleNamespace(send_signal=sent.append))
+        runner.attend(cast(Any, SimpleNamespace(si_signo=signal.SIGINT, si_code=code)), lambda: None)
+        assert sent == [signal.SIGINT] * times
 
-    def test_what_cancels_netrev_go_goes_to_go(self) -> None:
-        loop = "while :; do sleep 0.05; done"
-        for name, status in (("TERM", 7), ("INT", 8)):
-            with self.subTest(name):
-                said = self.ended(f"trap 'exit {status}' {name}; kill -{name} $PPID; {loop}")
-                self.assertEqual(said, (status, True))
-        self.assertEqual(self.ended(f"kill -TERM $PPID; {loop}"), (-signal.SIGTERM, True))
 
-    def test_what_the_terminal_sent_to_all_is_not_sent_twice(self) -> None:
-        runner = GoRunner(["true"], self.folder, RunLimits())
-        runner.wait(lambda: None)
-        for code, times in ((FROM_THE_TERMINAL, 0), (0, 1)):
-            with mock.patch.object(runner, "process") as process:
-                runner.attend(mock.Mock(si_signo=signal.SIGINT, si_code=code), lambda: None)
-            self.assertEqual(process.send_signal.call_count, times)
-
-    def test_a_recording_so_far_cancels_nothing(self) -> None:
-        called: list[bool] = []
-        self.assertEqual(self.ended("kill -USR1 $PPID; sleep 0.3", called), (0, False))
-        self.assertEqual(called, [True])
+@pytest.mark.alone
+@pytest.mark.usefixtures("signals")
+def test_a_recording_so_far_cancels_nothing(folder: Path) -> None:
+    called: list[bool] = []
+    assert ended(folder, "kill -USR1 $PPID; sleep 0.3", called) == (0, False)
+    assert called == [True]

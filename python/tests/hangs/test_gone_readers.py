@@ -1,7 +1,7 @@
 """A connection's only reader, a goroutine, has ended while bytes still arrive. An io.ReadFull waits for
 the rest of its bytes. Its next Read asks only for the missing bytes, and so shows how many have come."""
 
-import unittest
+import re
 from typing import Any
 
 from netrev.findings.causes.leftovers import leftovers_of
@@ -32,72 +32,71 @@ def recording_of(steps: list[Any], ended: int = ENDED) -> Recording:
     return recording
 
 
-class GoneReaders(unittest.TestCase):
-    def found(self, steps: list[Any], ended: int = ENDED) -> int:
-        recording = recording_of(steps, ended)
-        return sum(one.write is not None for one in gone_readers(run_of(recording), recording.length))
-
-    def test_bytes_that_come_after_its_end(self) -> None:
-        recording = recording_of([*READS, *put(1, "6869")])
-        (said,) = [one.says for one in leftovers_of(recording) if "nobody reads" in one.says[0]]
-        self.assertEqual(
-            said[0],
-            f"Perhaps: nobody reads on socket 0 any more: goroutine 1, which alone had read there, ended after step {ENDED}.",
-        )
-        self.assertRegex(said[2], r"^Write .* came after that, in steps \d+ to \d+: nobody has read it\.$")
-
-    def test_one_that_is_there_yet_or_after_which_nothing_came(self) -> None:
-        self.assertEqual(self.found([*READS, *put(1, "6869")]), 1)
-        self.assertEqual(self.found([*READS, *put(1, "6869")], -1), 0)
-        self.assertEqual(self.found(READS), 0)
-
-    def test_a_connection_that_was_closed_or_that_another_reads_too(self) -> None:
-        self.assertEqual(self.found([*READS, *CLOSES, *put(1, "6869")]), 0)
-        others = [[step[0], 0, *step[2:]] if step[0] != "arrive" else step for step in [*GETS, *UNLOCKS]]
-        self.assertEqual(self.found([*READS, *others, *put(1, "6869")]), 0)
-
-    def test_it_is_said_of_a_hang_of_the_goroutine_that_wrote_there(self) -> None:
-        recording = recording_of([*READS, *put(0, "6869"), *put(1, "6869")])
-        index = run_of(recording)
-        self.assertRegex(reader_words(index, {Name(0)}, recording.length)[0], r"^Nobody reads on socket 0 any more: ")
-        self.assertEqual(reader_words(index, {Name(1)}, recording.length), [])
-
-    def test_it_is_said_of_a_hang_also_if_nothing_came_since(self) -> None:
-        recording = recording_of([*READS, *put(0, "6869")])
-        self.assertEqual(len(reader_words(run_of(recording), {Name(0)}, recording.length)), 2)
-        self.assertEqual([one.says for one in leftovers_of(recording) if "nobody reads" in one.says[0]], [])
-
-    def test_its_number_may_be_another_s_since_then(self) -> None:
-        recording = recording_of([*READS, *put(1, "6869")])
-        lines, index = recording.lines, run_of(recording)
-        self.assertGreater(len(index.by_goid(READER)), 0)
-        lines.add_owners([[1, 0, READER], [1, ENDED, READER + 1]])
-        lines.goroutines[READER + 1] = GoGoroutine(READER + 1, 1, None, 0, 0, -1, 0, 0)
-        lines._goids[1] = READER + 1
-        self.assertEqual(len(list(gone_readers(index, recording.length))), 1)
-        later = [call for call in index.by_goroutine[1] if call.first > ENDED]
-        self.assertEqual((index.by_goid(READER), index.by_goid(READER + 1)), ([], later))
-        self.assertGreater(len(index.by_goroutine[1]), len(later))
+def found(steps: list[Any], ended: int = ENDED) -> int:
+    recording = recording_of(steps, ended)
+    return sum(one.write is not None for one in gone_readers(run_of(recording), recording.length))
 
 
-class CutReads(unittest.TestCase):
-    def test_the_next_read_says_how_many_bytes_one_got(self) -> None:
-        recording = stored("longer-bad")
-        index, asked = run_of(recording), read_sizes_of(recording)
-        calls = [one.call for one in waiters_at(index, recording.length).values() if one.call]
-        (call,) = [call for call in calls if lacking(index, call, index.other_end(call.socket) or 0)]
-        before, other = asked.before(call), index.other_end(call.socket) or 0
-        assert before is not None
-        recording.lines.bytes = before.moved or 0
-        asked._sizes.update({before.first: 8_800, call.first: 8_719})
-        self.assertIs(begin_of_full(index, asked, call), before)
-        self.assertRegex(
-            lacking(index, call, other)[0],
-            r"^Perhaps fewer bytes .* asked for 8800 and has 81, so 8719 more must come\.",
-        )
-        asked._sizes.update({before.first: 8_800, call.first: 8_799})
-        self.assertEqual(lacking(index, call, other), [])
+def test_bytes_that_come_after_its_end() -> None:
+    recording = recording_of([*READS, *put(1, "6869")])
+    (said,) = [one.says for one in leftovers_of(recording) if "nobody reads" in one.says[0]]
+    assert (
+        said[0]
+        == f"Perhaps: nobody reads on socket 0 any more: goroutine 1, which alone had read there, ended after step {ENDED}."
+    )
+    assert re.search(r"^Write .* came after that, in steps \d+ to \d+: nobody has read it\.$", said[2])
 
 
-if __name__ == "__main__":
-    unittest.main()
+def test_one_that_is_there_yet_or_after_which_nothing_came() -> None:
+    assert found([*READS, *put(1, "6869")]) == 1
+    assert found([*READS, *put(1, "6869")], -1) == 0
+    assert found(READS) == 0
+
+
+def test_a_connection_that_was_closed_or_that_another_reads_too() -> None:
+    assert found([*READS, *CLOSES, *put(1, "6869")]) == 0
+    others = [[step[0], 0, *step[2:]] if step[0] != "arrive" else step for step in [*GETS, *UNLOCKS]]
+    assert found([*READS, *others, *put(1, "6869")]) == 0
+
+
+def test_it_is_said_of_a_hang_of_the_goroutine_that_wrote_there() -> None:
+    recording = recording_of([*READS, *put(0, "6869"), *put(1, "6869")])
+    index = run_of(recording)
+    assert re.search(r"^Nobody reads on socket 0 any more: ", reader_words(index, {Name(0)}, recording.length)[0])
+    assert reader_words(index, {Name(1)}, recording.length) == []
+
+
+def test_it_is_said_of_a_hang_also_if_nothing_came_since() -> None:
+    recording = recording_of([*READS, *put(0, "6869")])
+    assert len(reader_words(run_of(recording), {Name(0)}, recording.length)) == 2
+    assert [one.says for one in leftovers_of(recording) if "nobody reads" in one.says[0]] == []
+
+
+def test_its_number_may_be_another_s_since_then() -> None:
+    recording = recording_of([*READS, *put(1, "6869")])
+    lines, index = recording.lines, run_of(recording)
+    assert len(index.by_goid(READER)) > 0
+    lines.add_owners([[1, 0, READER], [1, ENDED, READER + 1]])
+    lines.goroutines[READER + 1] = GoGoroutine(READER + 1, 1, None, 0, 0, -1, 0, 0)
+    lines._goids[1] = READER + 1
+    assert len(list(gone_readers(index, recording.length))) == 1
+    later = [call for call in index.by_goroutine[1] if call.first > ENDED]
+    assert (index.by_goid(READER), index.by_goid(READER + 1)) == ([], later)
+    assert len(index.by_goroutine[1]) > len(later)
+
+
+def test_the_next_read_says_how_many_bytes_one_got() -> None:
+    recording = stored("longer-bad")
+    index, asked = run_of(recording), read_sizes_of(recording)
+    calls = [one.call for one in waiters_at(index, recording.length).values() if one.call]
+    (call,) = [call for call in calls if lacking(index, call, index.other_end(call.socket) or 0)]
+    before, other = asked.before(call), index.other_end(call.socket) or 0
+    assert before is not None
+    recording.lines.bytes = before.moved or 0
+    asked._sizes.update({before.first: 8_800, call.first: 8_719})
+    assert begin_of_full(index, asked, call) is before
+    assert re.search(
+        r"^Perhaps fewer bytes .* asked for 8800 and has 81, so 8719 more must come\.", lacking(index, call, other)[0]
+    )
+    asked._sizes.update({before.first: 8_800, call.first: 8_799})
+    assert lacking(index, call, other) == []

@@ -1,8 +1,10 @@
 """Functions that return with a mutex locked because a path has no Unlock, in a file of a few lines."""
 
 import tempfile
-import unittest
 from pathlib import Path
+from typing import Any
+
+import pytest
 
 from netrev.findings.source.left_locked import left_locked
 from tests.failed_calls.test_causes import TWO_ENDS, with_lines
@@ -37,39 +39,32 @@ GOOD = {
 }  # fmt: skip
 
 
-class LeftLocked(unittest.TestCase):
-    def said(self, source: str, number: int = 4) -> list[str]:
-        """The text for a goroutine that waits in `lookup`."""
-        with tempfile.TemporaryDirectory() as folder:
-            file = str(Path(folder) / "book.go")
-            Path(file).write_text(LOOKUP + source, encoding="utf-8")
-            recording = with_lines(TWO_ENDS)
-            recording.lines.written = float("inf")
-            return [
-                says.replace(file, "book.go") for says in left_locked(recording, line(number, "(*book).lookup", file))
-            ]
-
-    def test_a_return_before_the_unlock(self) -> None:
-        self.assertEqual(
-            self.said(LEAKS),
-            [
-                "Perhaps nobody unlocked it: (*book).update locks it at book.go:10, and returns at book.go:12 without an Unlock."
-            ],
-        )
-        self.assertIn("locks it at book.go:12, and returns at book.go:14", self.said(SECOND)[0])
-
-    def test_no_unlock_at_all(self) -> None:
-        self.assertIn("(*book).count locks it at book.go:10, and never unlocks it.", self.said(NEVER)[0])
-
-    def test_what_unlocks_or_may_do_so(self) -> None:
-        for name, source in GOOD.items():
-            with self.subTest(name):
-                self.assertNotEqual(source, LEAKS)
-                self.assertEqual(self.said(source), [])
-
-    def test_a_line_that_locks_nothing(self) -> None:
-        self.assertEqual(self.said(LEAKS, 6), [])
+def output_of(source: str, number: int = 4) -> list[str]:
+    """The text for a goroutine that waits in `lookup`."""
+    with tempfile.TemporaryDirectory() as folder:
+        file = str(Path(folder) / "book.go")
+        Path(file).write_text(LOOKUP + source, encoding="utf-8")
+        recording = with_lines(TWO_ENDS)
+        recording.lines.written = float("inf")
+        return [says.replace(file, "book.go") for says in left_locked(recording, line(number, "(*book).lookup", file))]
 
 
-if __name__ == "__main__":
-    unittest.main()
+def test_a_return_before_the_unlock() -> None:
+    assert output_of(LEAKS) == [
+        "Perhaps nobody unlocked it: (*book).update locks it at book.go:10, and returns at book.go:12 without an Unlock."
+    ]
+    assert "locks it at book.go:12, and returns at book.go:14" in output_of(SECOND)[0]
+
+
+def test_no_unlock_at_all() -> None:
+    assert "(*book).count locks it at book.go:10, and never unlocks it." in output_of(NEVER)[0]
+
+
+@pytest.mark.parametrize("name, source", GOOD.items())
+def test_what_unlocks_or_may_do_so(name: Any, source: Any) -> None:
+    assert source != LEAKS
+    assert output_of(source) == []
+
+
+def test_a_line_that_locks_nothing() -> None:
+    assert output_of(LEAKS, 6) == []

@@ -1,8 +1,8 @@
 """What goroutines need, according to the program's source: a file of a few lines."""
 
-import tempfile
-import unittest
 from pathlib import Path
+
+import pytest
 
 from netrev.findings.locks.conditions import single_signal, unsignalled
 from netrev.findings.pools.senders import later_giver
@@ -78,14 +78,12 @@ func run(jobs chan int, done chan bool) {
 NOTE, SECOND, LITERAL, WAIT, LOOP, LAST_PUT, DONE = 11, 17, 14, 23, 48, 55, 56
 
 
-class WithSource(unittest.TestCase):
-    """Rules that read the source, here bank.go."""
+class Bank:
+    """A recording of a program whose source is bank.go."""
 
-    def setUp(self) -> None:
-        self.folder = tempfile.TemporaryDirectory()
-        self.addCleanup(self.folder.cleanup)
-        self.file = str(Path(self.folder.name) / "bank.go")
-        Path(self.file).write_text(SOURCE, encoding="utf-8")
+    def __init__(self, folder: Path) -> None:
+        (folder / "bank.go").write_text(SOURCE, encoding="utf-8")
+        self.file = str(folder / "bank.go")
         self.recording = with_lines(TWO_ENDS)
         self.recording.lines.written = float("inf")
 
@@ -99,69 +97,76 @@ class WithSource(unittest.TestCase):
     def held(self, number: int, function: str) -> list[tuple[str, int]]:
         return [(held.name, held.line) for held in held_at(self.recording, self.at(number, function))]
 
-    def test_the_mutexes_that_a_function_holds_at_a_line(self) -> None:
-        """A mutex that is unlocked only on a path that returns counts as held; a mutex that another function literal
-        locks doesn't."""
-        self.assertEqual(self.held(NOTE, "(*bank).move"), [("from.mu", 4), ("b.log", 6)])
-        self.assertEqual(self.held(SECOND, "(*bank).move"), [("from.mu", 4)])
-        self.assertEqual(self.held(LITERAL + 1, "(*bank).move.func1"), [("to.mu", 14)])
 
-    def test_the_lines_of_a_function_and_of_a_literal(self) -> None:
-        lines = tuple(SOURCE.split("\n"))
-        self.assertEqual(range_of(lines, self.at(NOTE, "(*bank).move")), range(3, 20))
-        self.assertEqual(range_of(lines, self.at(LITERAL, "(*bank).move.func1")), range(13, 17))
-        self.assertIsNone(range_of(lines, self.at(2, "(*bank).move")))
+@pytest.fixture
+def bank(folder: Path) -> Bank:
+    return Bank(folder)
 
-    def test_variables_that_may_be_the_same(self) -> None:
-        for one, other, is_near, is_same in (
-            ("a.mu", "b.mu", False, True), ("a.mu", "b.lock", True, False), ("done", "done", True, True), ("done", "done", False, False),
-        ):  # fmt: skip
-            self.assertEqual(is_same_variable(one, other, is_near), is_same, (one, other))
 
-    def test_who_should_have_woken_a_goroutine(self) -> None:
-        """The text names only functions of the same type that change what the goroutine checks and don't wait
-        themselves."""
-        wait = self.waiting(WAIT, "(*queue).pop")
-        (said,) = unsignalled(self.recording, wait)
-        self.assertIn(f"{self.file}:39 in (*queue).clear should have woken it: it changes items", said)
-        (alone,) = single_signal(self.recording, wait, 3)
-        self.assertIn(
-            ":35 in (*queue).close should wake all: Signal wakes only one goroutine, and 3 still wait.", alone
-        )
-        self.assertEqual(single_signal(self.recording, wait, 1), [])
-        self.assertEqual(
-            unsignalled(self.recording, self.waiting(WAIT, "(*queue).pop", FOR_ROOM)._replace(stack=Stack((), None))),
-            [],
-        )
+def test_the_mutexes_that_a_function_holds_at_a_line(bank: Bank) -> None:
+    """A mutex that is unlocked only on a path that returns counts as held; a mutex that another function literal
+    locks doesn't."""
+    assert bank.held(NOTE, "(*bank).move") == [("from.mu", 4), ("b.log", 6)]
+    assert bank.held(SECOND, "(*bank).move") == [("from.mu", 4)]
+    assert bank.held(LITERAL + 1, "(*bank).move.func1") == [("to.mu", 14)]
 
-    def test_a_loop_over_a_channel_that_nothing_closes(self) -> None:
-        loop = unclosed(self.recording, self.waiting(LOOP, "run.func1"), [])
-        assert loop is not None
-        self.assertEqual(
-            loop.more,
-            [
-                f"The loop at {self.file}:{LOOP} ends when jobs is closed: no line of {self.file} closes one of that name."
-            ],
-        )
-        self.recording.lines.uses[1] = [use(3, "closed", 0)]
-        self.assertIsNone(unclosed(self.recording, self.waiting(LOOP, "run.func1"), []))
 
-    def test_a_goroutine_that_closes_a_channel_later(self) -> None:
-        wait, inside = self.waiting(DONE, "run"), Stack((self.at(LOOP + 1, "run.func1"),), None)
-        need = unclosed(self.recording, wait, [(Name(2), inside)])
-        assert need is not None
-        self.assertEqual((need.by, need.how), (Name(2), f"perhaps {{by}} closes that later, at {self.file}:51"))
-        nobody = unclosed(self.recording, wait, [])
-        assert nobody is not None
-        self.assertEqual((nobody.by, nobody.is_odd), (None, True))
-        self.assertIn("Perhaps ", nobody.more[0])
+def test_the_lines_of_a_function_and_of_a_literal(bank: Bank) -> None:
+    lines = tuple(SOURCE.split("\n"))
+    assert range_of(lines, bank.at(NOTE, "(*bank).move")) == range(3, 20)
+    assert range_of(lines, bank.at(LITERAL, "(*bank).move.func1")) == range(13, 17)
+    assert range_of(lines, bank.at(2, "(*bank).move")) is None
 
-    def test_a_goroutine_that_puts_a_value_later(self) -> None:
-        wait, before = self.waiting(LOOP, "run.func1"), Stack((self.at(LAST_PUT - 1, "run"),), None)
-        need = later_giver(self.recording, wait, [(Name(2), before)])
-        assert need is not None
-        self.assertEqual(
-            (need.by, need.how), (Name(2), f"perhaps {{by}} puts a value there later, at {self.file}:{LAST_PUT}")
-        )
-        behind = Stack((self.at(DONE, "run"),), None)
-        self.assertIsNone(later_giver(self.recording, wait, [(Name(2), behind)]))
+
+def test_variables_that_may_be_the_same() -> None:
+    for one, other, is_near, is_same in (
+        ("a.mu", "b.mu", False, True), ("a.mu", "b.lock", True, False), ("done", "done", True, True), ("done", "done", False, False),
+    ):  # fmt: skip
+        assert is_same_variable(one, other, is_near) == is_same, (one, other)
+
+
+def test_who_should_have_woken_a_goroutine(bank: Bank) -> None:
+    """The text names only functions of the same type that change what the goroutine checks and don't wait
+    themselves."""
+    wait = bank.waiting(WAIT, "(*queue).pop")
+    (said,) = unsignalled(bank.recording, wait)
+    assert f"{bank.file}:39 in (*queue).clear should have woken it: it changes items" in said
+    (alone,) = single_signal(bank.recording, wait, 3)
+    assert ":35 in (*queue).close should wake all: Signal wakes only one goroutine, and 3 still wait." in alone
+    assert single_signal(bank.recording, wait, 1) == []
+    assert (
+        unsignalled(bank.recording, bank.waiting(WAIT, "(*queue).pop", FOR_ROOM)._replace(stack=Stack((), None))) == []
+    )
+
+
+def test_a_loop_over_a_channel_that_nothing_closes(bank: Bank) -> None:
+    loop = unclosed(bank.recording, bank.waiting(LOOP, "run.func1"), [])
+    assert loop is not None
+    assert loop.more == [
+        f"The loop at {bank.file}:{LOOP} ends when jobs is closed: no line of {bank.file} closes one of that name."
+    ]
+    bank.recording.lines.uses[1] = [use(3, "closed", 0)]
+    assert unclosed(bank.recording, bank.waiting(LOOP, "run.func1"), []) is None
+
+
+def test_a_goroutine_that_closes_a_channel_later(bank: Bank) -> None:
+    wait, inside = bank.waiting(DONE, "run"), Stack((bank.at(LOOP + 1, "run.func1"),), None)
+    need = unclosed(bank.recording, wait, [(Name(2), inside)])
+    assert need is not None
+    assert (need.by, need.how) == (Name(2), f"perhaps {{by}} closes that later, at {bank.file}:51")
+    nobody = unclosed(bank.recording, wait, [])
+    assert nobody is not None
+    assert (nobody.by, nobody.is_odd) == (None, True)
+    assert "Perhaps " in nobody.more[0]
+
+
+def test_a_goroutine_that_puts_a_value_later(bank: Bank) -> None:
+    wait, before = bank.waiting(LOOP, "run.func1"), Stack((bank.at(LAST_PUT - 1, "run"),), None)
+    need = later_giver(bank.recording, wait, [(Name(2), before)])
+    assert need is not None
+    assert (need.by, need.how) == (
+        Name(2),
+        f"perhaps {{by}} puts a value there later, at {bank.file}:{LAST_PUT}",
+    )
+    behind = Stack((bank.at(DONE, "run"),), None)
+    assert later_giver(bank.recording, wait, [(Name(2), behind)]) is None

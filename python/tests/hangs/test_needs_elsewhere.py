@@ -1,7 +1,8 @@
 """The goroutine that could end a wait outside the poller: the goroutine at the same channel, or the goroutine that
 serves the awaited request."""
 
-import unittest
+
+import re
 
 from netrev.findings.causes.first import left_by
 from netrev.findings.evidence.need import Certainty, Need
@@ -41,74 +42,70 @@ def need_of(recording: Recording) -> Need:
     return graph_at(recording, recording.length).needs[Name(WAITER, True)]
 
 
-class EndedBefore(unittest.TestCase):
-    def test_at_the_same_channel(self) -> None:
-        need = need_of(waiting(3, 3))
-        self.assertEqual((need.by, need.certainty), (Name(OTHER, True), Certainty.LIKELY))
-        self.assertIn("ended its wait there before", need.how)
+def test_at_the_same_channel() -> None:
+    need = need_of(waiting(3, 3))
+    assert (need.by, need.certainty) == (Name(OTHER, True), Certainty.LIKELY)
+    assert "ended its wait there before" in need.how
 
-    def test_at_another_channel_of_the_same_line_that_is_said_with_perhaps(self) -> None:
-        need = need_of(waiting(3, 4))
-        self.assertEqual((need.by, need.certainty), (Name(OTHER, True), Certainty.PERHAPS))
-        self.assertIn("a wait at that line before", need.how)
 
-    def test_one_that_gave_a_value_there_is_likely_until_it_has_returned_from_that(self) -> None:
-        for stack, certainty, how in (
-            (3, Certainty.LIKELY, r"^\{by\} put the last value there at .* in send$"),
-            (2, Certainty.PERHAPS, r"^perhaps for \{by\}: it put the last value there at .* in deliver$"),
-        ):
-            recording = waiting(3, 4)
-            recording.lines.uses[4] = [use(OTHER, PUT, stack, number=4)]
-            need = need_of(recording)
-            self.assertEqual((need.by, need.certainty), (Name(OTHER, True), certainty))
-            self.assertRegex(need.how, how)
+def test_at_another_channel_of_the_same_line_that_is_said_with_perhaps() -> None:
+    need = need_of(waiting(3, 4))
+    assert (need.by, need.certainty) == (Name(OTHER, True), Certainty.PERHAPS)
+    assert "a wait at that line before" in need.how
 
-    def test_a_goroutine_that_gave_something_there_and_has_ended_is_named_in_its_place(self) -> None:
+
+def test_one_that_gave_a_value_there_is_likely_until_it_has_returned_from_that() -> None:
+    for stack, certainty, how in (
+        (3, Certainty.LIKELY, r"^\{by\} put the last value there at .* in send$"),
+        (2, Certainty.PERHAPS, r"^perhaps for \{by\}: it put the last value there at .* in deliver$"),
+    ):
         recording = waiting(3, 4)
-        recording.lines.uses[4] = [use(GONE, PUT, 3, number=4)]
-        recording.lines.goroutines[GONE] = GoGoroutine(GONE, -1, None, 0, 0, 1, 0, 0)
+        recording.lines.uses[4] = [use(OTHER, PUT, stack, number=4)]
         need = need_of(recording)
-        self.assertIsNone(need.by)
-        self.assertRegex(need.says[0], r"^Goid 7 put the last value there .*; it ended after step 1\.$")
+        assert (need.by, need.certainty) == (Name(OTHER, True), certainty)
+        assert re.search(how, need.how)
 
 
-class EndedWithAFailure(unittest.TestCase):
-    def said(self, ended: int) -> list[str]:
-        """The text about the only call of goroutine 1, which is Go's goroutine 7. It was the last goroutine to send a
-        value to the channel on which another goroutine waits."""
-        recording = waiting(3, 4, [*TWO_ENDS, *GETS, *UNLOCKS])
-        lines = recording.lines
-        lines.uses[4] = [use(GONE, PUT, 3, number=4)]
-        lines.goroutines[GONE] = GoGoroutine(GONE, 1, None, 0, 0, ended, 0, 0)
-        lines._goids[1] = GONE
-        (call,) = run_of(recording).by_goroutine[1]
-        return left_by(graph_at(recording, recording.length), call)
-
-    def test_others_wait_for_the_goroutine_of_a_failed_call(self) -> None:
-        (said,) = self.said(len(TWO_ENDS) + 5)
-        self.assertRegex(
-            said,
-            r"^Goroutine 1 ended after that, at step \d+; goid 5 waits .*, at which goroutine 1 was the last to put a value\.$",
-        )
-
-    def test_one_that_goes_on(self) -> None:
-        self.assertEqual(self.said(-1), [])
+def test_a_goroutine_that_gave_something_there_and_has_ended_is_named_in_its_place() -> None:
+    recording = waiting(3, 4)
+    recording.lines.uses[4] = [use(GONE, PUT, 3, number=4)]
+    recording.lines.goroutines[GONE] = GoGoroutine(GONE, -1, None, 0, 0, 1, 0, 0)
+    need = need_of(recording)
+    assert need.by is None
+    assert re.search(r"^Goid 7 put the last value there .*; it ended after step 1\.$", need.says[0])
 
 
-class Responses(unittest.TestCase):
-    def test_a_connection_that_another_goroutine_used_since_is_not_that_of_the_request(self) -> None:
-        recording = stored("requests")
-        wait = ObjectWait(Name(0), 420, None, "a select", Stack((), None))
-        before = socket_of(run_of(recording), wait, recording.length)
-        first = recording.lines.uses[7]
-        put, took = first[0]._replace(goid=99, begin=10**9, end=10**9), first[1]._replace(
-            begin=10**9, end=10**9
-        )
-        self.assertEqual((put.what, took.what), (PUT, TOOK))
-        recording.lines.uses[7] = [*first, put, took]
-        self.assertEqual(socket_of(run_of(recording), wait, recording.length), before)
-        self.assertIsNotNone(before)
+def output_of(ended: int) -> list[str]:
+    """The text about the only call of goroutine 1, which is Go's goroutine 7. It was the last goroutine to send a
+    value to the channel on which another goroutine waits."""
+    recording = waiting(3, 4, [*TWO_ENDS, *GETS, *UNLOCKS])
+    lines = recording.lines
+    lines.uses[4] = [use(GONE, PUT, 3, number=4)]
+    lines.goroutines[GONE] = GoGoroutine(GONE, 1, None, 0, 0, ended, 0, 0)
+    lines._goids[1] = GONE
+    (call,) = run_of(recording).by_goroutine[1]
+    return left_by(graph_at(recording, recording.length), call)
 
 
-if __name__ == "__main__":
-    unittest.main()
+def test_others_wait_for_the_goroutine_of_a_failed_call() -> None:
+    (said,) = output_of(len(TWO_ENDS) + 5)
+    assert re.search(
+        r"^Goroutine 1 ended after that, at step \d+; goid 5 waits .*, at which goroutine 1 was the last to put a value\.$",
+        said,
+    )
+
+
+def test_one_that_goes_on() -> None:
+    assert output_of(-1) == []
+
+
+def test_a_connection_that_another_goroutine_used_since_is_not_that_of_the_request() -> None:
+    recording = stored("requests")
+    wait = ObjectWait(Name(0), 420, None, "a select", Stack((), None))
+    before = socket_of(run_of(recording), wait, recording.length)
+    first = recording.lines.uses[7]
+    put, took = first[0]._replace(goid=99, begin=10**9, end=10**9), first[1]._replace(begin=10**9, end=10**9)
+    assert (put.what, took.what) == (PUT, TOOK)
+    recording.lines.uses[7] = [*first, put, took]
+    assert socket_of(run_of(recording), wait, recording.length) == before
+    assert before is not None

@@ -1,7 +1,8 @@
 """Programs in which a goroutine doesn't do what another goroutine waits for, in recordings of tools/go/samples/turns
 (made by tests.trials.go_caused): the output has the line of the bug with its reason, and nothing for runs without the bug."""
 
-import unittest
+
+import re
 
 from netrev.findings.causes.first import first_words
 from netrev.findings.causes.tables import hangs_table
@@ -72,34 +73,33 @@ REASONS = {
 }
 
 
-class Turns(unittest.TestCase):
-    def said(self, name: str, kind: str) -> list[str]:
-        """The first output, without the line that suggests a command."""
-        recording = Recording.read(str(CAUSED / f"{name}-{kind}.jsonl"))
-        recording.lines.written = float("inf")  # (a clone's files are newer than the recording)
-        with in_the_folder_of_the_source(source_of(name)):
-            lines = first_words(recording, name)
-        return [line.removeprefix("cause:").strip() for line in lines if not line.startswith("next:")]
+def output_of(name: str, kind: str) -> list[str]:
+    """The first output, without the line that suggests a command."""
+    recording = Recording.read(str(CAUSED / f"{name}-{kind}.jsonl"))
+    recording.lines.written = float("inf")  # (a clone's files are newer than the recording)
+    with in_the_folder_of_the_source(source_of(name)):
+        lines = first_words(recording, name)
+    return [line.removeprefix("cause:").strip() for line in lines if not line.startswith("next:")]
 
-    def test_each_bug_is_named_with_its_reason(self) -> None:
-        self.assertEqual(set(REASONS), set(NAMES[TURNS]))
-        for name, reasons in REASONS.items():
-            said = self.said(name, "bad")
-            for reason in reasons:
-                with self.subTest(name, reason=reason):
-                    self.assertRegex("\n".join(said), f"(?m){reason.replace('{}', bug_line(name))}")
 
-    def test_of_good_runs_nothing_is_said(self) -> None:
-        """The first output of good runs is empty, except for the Dial that must fail."""
-        for name in REASONS:
-            with self.subTest(name):
-                self.assertEqual(len(self.said(name, "good")), 2 if name == "undone" else 0)
-        self.assertRegex(self.said("undone", "good")[0], r"^Dial at .* failed: socket \d+ was never connected\.$")
+def test_each_bug_is_named_with_its_reason() -> None:
+    assert set(REASONS) == set(NAMES[TURNS])
+    for name, reasons in REASONS.items():
+        said = output_of(name, "bad")
+        for reason in reasons:
+            assert re.search(f"(?m){reason.replace('{}', bug_line(name))}", "\n".join(said)), (name, reason)
 
-    def test_they_hang_only_as_long_as_that_is_so(self) -> None:
-        """At an earlier position these hangs have no such reason."""
-        for name in ("doubled", "undone", "uncounted", "stays"):
-            recording = Recording.read(str(CAUSED / f"{name}-bad.jsonl"))
-            words = "\n".join(row.text for row in hangs_table(recording, 10).rows)
-            with self.subTest(name):
-                self.assertNotRegex(words, "gave back more|without Done|without putting|calls Done")
+
+def test_of_good_runs_nothing_is_said() -> None:
+    """The first output of good runs is empty, except for the Dial that must fail."""
+    for name in REASONS:
+        assert len(output_of(name, "good")) == (2 if name == "undone" else 0), name
+    assert re.search(r"^Dial at .* failed: socket \d+ was never connected\.$", output_of("undone", "good")[0])
+
+
+def test_they_hang_only_as_long_as_that_is_so() -> None:
+    """At an earlier position these hangs have no such reason."""
+    for name in ("doubled", "undone", "uncounted", "stays"):
+        recording = Recording.read(str(CAUSED / f"{name}-bad.jsonl"))
+        words = "\n".join(row.text for row in hangs_table(recording, 10).rows)
+        assert not re.search("gave back more|without Done|without putting|calls Done", words), name

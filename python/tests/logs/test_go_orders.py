@@ -3,8 +3,6 @@ needed."""
 
 import json
 import pathlib
-import tempfile
-import unittest
 from typing import Optional
 
 from dev.fuzz.generators.logs import binary
@@ -53,95 +51,104 @@ class Ordered(Points):
         return [[names.get(first, "open"), names[second]] for first, second in recording.orders]
 
 
-class Orders(unittest.TestCase):
-    def test_a_goroutine_comes_behind_its_go_statement(self) -> None:
-        log = Ordered().step(1).ready(1, 2, MADE).step(1).step(2)
-        self.assertEqual(log.orders(), [["1.1", "2.1"]])
-
-    def test_who_is_made_ready_comes_behind_who_does_it(self) -> None:
-        log = Ordered().step(1).step(2).ready(1, 2).step(1).step(2).step(2)
-        self.assertEqual(log.orders(), [["1.1", "2.2"]])
-
-    def test_who_is_handed_a_value_comes_behind_who_gives_it(self) -> None:
-        log = Ordered().step(1).step(2).at(PointKind.HANDED, 1, 2, 3).step(1).step(2)
-        self.assertEqual(log.orders(), [["1.1", "2.2"]])
-
-    def test_an_order_goes_through_goroutines_without_steps(self) -> None:
-        log = Ordered().step(1).ready(1, 8).ready(8, 9).ready(9, 2).step(2)
-        self.assertEqual(log.orders(), [["1.1", "2.1"]])
-
-    def test_nothing_is_said_twice(self) -> None:
-        log = Ordered().step(1).ready(1, 2).step(2).ready(1, 2).step(2).step(1).ready(1, 2).step(2)
-        self.assertEqual(log.orders(), [["1.1", "2.1"], ["1.2", "2.3"]])
-
-    def test_both_come_behind_a_meeting(self) -> None:
-        log = Ordered().step(1).step(2).at(PointKind.MET, 1, 2).step(1).step(2)
-        self.assertEqual(log.orders(), [["2.1", "1.2"], ["1.1", "2.2"]])
-
-    def test_a_value_of_a_buffer_comes_behind_its_own_sender(self) -> None:
-        log = Ordered().step(1).step(2).step(3)
-        log.at(PointKind.SENT, 1, 0, 2).at(PointKind.SENT, 2, 1, 2).at(PointKind.RECEIVED, 3, 2, 2).step(3)
-        self.assertEqual(log.orders(), [["1.1", "3.2"]])
-        self.assertEqual(log.at(PointKind.RECEIVED, 3, 1, 2).step(3).orders(), [["1.1", "3.2"], ["2.1", "3.3"]])
-
-    def test_a_place_of_a_buffer_comes_behind_who_made_room(self) -> None:
-        log = (
-            Ordered()
-            .at(PointKind.SENT, 1, 0, 1)
-            .step(2)
-            .at(PointKind.RECEIVED, 2, 1, 1)
-            .at(PointKind.SENT, 3, 0, 1)
-            .step(3)
-        )
-        self.assertEqual(log.orders(), [["open", "3.1"], ["2.1", "3.1"]])
-
-    def test_who_finds_a_channel_closed_comes_behind_its_close(self) -> None:
-        log = Ordered().step(1).at(PointKind.CHANNEL_CLOSED, 1).step(2).at(PointKind.FOUND_CLOSED, 2).step(2)
-        self.assertEqual(log.orders(), [["1.1", "2.2"]])
-
-    def test_another_channel_at_the_same_place_is_another_one(self) -> None:
-        log = (
-            Ordered()
-            .step(1)
-            .at(PointKind.SENT, 1, 0, 2)
-            .at(PointKind.SENT, 2, 0, 2)
-            .at(PointKind.RECEIVED, 3, 1, 2)
-            .step(3)
-        )
-        self.assertEqual(log.orders(), [])
-
-    def test_a_queue_gets_the_length_that_is_known(self) -> None:
-        orders = make(
-            Log(Ordered().at(PointKind.RECEIVED, 1, 2, 2).at(PointKind.SENT, 1, 9, 1).points, has_orders=True)
-        ).orders
-        self.assertEqual(orders, [])
-        for count, taken in ((0, [{}, {}]), (1, [{}, {1: 0}]), (2, [{1: 0}, {1: 1}]), (5, [{1: 3}, {1: 4}])):
-            queue = ValueQueue()
-            for number in range(count):
-                queue.put({1: number})
-            queue.fit(2)
-            self.assertEqual((len(queue), [queue.take(), queue.take()]), (2, taken))
-
-    def test_a_channel_has_any_number_of_places(self) -> None:
-        log = Ordered().step(1)
-        for most in (2**30, 2**62):
-            log.at(PointKind.SENT, 1, 0, most).at(PointKind.RECEIVED, 2, 1, most).step(2)
-        self.assertEqual(log.orders(), [["1.1", "2.1"]])
+def test_a_goroutine_comes_behind_its_go_statement() -> None:
+    log = Ordered().step(1).ready(1, 2, MADE).step(1).step(2)
+    assert log.orders() == [["1.1", "2.1"]]
 
 
-class Written(unittest.TestCase):
-    def test_a_log_says_whether_it_has_orders(self) -> None:
-        points = Ordered().step(1).ready(1, 2, MADE).step(2).points
-        data = bytearray(binary(points))
-        self.assertIsNone(make(read(bytes(data))).orders)
-        data[88] = 1
-        self.assertEqual(make(read(bytes(data))).orders, [(3, 5)])
+def test_who_is_made_ready_comes_behind_who_does_it() -> None:
+    log = Ordered().step(1).step(2).ready(1, 2).step(1).step(2).step(2)
+    assert log.orders() == [["1.1", "2.2"]]
 
-    def test_nrdb_reads_what_is_written(self) -> None:
-        with tempfile.TemporaryDirectory() as folder:
-            path = pathlib.Path(folder, "x.where")
-            written: tuple[Optional[list[tuple[int, int]]], ...] = None, [], [(n, n + 1) for n in range(1, 2_500)]
-            for orders in written:
-                write_where(path, [0] * 3_000, {}, orders)
-                self.assertEqual(SourceLines.beside(str(path), 3_000).orders, orders)
-                self.assertIsNone(SourceLines.beside(str(path), 2_999).orders)
+
+def test_who_is_handed_a_value_comes_behind_who_gives_it() -> None:
+    log = Ordered().step(1).step(2).at(PointKind.HANDED, 1, 2, 3).step(1).step(2)
+    assert log.orders() == [["1.1", "2.2"]]
+
+
+def test_an_order_goes_through_goroutines_without_steps() -> None:
+    log = Ordered().step(1).ready(1, 8).ready(8, 9).ready(9, 2).step(2)
+    assert log.orders() == [["1.1", "2.1"]]
+
+
+def test_nothing_is_said_twice() -> None:
+    log = Ordered().step(1).ready(1, 2).step(2).ready(1, 2).step(2).step(1).ready(1, 2).step(2)
+    assert log.orders() == [["1.1", "2.1"], ["1.2", "2.3"]]
+
+
+def test_both_come_behind_a_meeting() -> None:
+    log = Ordered().step(1).step(2).at(PointKind.MET, 1, 2).step(1).step(2)
+    assert log.orders() == [["2.1", "1.2"], ["1.1", "2.2"]]
+
+
+def test_a_value_of_a_buffer_comes_behind_its_own_sender() -> None:
+    log = Ordered().step(1).step(2).step(3)
+    log.at(PointKind.SENT, 1, 0, 2).at(PointKind.SENT, 2, 1, 2).at(PointKind.RECEIVED, 3, 2, 2).step(3)
+    assert log.orders() == [["1.1", "3.2"]]
+    assert log.at(PointKind.RECEIVED, 3, 1, 2).step(3).orders() == [["1.1", "3.2"], ["2.1", "3.3"]]
+
+
+def test_a_place_of_a_buffer_comes_behind_who_made_room() -> None:
+    log = (
+        Ordered()
+        .at(PointKind.SENT, 1, 0, 1)
+        .step(2)
+        .at(PointKind.RECEIVED, 2, 1, 1)
+        .at(PointKind.SENT, 3, 0, 1)
+        .step(3)
+    )
+    assert log.orders() == [["open", "3.1"], ["2.1", "3.1"]]
+
+
+def test_who_finds_a_channel_closed_comes_behind_its_close() -> None:
+    log = Ordered().step(1).at(PointKind.CHANNEL_CLOSED, 1).step(2).at(PointKind.FOUND_CLOSED, 2).step(2)
+    assert log.orders() == [["1.1", "2.2"]]
+
+
+def test_another_channel_at_the_same_place_is_another_one() -> None:
+    log = (
+        Ordered()
+        .step(1)
+        .at(PointKind.SENT, 1, 0, 2)
+        .at(PointKind.SENT, 2, 0, 2)
+        .at(PointKind.RECEIVED, 3, 1, 2)
+        .step(3)
+    )
+    assert log.orders() == []
+
+
+def test_a_queue_gets_the_length_that_is_known() -> None:
+    orders = make(
+        Log(Ordered().at(PointKind.RECEIVED, 1, 2, 2).at(PointKind.SENT, 1, 9, 1).points, has_orders=True)
+    ).orders
+    assert orders == []
+    for count, taken in ((0, [{}, {}]), (1, [{}, {1: 0}]), (2, [{1: 0}, {1: 1}]), (5, [{1: 3}, {1: 4}])):
+        queue = ValueQueue()
+        for number in range(count):
+            queue.put({1: number})
+        queue.fit(2)
+        assert (len(queue), [queue.take(), queue.take()]) == (2, taken)
+
+
+def test_a_channel_has_any_number_of_places() -> None:
+    log = Ordered().step(1)
+    for most in (2**30, 2**62):
+        log.at(PointKind.SENT, 1, 0, most).at(PointKind.RECEIVED, 2, 1, most).step(2)
+    assert log.orders() == [["1.1", "2.1"]]
+
+
+def test_a_log_says_whether_it_has_orders() -> None:
+    points = Ordered().step(1).ready(1, 2, MADE).step(2).points
+    data = bytearray(binary(points))
+    assert make(read(bytes(data))).orders is None
+    data[88] = 1
+    assert make(read(bytes(data))).orders == [(3, 5)]
+
+
+def test_nrdb_reads_what_is_written(folder: pathlib.Path) -> None:
+    path = folder / "x.where"
+    written: tuple[Optional[list[tuple[int, int]]], ...] = None, [], [(n, n + 1) for n in range(1, 2_500)]
+    for orders in written:
+        write_where(path, [0] * 3_000, {}, orders)
+        assert SourceLines.beside(str(path), 3_000).orders == orders
+        assert SourceLines.beside(str(path), 2_999).orders is None

@@ -14,7 +14,6 @@ from collections.abc import Iterator
 from contextlib import contextmanager
 from dataclasses import dataclass, replace
 from pathlib import Path
-from unittest import mock
 
 import pytest
 from dev.fuzz.generators.random_logs import log_of, program_of
@@ -115,17 +114,17 @@ def looked_up(symbols: Symbols) -> Iterator[None]:
     """In this context, lines come from the symbols, and netrev is missing."""
 
     def found(log: Log, used: set[int], *_: object) -> dict[int, converting.Calls]:
-        with mock.patch("netrev_go.log.lines.shift", return_value=0), mock.patch(
-            "netrev_go.log.lines.looked_up", return_value=symbols
-        ):
+        with pytest.MonkeyPatch.context() as patch:
+            patch.setattr("netrev_go.log.lines.shift", lambda *_, **__: 0)
+            patch.setattr("netrev_go.log.lines.looked_up", lambda *_, **__: symbols)
             return lines_of(log, used, Path("none"), ["go"], SourceRoots(SOURCES, Path("/samples")))
 
-    with mock.patch.object(converting, "lines_of", found), mock.patch.object(
-        converting, "line_reader", lambda _: ["go"]
-    ):
-        with mock.patch.object(report, "netrev_program", lambda: None), mock.patch.object(
-            report, "how_to_get_netrev", str
-        ):
+    with pytest.MonkeyPatch.context() as patch:
+        patch.setattr(converting, "lines_of", found)
+        patch.setattr(converting, "line_reader", lambda _: ["go"])
+        with pytest.MonkeyPatch.context() as patch:
+            patch.setattr(report, "netrev_program", lambda: None)
+            patch.setattr(report, "how_to_get_netrev", str)
             yield
 
 

@@ -2,8 +2,9 @@
 cells that each step changed."""
 
 import random
-import unittest
 from typing import Any
+
+import pytest
 
 from dev.fuzz.generators.random_steps import Author
 from netrev.machine.cells import CELLS_OF_ALL, CELLS_OF_ONE, SHOWS_DESC, SHOWS_SOCKET, dumped, value
@@ -36,78 +37,83 @@ def in_order(cells: set[str]) -> list[str]:
     return sorted(cells, key=lambda cell: (names.index(cell.split()[0]), int(cell.partition(" ")[2] or 0)))
 
 
-class InPlace(unittest.TestCase):
-    def made(self, machine: Machine, world: World, step: tuple[Any, ...]) -> World:
-        """Checks that both machines make a step, or refuse it for the same reason, and are equal afterwards; returns the state after it."""
-        try:
-            after, answer = apply(world, step)
-        except StepRefusedError as refused:
-            with self.assertRaises(StepRefusedError) as caught:
-                machine.step(step)
-            self.assertEqual(caught.exception.reason, refused.reason)
-            after = world
-        else:
-            self.assertEqual(machine.step(step), answer)
-        self.assertEqual(machine.world(), after)
-        return after
-
-    def test_steps_refusals_and_ways_back_are_the_models(self) -> None:
-        met, refused = set(), set()
-        for seed in SEEDS:
-            author = Author(random.Random(f"in place {seed}"), wild=MOST_WILD if seed % 2 else 0.03)
-            world, machine = World(author.limits), Machine(author.limits, None)
-            way, steps = list[World](), list[tuple[Any, ...]]()
-            for _ in range(STEPS):
-                step = author.step(world)
-                after = self.made(machine, world, step)
-                if after is world and len(machine.steps) == len(way):
-                    refused.add(step[0])
-                    continue
-                met.add(step[0])
-                way.append(world)
-                steps.append(step)
-                world = after
-            for before in reversed(way):
-                self.assertTrue(machine.undo())
-                self.assertEqual(machine.world(), before)
-            self.assertFalse(machine.undo())
-            for before, step in zip(way, steps):
-                self.assertEqual(machine.world(), before)
-                machine.step(step)
-            self.assertEqual(machine.world(), world)
-        self.assertEqual(met, set(KINDS))
-        self.assertGreater(len(refused), len(KINDS) - 2)
-
-    def test_the_changed_cells_are_those_that_show_something_else(self) -> None:
-        for seed in SEEDS:
-            made, worlds = Author(random.Random(f"changed {seed}")).recording(STEPS)
-            machine = Machine(made.limits)
-            for step, old, new in zip(made.steps, worlds, worlds[1:]):
-                machine.step(step)
-                was, now = shown(old), shown(new)
-                changed = in_order({cell for cell in now if was.get(cell) != now[cell]})
-                self.assertEqual(changed_cells(machine, with_queues=True), changed, (seed, step))
-                plain = [cell for cell in changed if cell.split()[0] in CELLS]
-                self.assertEqual(changed_cells(machine), plain)
-
-    def test_a_step_that_is_refused_on_its_way_leaves_nothing(self) -> None:
-        machine = Machine(Limits(1, 1, 1, 1))
-        for step in (("sockopen", 1, 1), ("pollopen", 0, 0)):
+def made(machine: Machine, world: World, step: tuple[Any, ...]) -> World:
+    """Checks that both machines make a step, or refuse it for the same reason, and are equal afterwards; returns the state after it."""
+    try:
+        after, answer = apply(world, step)
+    except StepRefusedError as refused:
+        with pytest.raises(StepRefusedError) as caught:
             machine.step(step)
-        machine.next_number = GREATEST_SEQUENCE
-        before = machine.world()
-        self.made(machine, before, ("setdeadline", 0, 0, "rw", 5))
-        self.assertEqual(changed_cells(machine)[0], "rg 0")
+        assert caught.value.reason == refused.reason
+        after = world
+    else:
+        assert machine.step(step) == answer
+    assert machine.world() == after
+    return after
 
-    def test_so_many_steps_are_undone_as_are_remembered(self) -> None:
-        machine = Machine(Limits(9, 1, 1, 1), remembers=2)
-        for _ in range(4):
-            machine.step(("spawn",))
-        self.assertEqual([machine.undo(), machine.undo(), machine.undo()], [True, True, False])
-        self.assertEqual(len(machine.goroutines), 3)
 
-    def test_a_refused_step_leaves_what_the_step_before_changed(self) -> None:
-        machine = Machine(Limits(2, 1, 1, 1))
+def test_steps_refusals_and_ways_back_are_the_models() -> None:
+    met, refused = set(), set()
+    for seed in SEEDS:
+        author = Author(random.Random(f"in place {seed}"), wild=MOST_WILD if seed % 2 else 0.03)
+        world, machine = World(author.limits), Machine(author.limits, None)
+        way, steps = list[World](), list[tuple[Any, ...]]()
+        for _ in range(STEPS):
+            step = author.step(world)
+            after = made(machine, world, step)
+            if after is world and len(machine.steps) == len(way):
+                refused.add(step[0])
+                continue
+            met.add(step[0])
+            way.append(world)
+            steps.append(step)
+            world = after
+        for before in reversed(way):
+            assert machine.undo()
+            assert machine.world() == before
+        assert not machine.undo()
+        for before, step in zip(way, steps):
+            assert machine.world() == before
+            machine.step(step)
+        assert machine.world() == world
+    assert met == set(KINDS)
+    assert len(refused) > len(KINDS) - 2
+
+
+def test_the_changed_cells_are_those_that_show_something_else() -> None:
+    for seed in SEEDS:
+        made, worlds = Author(random.Random(f"changed {seed}")).recording(STEPS)
+        machine = Machine(made.limits)
+        for step, old, new in zip(made.steps, worlds, worlds[1:]):
+            machine.step(step)
+            was, now = shown(old), shown(new)
+            changed = in_order({cell for cell in now if was.get(cell) != now[cell]})
+            assert changed_cells(machine, with_queues=True) == changed, (seed, step)
+            plain = [cell for cell in changed if cell.split()[0] in CELLS]
+            assert changed_cells(machine) == plain
+
+
+def test_a_step_that_is_refused_on_its_way_leaves_nothing() -> None:
+    machine = Machine(Limits(1, 1, 1, 1))
+    for step in (("sockopen", 1, 1), ("pollopen", 0, 0)):
+        machine.step(step)
+    machine.next_number = GREATEST_SEQUENCE
+    before = machine.world()
+    made(machine, before, ("setdeadline", 0, 0, "rw", 5))
+    assert changed_cells(machine)[0] == "rg 0"
+
+
+def test_so_many_steps_are_undone_as_are_remembered() -> None:
+    machine = Machine(Limits(9, 1, 1, 1), remembers=2)
+    for _ in range(4):
         machine.step(("spawn",))
-        self.assertRaises(StepRefusedError, machine.step, ("spawn",))
-        self.assertEqual(changed_cells(machine), ["gor 1"])
+    assert [machine.undo(), machine.undo(), machine.undo()] == [True, True, False]
+    assert len(machine.goroutines) == 3
+
+
+def test_a_refused_step_leaves_what_the_step_before_changed() -> None:
+    machine = Machine(Limits(2, 1, 1, 1))
+    machine.step(("spawn",))
+    with pytest.raises(StepRefusedError):
+        machine.step(("spawn",))
+    assert changed_cells(machine) == ["gor 1"]

@@ -1,6 +1,5 @@
 """Tests the benchmark's tables: the contents of each row, and the geometric means."""
 
-import unittest
 from collections.abc import Iterator
 
 from dev.bench.tables import (
@@ -47,37 +46,42 @@ def rows(table: str) -> Iterator[list[str]]:
         yield line.strip("| ").split(" | ")
 
 
-class OneFigure(unittest.TestCase):
-    def test_three_programs_side_by_side(self) -> None:
-        table = figure_table(measured(BEFORE, NOW, BASELINE, sizes=(1_000,)), "walk")
-        self.assertEqual(
-            table,
-            "| a walk, ms | 1,000: before | now | baseline | now / baseline | now / before |\n"
-            "|---|--:|--:|--:|--:|--:|\n"
-            "| locks | 8.00 | 4.00 | 1.00 | 4.0 | 0.50 |\n"
-            "| mix | 8.00 | 4.00 | 0.25 | 16.0 | 0.50 |\n",
-        )
+def test_three_programs_side_by_side() -> None:
+    table = figure_table(measured(BEFORE, NOW, BASELINE, sizes=(1_000,)), "walk")
+    assert table == (
+        "| a walk, ms | 1,000: before | now | baseline | now / baseline | now / before |\n"
+        "|---|--:|--:|--:|--:|--:|\n"
+        "| locks | 8.00 | 4.00 | 1.00 | 4.0 | 0.50 |\n"
+        "| mix | 8.00 | 4.00 | 0.25 | 16.0 | 0.50 |\n"
+    )
 
-    def test_without_an_older_one(self) -> None:
-        head, first, _ = rows(figure_table(measured(NOW, BASELINE, sizes=(1_000,)), "walk"))
-        self.assertEqual(head, ["a walk, ms", "1,000: now", "baseline", "now / baseline"])
-        self.assertEqual(first, ["locks", "4.00", "1.00", "4.0"])
 
-    def test_without_a_baseline(self) -> None:
-        table = figure_table(measured(BEFORE, NOW, sizes=(1_000,)), "walk")
-        self.assertIn("| locks | 8.00 | 4.00 |  |  | 0.50 |\n", table)
+def test_a_figure_without_an_older_one() -> None:
+    head, first, _ = rows(figure_table(measured(NOW, BASELINE, sizes=(1_000,)), "walk"))
+    assert head == ["a walk, ms", "1,000: now", "baseline", "now / baseline"]
+    assert first == ["locks", "4.00", "1.00", "4.0"]
 
-    def test_sizes_and_what_grows(self) -> None:
-        head, first, _ = rows(figure_table(measured(BEFORE, NOW, BASELINE), "walk"))
-        self.assertEqual(head[6:], [f"10,000: {BEFORE}", *head[2:6], "10 times the steps: before", "now", "baseline"])
-        self.assertEqual(first[6:], ["80.0", "40.0", "10.0", "4.0", "0.50", "10.0", "10.0", "10.0"])
-        self.assertEqual(len(head), len(first))
 
-    def test_digits(self) -> None:
-        self.assertEqual(
-            [written(figure) for figure in (0.1234, 1.234, 12.34, 123.4, 1234.5)],
-            ["0.12", "1.23", "12.3", "123", "1,234"],
-        )
+def test_without_a_baseline() -> None:
+    table = figure_table(measured(BEFORE, NOW, sizes=(1_000,)), "walk")
+    assert "| locks | 8.00 | 4.00 |  |  | 0.50 |\n" in table
+
+
+def test_sizes_and_what_grows() -> None:
+    head, first, _ = rows(figure_table(measured(BEFORE, NOW, BASELINE), "walk"))
+    assert head[6:] == [f"10,000: {BEFORE}", *head[2:6], "10 times the steps: before", "now", "baseline"]
+    assert first[6:] == ["80.0", "40.0", "10.0", "4.0", "0.50", "10.0", "10.0", "10.0"]
+    assert len(head) == len(first)
+
+
+def test_digits() -> None:
+    assert [written(figure) for figure in (0.1234, 1.234, 12.34, 123.4, 1234.5)] == [
+        "0.12",
+        "1.23",
+        "12.3",
+        "123",
+        "1,234",
+    ]
 
 
 def cases(*programs: str) -> Cases:
@@ -90,73 +94,59 @@ def named(name: str, of: Cases) -> Cases:
     return {case: {one: {name: figures["walk"]} for one, figures in all_of.items()} for case, all_of in of.items()}
 
 
-class SideBySide(unittest.TestCase):
-    def test_each_sort_and_the_means(self) -> None:
-        every = cases(BEFORE, NOW, BASELINE)
-        sorts = {"instructions": named("walk", every), "time": every}
-        self.assertEqual(
-            list(rows(side_by_side("ratio", sorts, True))),
-            [
-                ["ratio", "walk, instructions", "walk, time", "memory"],
-                ["locks", "8.0 → 4.0", "8.0 → 4.0", "1.0 → 1.0"],
-                ["mix", "32.0 → 16.0", "32.0 → 16.0", "1.0 → 1.0"],
-                ["geometric mean", "16.0 → 8.0", "16.0 → 8.0", "1.0 → 1.0"],
-            ],
-        )
-
-    def test_without_an_older_one_and_without_means(self) -> None:
-        self.assertEqual(
-            list(rows(side_by_side("ratio", {"time": cases(NOW, BASELINE)}, False)))[1:],
-            [["locks", "4.0", "1.0"], ["mix", "16.0", "1.0"]],
-        )
+def test_each_sort_and_the_means() -> None:
+    every = cases(BEFORE, NOW, BASELINE)
+    sorts = {"instructions": named("walk", every), "time": every}
+    assert list(rows(side_by_side("ratio", sorts, True))) == [
+        ["ratio", "walk, instructions", "walk, time", "memory"],
+        ["locks", "8.0 → 4.0", "8.0 → 4.0", "1.0 → 1.0"],
+        ["mix", "32.0 → 16.0", "32.0 → 16.0", "1.0 → 1.0"],
+        ["geometric mean", "16.0 → 8.0", "16.0 → 8.0", "1.0 → 1.0"],
+    ]
 
 
-class OtherCases(unittest.TestCase):
-    def test_before_now_and_the_baseline_in_a_cell(self) -> None:
-        self.assertEqual(
-            list(rows(cases_table("time", ["walk", "memory"], cases(BEFORE, NOW, BASELINE)))),
-            [
-                ["time", "walk", "memory"],
-                ["locks", "8.00 → 4.00 / 1.00", "40.0 → 40.0 / 40.0"],
-                ["mix", "8.00 → 4.00 / 0.25", "40.0 → 40.0 / 40.0"],
-            ],
-        )
-
-    def test_without_the_others(self) -> None:
-        self.assertEqual(list(rows(cases_table("time", ["walk"], cases(NOW))))[1], ["locks", "4.00"])
+def test_without_an_older_one_and_without_means() -> None:
+    assert list(rows(side_by_side("ratio", {"time": cases(NOW, BASELINE)}, False)))[1:] == [
+        ["locks", "4.0", "1.0"],
+        ["mix", "16.0", "1.0"],
+    ]
 
 
-class Limits(unittest.TestCase):
-    def test_a_figure_by_the_limits(self) -> None:
-        own, large = cases(NOW, BASELINE), measured(NOW, BASELINE, sizes=(1_500,)).at(1_500)
-        self.assertEqual(
-            list(rows(growth_table("a walk, ms", "walk", {"own": own, "16": own, "239": large})))[:2],
-            [
-                ["a walk, ms", "now: own", "16", "239", "239 / own", "baseline: own", "16", "239", "239 / own"],
-                ["locks", "4.00", "4.00", "6.00", "1.50", "1.00", "1.00", "1.50", "1.50"],
-            ],
-        )
+def test_before_now_and_the_baseline_in_a_cell() -> None:
+    assert list(rows(cases_table("time", ["walk", "memory"], cases(BEFORE, NOW, BASELINE)))) == [
+        ["time", "walk", "memory"],
+        ["locks", "8.00 → 4.00 / 1.00", "40.0 → 40.0 / 40.0"],
+        ["mix", "8.00 → 4.00 / 0.25", "40.0 → 40.0 / 40.0"],
+    ]
 
 
-class Means(unittest.TestCase):
-    def test_before_and_now(self) -> None:
-        counts = measured(BEFORE, NOW, BASELINE, sizes=(1_000,))
-        counts.sort, counts.titles = "instructions", {"walk": "a walk"}
-        self.assertEqual(
-            mean_table([counts, measured(BEFORE, NOW, BASELINE)]),
-            "| geometric mean of the ratios to the baseline | instructions, 1,000 steps: before | now "
-            "| times, 10,000 steps: before | now |\n"
-            "|---|--:|--:|--:|--:|\n"
-            "| walk | 16.0 | 8.0 | 16.0 | 8.0 |\n"
-            "| memory |  |  | 1.0 | 1.0 |\n",
-        )
+def test_without_the_others() -> None:
+    assert list(rows(cases_table("time", ["walk"], cases(NOW))))[1] == ["locks", "4.00"]
 
-    def test_without_an_older_one(self) -> None:
-        self.assertEqual(
-            list(rows(mean_table([measured(NOW, BASELINE)]))),
-            [
-                ["geometric mean of the ratios to the baseline", "times, 10,000 steps: now"],
-                ["walk", "8.0"],
-                ["memory", "1.0"],
-            ],
-        )
+
+def test_a_figure_by_the_limits() -> None:
+    own, large = cases(NOW, BASELINE), measured(NOW, BASELINE, sizes=(1_500,)).at(1_500)
+    assert list(rows(growth_table("a walk, ms", "walk", {"own": own, "16": own, "239": large})))[:2] == [
+        ["a walk, ms", "now: own", "16", "239", "239 / own", "baseline: own", "16", "239", "239 / own"],
+        ["locks", "4.00", "4.00", "6.00", "1.50", "1.00", "1.00", "1.50", "1.50"],
+    ]
+
+
+def test_before_and_now() -> None:
+    counts = measured(BEFORE, NOW, BASELINE, sizes=(1_000,))
+    counts.sort, counts.titles = "instructions", {"walk": "a walk"}
+    assert mean_table([counts, measured(BEFORE, NOW, BASELINE)]) == (
+        "| geometric mean of the ratios to the baseline | instructions, 1,000 steps: before | now "
+        "| times, 10,000 steps: before | now |\n"
+        "|---|--:|--:|--:|--:|\n"
+        "| walk | 16.0 | 8.0 | 16.0 | 8.0 |\n"
+        "| memory |  |  | 1.0 | 1.0 |\n"
+    )
+
+
+def test_means_without_an_older_one() -> None:
+    assert list(rows(mean_table([measured(NOW, BASELINE)]))) == [
+        ["geometric mean of the ratios to the baseline", "times, 10,000 steps: now"],
+        ["walk", "8.0"],
+        ["memory", "1.0"],
+    ]

@@ -2,7 +2,6 @@
 
 import subprocess
 import sys
-import unittest
 from pathlib import Path
 
 PACKAGES = Path(__file__).parents[2]
@@ -32,10 +31,10 @@ def run(does: str) -> tuple[int, str]:
     return ran.returncode, ran.stdout
 
 
-class Leaving(unittest.TestCase):
-    def test_all_is_said_and_nothing_given_back(self) -> None:
-        self.assertEqual(run("return 3")[0], 3)
-        self.assertEqual(run("return 0"), (0, "said\n"))
+def test_all_is_said_and_nothing_given_back() -> None:
+    assert run("return 3")[0] == 3
+    assert run("return 0") == (0, "said\n")
 
-    def test_who_ends_otherwise_ends_as_ever(self) -> None:
-        self.assertEqual(run("raise SystemExit(5)"), (5, "said\ndone at the end\ngiven back\n"))
+
+def test_who_ends_otherwise_ends_as_ever() -> None:
+    assert run("raise SystemExit(5)") == (5, "said\ndone at the end\ngiven back\n")

@@ -3,7 +3,6 @@ missing, its tests are skipped with a message that names it."""
 
 import contextlib
 import os
-import pathlib
 import pty
 import select
 import shutil
@@ -11,10 +10,12 @@ import signal
 import subprocess
 import sys
 import time
-import unittest
-from tests.support.folders import folder_of
+from contextlib import ExitStack
+from pathlib import Path
 
-ROOT = pathlib.Path(__file__).resolve().parents[3]
+import pytest
+
+ROOT = Path(__file__).resolve().parents[3]
 NAMES = ("netrev", "nrdb", "netrev-go")
 PATIENCE = 60  # seconds
 SHELLS = {
@@ -38,7 +39,7 @@ COMPLETED = (
 class Typed:
     """A shell at a terminal, in a folder."""
 
-    def __init__(self, command: list[str], folder: pathlib.Path):
+    def __init__(self, command: list[str], folder: Path):
         self.screen = ""
         self.process, self.terminal = pty.fork()
         if self.process == 0:
@@ -70,35 +71,31 @@ class Typed:
         return True
 
 
-class Shells(unittest.TestCase):
-    def setUp(self) -> None:
-        self.folder = folder_of(self)
-        (self.folder / "recording.jsonl").touch()
-        for shell in SHELLS:
-            (self.folder / f"of_{shell}").mkdir()
-            for name in NAMES:
-                words = [sys.executable, str(ROOT / "scripts/completion.py"), shell, name]
-                made = subprocess.run(words, capture_output=True, check=True).stdout
-                (self.folder / f"of_{shell}" / f"_{name}").write_bytes(made)
-
-    def completes(self, shell: str) -> None:
-        """Checks that the shell completes the typed text as expected. Shell functions that print their arguments stand in for the
-        programs."""
-        command, loads = SHELLS[shell]
-        if not shutil.which(shell):
-            self.skipTest(f"no {shell} is here (Debian: apt-get install {shell})")
-        typed = Typed(command, self.folder)
-        self.addCleanup(typed.close)
+@pytest.fixture
+def shells(folder: Path) -> Path:
+    """A folder with a recording and the completions for each shell."""
+    (folder / "recording.jsonl").touch()
+    for shell in SHELLS:
+        (folder / f"of_{shell}").mkdir()
         for name in NAMES:
-            typed.type(f'function {name} {{ echo "it was <$*>"; }}\n')
-        typed.type(f"{loads}\necho is rea''dy\n")
-        self.assertTrue(typed.until("is ready"), typed.screen)
-        for before, wanted in COMPLETED:
-            typed.type(f"{before}\t\n")
-            self.assertTrue(typed.until(f"it was <{wanted}>"), f"{before!r}: {typed.screen!r}")
+            words = [sys.executable, str(ROOT / "scripts/completion.py"), shell, name]
+            completion = subprocess.run(words, capture_output=True, check=True).stdout
+            (folder / f"of_{shell}" / f"_{name}").write_bytes(completion)
+    return folder
 
-    def test_bash(self) -> None:
-        self.completes("bash")
 
-    def test_zsh(self) -> None:
-        self.completes("zsh")
+@pytest.mark.parametrize("shell", SHELLS)
+def test_a_shell_completes(cleanups: ExitStack, shells: Path, shell: str) -> None:
+    """Shell functions that print their arguments stand in for the programs."""
+    command, loads = SHELLS[shell]
+    if not shutil.which(shell):
+        pytest.skip(f"no {shell} is here (Debian: apt-get install {shell})")
+    typed = Typed(command, shells)
+    cleanups.callback(typed.close)
+    for name in NAMES:
+        typed.type(f'function {name} {{ echo "it was <$*>"; }}\n')
+    typed.type(f"{loads}\necho is rea''dy\n")
+    assert typed.until("is ready"), typed.screen
+    for before, wanted in COMPLETED:
+        typed.type(f"{before}\t\n")
+        assert typed.until(f"it was <{wanted}>"), f"{before!r}: {typed.screen!r}"

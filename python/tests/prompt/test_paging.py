@@ -3,7 +3,6 @@ first of them would scroll away."""
 
 import io
 import os
-from unittest import mock
 
 import pytest
 
@@ -17,9 +16,9 @@ def paged(keys: list[str], lengths: list[int], rows: int = ROWS, is_on: bool = T
     key answers."""
     out = io.StringIO()
     pager = Paged(out, lambda: keys.pop(0), lambda: is_on)
-    with mock.patch.object(out, "fileno", return_value=1), mock.patch.object(
-        os, "get_terminal_size", return_value=os.terminal_size((COLUMNS, rows))
-    ):
+    with pytest.MonkeyPatch.context() as patch:
+        patch.setattr(out, "fileno", lambda *_, **__: 1)
+        patch.setattr(os, "get_terminal_size", lambda *_, **__: os.terminal_size((COLUMNS, rows)))
         for number, length in enumerate(lengths):
             pager.write(chr(ord("a") + number) * length + "\n")
     return [line[:1] for line in out.getvalue().replace(MORE, "?\n").splitlines()]

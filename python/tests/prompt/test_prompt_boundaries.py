@@ -2,15 +2,16 @@
 page and of its marks."""
 
 import io
+from contextlib import nullcontext
 from pathlib import Path
 from typing import Any, cast
-from unittest import mock
 
 import pytest
 
 from netrev.messages import searches
 from netrev.recording.recording import Recording
 from netrev.session.session import Session, UsageError
+from netrev.connection.output import Table
 from netrev.text.vocabulary import Of
 from netrev.timeline import page, story
 from netrev.timeline.cell_runs import Window
@@ -20,6 +21,7 @@ from nrdb.prompt import terminal
 from nrdb.prompt.answers import ROUND, answer_list, taken_cell, taken_conditions, taken_number, taken_position
 from nrdb.prompt.completion import candidates
 from nrdb.prompt.terminal import Terminal, repeats
+from tests.support.stubs import stub
 from tests.suspects.test_suspects import OPEN, READ, Steps, recording_of
 
 from .test_program_places import session_of
@@ -84,33 +86,35 @@ def test_a_condition_needs_a_value(line: str) -> None:
 )  # fmt: skip
 def test_positions_by_number_and_by_time(line: str, position: int) -> None:
     recording = recording_of(OPEN + TICKS)
-    found = taken_position(cast(Any, mock.Mock(length=6, text=lambda: recording)), line.split())
+    found = taken_position(stub(length=6, text=lambda: recording), line.split())
     assert found == position
 
 
 @pytest.mark.parametrize("line", ["", "3 4", "start end", "x", "-1", "3m"])
 def test_words_that_are_no_position(line: str) -> None:
     with pytest.raises(UsageError):
-        taken_position(cast(Any, mock.Mock(length=6)), line.split())
+        taken_position(stub(length=6), line.split())
     if line != "start end":
         with pytest.raises(UsageError):
             taken_number("list", line.split())
 
 
 @pytest.mark.parametrize("position", [0, 1, 20, -1])
-def test_list_marks_the_next_step(session: Session, position: int) -> None:
+def test_list_marks_the_next_step(monkeypatch: pytest.MonkeyPatch, session: Session, position: int) -> None:
     length = session.text().length
     at = position % (length + 1)
     session.go(at)
     asked: list[tuple[list[str], int]] = [([], at + 1), (["9"], 9), ([str(length)], length)]
     for words, middle in asked:
-        with mock.patch.object(session.printer, "table") as printed:
+        printed: list[Table] = []
+        with monkeypatch.context() as patch:
+            patch.setattr(session.printer, "table", printed.append)
             answer_list(session, words)
-        (table,) = printed.call_args.args
+        (table,) = printed
         steps = [row.values["step"] for row in table.rows]
         assert steps == [number for number in range(middle - ROUND, middle + ROUND + 1) if 0 < number <= length]
         assert [row.values["step"] for row in table.rows if row.values["next"]] == [
-            one for one in steps if one == at + 1
+            step for step in steps if step == at + 1
         ]
         assert [row.text.startswith("=> ") for row in table.rows] == [row.values["next"] for row in table.rows]
         assert all(row.values["line"] == session.text().step(row.values["step"]).line for row in table.rows)
@@ -130,15 +134,16 @@ def test_completions_of_a_line(words: str, found: list[str]) -> None:
     assert candidates(words.split(), lambda of: ["7"]) == found
 
 
-def test_a_terminal_completes_the_word_before_the_cursor(session: Session) -> None:
+def test_a_terminal_completes_the_word_before_the_cursor(monkeypatch: pytest.MonkeyPatch, session: Session) -> None:
     """readline asks for the candidates one by one, until none is left."""
     rows: list[tuple[str, list[str]]] = [
         ("reverse-st", ["reverse-stepi "]), ("info sus", ["suspects "]), ("print gor ", ["0 "]), ("zzz", []), ("info zzz", []), ("goto main.go:46", ["main.go:46 "]),
     ]  # fmt: skip
     for line, wanted in rows:
         begin = line.rfind(" ") + 1
-        fake = mock.Mock(get_line_buffer=lambda: line, get_begidx=lambda: begin)
-        with mock.patch.object(terminal, "readline", fake):
+        fake = stub(get_line_buffer=lambda: line, get_begidx=lambda: begin)
+        with monkeypatch.context() as patch:
+            patch.setattr(terminal, "readline", fake)
             complete = Terminal(session)._complete
             found = [complete(line[begin:], at) for at in range(len(wanted) + 1)]
         assert found == [*wanted, None], line
@@ -149,11 +154,16 @@ def test_the_history_is_written_if_it_can_be(
     session: Session, fault: OSError | None, monkeypatch: pytest.MonkeyPatch
 ) -> None:
     monkeypatch.setenv("NETREV_HISTORY", "/nowhere/history")
-    fake = mock.Mock()
-    fake.write_history_file.side_effect = fault
-    monkeypatch.setattr(terminal, "readline", fake)
+    written = []
+
+    def write(path: Path) -> None:
+        written.append(path)
+        if fault:
+            raise fault
+
+    monkeypatch.setattr(terminal, "readline", stub(write_history_file=write))
     Terminal(session)._save()
-    fake.write_history_file.assert_called_once_with(Path("/nowhere/history"))
+    assert written == [Path("/nowhere/history")]
 
 
 @pytest.mark.parametrize(("line", "is_repeated"), [("stepi", True), ("si 3", True), ("rsi", True), ("info position", False), ("goto 3", False), ("re", False), ("nothing", False)])  # fmt: skip
@@ -161,13 +171,23 @@ def test_an_empty_line_repeats_a_step_alone(line: str, is_repeated: bool) -> Non
     assert repeats(line) == is_repeated
 
 
-def test_an_empty_line_at_the_terminal(session: Session) -> None:
+def test_an_empty_line_at_the_terminal(monkeypatch: pytest.MonkeyPatch, session: Session) -> None:
     lines = ["stepi 2", "", "", "goto 9", "", "rsi", " ", "info position"]
     at = Terminal(session)
-    with mock.patch("builtins.input", side_effect=[*lines, EOFError]), mock.patch.object(session, "run") as run:
-        run.return_value = True
-        assert [at._turn() for _ in range(len(lines) + 1)] == [True] * len(lines) + [False]
-    ran = [call.args[0] for call in run.call_args_list]
+    left, ran = iter(lines), list[str]()
+
+    def typed(_: str = "") -> str:
+        for line in left:
+            return line
+        raise EOFError
+
+    def run(line: str) -> bool:
+        ran.append(line)
+        return True
+
+    monkeypatch.setattr("builtins.input", typed)
+    monkeypatch.setattr(session, "run", run)
+    assert [at._turn() for _ in range(len(lines) + 1)] == [True] * len(lines) + [False]
     assert ran == ["stepi 2", "stepi 2", "stepi 2", "goto 9", "", "rsi", "rsi", "info position"]
 
 
@@ -175,10 +195,12 @@ def test_an_empty_line_at_the_terminal(session: Session) -> None:
     ("ticks", "most", "shown"),
     [([], 3, []), ([1], 3, [1]), ([1, 2, 3], 3, [1, 2, 3]), ([1, 2, 3, 4], 3, [1, 3, 4]), ([1, 2, 3, 4, 5], 3, [1, 3, 5]), ([1, 2, 3, 4, 5, 6, 7], 3, [1, 4, 7]), ([1, 2, 3, 4, 5, 6, 7, 8], 3, [1, 4, 7, 8])],
 )  # fmt: skip
-def test_the_clocks_steps_on_a_page(ticks: list[int], most: int, shown: list[int]) -> None:
-    changes = cast(Any, mock.Mock(changes_of=lambda cell: [(at, str(10 * at)) for at in ticks]))
-    with mock.patch.object(story, "MOST_TICKS", most):
-        assert ticks_of(changes) == [[0, 0], *([at, 10 * at] for at in shown)]
+def test_the_clocks_steps_on_a_page(
+    monkeypatch: pytest.MonkeyPatch, ticks: list[int], most: int, shown: list[int]
+) -> None:
+    changes = stub(changes_of=lambda cell: [(at, str(10 * at)) for at in ticks])
+    monkeypatch.setattr(story, "MOST_TICKS", most)
+    assert ticks_of(changes) == [[0, 0], *([at, 10 * at] for at in shown)]
 
 
 # ---- pages
@@ -190,28 +212,39 @@ def test_the_clocks_steps_on_a_page(ticks: list[int], most: int, shown: list[int
         (0, 0, ""), (0, 181, ""), (181, 181, ""), (3, 9, ""), (-1, 5, "0 to 181"), (9, 3, "0 to 181"), (0, 182, "0 to 181"), (182, 182, "0 to 181"),
     ],
 )  # fmt: skip
-def test_the_positions_of_a_page(session: Session, first: int, last: int, says: str) -> None:
+def test_the_positions_of_a_page(
+    monkeypatch: pytest.MonkeyPatch, session: Session, first: int, last: int, says: str
+) -> None:
     assert session.text().length == 181
     data = {"first": first, "last": last, "cells": {}, "calls": {"count": 0}}
-    with mock.patch.object(page, "collected", return_value=data) as collected, mock.patch.object(page, "writing"):
-        if says:
-            with pytest.raises(UsageError, match=searches.POSITIONS.format(last=181)):
-                page.write_timeline(session, "x.html", first, last)
-        else:
+    windows = list[Window]()
+
+    def collected(_: Session, window: Window, *__: object, **___: object) -> Any:
+        windows.append(window)
+        return data
+
+    monkeypatch.setattr(page, "collected", collected)
+    monkeypatch.setattr(page, "writing", lambda *_: nullcontext(io.StringIO()))
+    if says:
+        with pytest.raises(UsageError, match=searches.POSITIONS.format(last=181)):
             page.write_timeline(session, "x.html", first, last)
-            assert collected.call_args.args[1] == Window(first, last)
+    else:
+        page.write_timeline(session, "x.html", first, last)
+        assert windows == [Window(first, last)]
 
 
 @pytest.mark.parametrize(("first", "last", "is_full"), [(0, MOST, False), (3, MOST + 3, False), (3, MOST + 4, True)])
-def test_a_page_shows_only_so_many_steps(first: int, last: int, is_full: bool) -> None:
+def test_a_page_shows_only_so_many_steps(monkeypatch: pytest.MonkeyPatch, first: int, last: int, is_full: bool) -> None:
     data = {"first": first, "last": last, "cells": {}, "calls": {"count": 0}}
-    session = cast(Any, mock.Mock(text=lambda: mock.Mock(length=10 * MOST), path="x.jsonl"))
-    with mock.patch.object(page, "collected", return_value=data), mock.patch.object(page, "writing"):
-        if is_full:
-            with pytest.raises(UsageError):
-                page.write_timeline(session, "x.html", first, last)
-        else:
+    session = stub(text=lambda: stub(length=10 * MOST))
+    monkeypatch.setattr(page.PageSources, "by", lambda *_: stub(tell=lambda _: None, path="x.jsonl"))
+    monkeypatch.setattr(page, "collected", lambda *_, **__: data)
+    monkeypatch.setattr(page, "writing", lambda *_: nullcontext(io.StringIO()))
+    if is_full:
+        with pytest.raises(UsageError):
             page.write_timeline(session, "x.html", first, last)
+    else:
+        page.write_timeline(session, "x.html", first, last)
 
 
 @pytest.mark.parametrize(
@@ -243,6 +276,6 @@ def test_the_hits_of_a_mark_in_a_part(listed: Any, hits: list[int]) -> None:
     ],
 )
 def test_the_recorders_times_after_the_steps(window: tuple[int, int], most: int, every: int, ns: list[int]) -> None:
-    recording = mock.Mock(lines=mock.Mock(times=[10, 12, 15, 20, 27, 38]))
+    recording = stub(lines=stub(times=[10, 12, 15, 20, 27, 38]))
     found = times_of(cast(Recording, recording), Window(*window), most)
     assert found == {"first": window[0], "last": window[1], "every": every, "ns": ns}

@@ -1,7 +1,6 @@
 """The recorder's Go code numbers and names its points as the table of kinds does."""
 
 import re
-import unittest
 from pathlib import Path
 
 from netrev.text.vocabulary import NUMBERS
@@ -35,16 +34,17 @@ def named(name: str) -> PointKind:
     return OTHERWISE.get(name) or PointKind[spaced.upper()]
 
 
-class Points(unittest.TestCase):
-    def test_go_has_each_kind_by_its_number(self) -> None:
-        found = in_go()
-        self.assertEqual({name: int(named(name)) for name in found}, found)
-        self.assertEqual({named(name) for name in found}, set(PointKind))
+def test_go_has_each_kind_by_its_number() -> None:
+    found = in_go()
+    assert {name: int(named(name)) for name in found} == found
+    assert {named(name) for name in found} == set(PointKind)
 
-    def test_no_point_is_called_by_a_number(self) -> None:
-        called = [(file.name, bare) for file in GO.rglob("*.go") for bare in A_NUMBER.findall(file.read_text())]
-        self.assertEqual(called, [])
 
-    def test_kinds_are_in_the_order_of_the_program(self) -> None:
-        of_the_program = re.findall(r"^    \(Kind::\w+, \"(\w+)\"\)", PROGRAM.read_text(), re.MULTILINE)
-        self.assertEqual(NUMBERS, {name: number for number, name in enumerate(of_the_program, 1)})
+def test_no_point_is_called_by_a_number() -> None:
+    called = [(file.name, bare) for file in GO.rglob("*.go") for bare in A_NUMBER.findall(file.read_text())]
+    assert called == []
+
+
+def test_kinds_are_in_the_order_of_the_program() -> None:
+    of_the_program = re.findall(r"^    \(Kind::\w+, \"(\w+)\"\)", PROGRAM.read_text(), re.MULTILINE)
+    assert NUMBERS == {name: number for number, name in enumerate(of_the_program, 1)}

@@ -1,6 +1,7 @@
 """The gate after `rt ci`: each failed test is counted, and each skipped test is named and doesn't count as passed."""
 
 import os
+import re
 import shutil
 import subprocess
 import sys
@@ -8,24 +9,24 @@ import tempfile
 import unittest
 from pathlib import Path
 
-from tests.support.folders import folder_of
+import pytest
+
 
 ROOT = Path(__file__).resolve().parents[3]
 TESTS = """
-import signal, time, unittest, pathlib, pytest
+import signal, time, pathlib, pytest
 
 ENDED = pathlib.Path("ended")
 
-class Class(unittest.TestCase):
-    def test_fails(self):
-        self.fail("no such socket")
+def test_fails():
+    pytest.fail("no such socket")
 
-    @unittest.skip("no such tool")
-    def test_left_out(self):
-        raise AssertionError
+@pytest.mark.skip(reason="no such tool")
+def test_left_out():
+    raise AssertionError
 
-    def test_sigint_is_not_ignored(self):
-        self.assertIs(signal.getsignal(signal.SIGINT), signal.default_int_handler)
+def test_sigint_is_not_ignored():
+    assert signal.getsignal(signal.SIGINT) is signal.default_int_handler
 
 @pytest.mark.parametrize("number", [1, 2, 3])
 def test_row(number):
@@ -41,7 +42,7 @@ def test_alone_begins_when_the_others_have_ended():
 def test_alone_fails():
     raise AssertionError("no such step")
 """
-LEFT_OUT = "python/tests/test_few.py::Class::test_left_out: no such tool\n"
+LEFT_OUT = "python/tests/test_few.py::test_left_out: no such tool\n"
 
 
 def test_unittest_at_the_root_says_how_the_tests_are_run() -> None:
@@ -58,81 +59,83 @@ def test_unittest_at_the_root_says_how_the_tests_are_run() -> None:
         assert run.stderr == "unittest runs none of these tests; pytest does: sh scripts/pytest.sh [FILE ..]\n"
 
 
-class Tests(unittest.TestCase):
-    """scripts/tests.sh in a tree with these tests."""
-
-    def setUp(self) -> None:
-        self.top = folder_of(self)
-        for name in ("scripts/tests.sh", "scripts/pytest.sh", "conftest.py", "pyproject.toml"):
-            (self.top / name).parent.mkdir(exist_ok=True)
-            shutil.copy(ROOT / name, self.top / name)
-        support = self.top / "python/tests/program/support"
-        support.mkdir(parents=True)
-        for folder in ("", "program/", "program/support/"):
-            shutil.copy(ROOT / f"python/tests/{folder}__init__.py", self.top / f"python/tests/{folder}__init__.py")
-        shutil.copy(ROOT / "python/tests/program/support/sharing.py", support)
-        (self.top / "python/netrev").symlink_to(ROOT / "python/netrev")
-        (self.top / "python/tests/test_few.py").write_text(TESTS)
-
-    def played(self, **settings: str) -> tuple[int, str, str]:
-        """Runs the script; returns the status, the output, and the skipped tests."""
-        built = {"NETREV": "/bin/true", "NETREV_PLAIN": "/bin/true", "NR_REFUSED": "/bin/true", "JOBS": "2"}
-        ran = subprocess.run(
-            ["sh", "-c", 'trap "" INT; exec sh scripts/tests.sh'],
-            cwd=self.top,
-            env=os.environ | built | settings,
-            capture_output=True,
-            text=True,
-            check=False,
-        )
-        return ran.returncode, ran.stdout + ran.stderr, (self.top / "out/left-out.txt").read_text()
-
-    def test_each_that_fails_is_counted_and_each_left_out_is_named(self) -> None:
-        status, said, left_out = self.played()
-        self.assertEqual((status, left_out), (3, LEFT_OUT), said)
-        for name in ("Class::test_fails", "test_row[2]", "test_alone_fails"):
-            self.assertIn(f"FAILED python/tests/test_few.py::{name}", said)
-        self.assertIn("2 failed, 3 passed, 1 skipped", said)
-        self.assertIn("1 failed, 1 passed", said)
-
-    def test_what_has_no_tests_fails(self) -> None:
-        (self.top / "python/tests/test_few.py").unlink()
-        self.assertEqual(self.played()[0], 2)
-
-    def test_what_is_not_built_fails(self) -> None:
-        status, said, _ = self.played(NR_REFUSED="/no/such/program")
-        self.assertEqual((status, said), (1, "/no/such/program isn't built\n"))
-
-    def test_without_pytest_all_is_left_out(self) -> None:
-        for name in ("python3", "other"):
-            script = self.top / name
-            script.write_text("#!/bin/sh\nexit 1\n")
-            script.chmod(0o755)
-        finder = self.top / "scripts/pytest.sh"
-        finder.write_text(finder.read_text().replace("/usr/bin/python3", str(self.top / "other")))
-        status, _, left_out = self.played(PATH=f"{self.top}:{os.environ['PATH']}")
-        self.assertEqual(status, 0)
-        self.assertRegex(left_out, r"^pytest: it isn't on this machine \(Debian: .*\)\n$")
+@pytest.fixture
+def top(folder: Path) -> Path:
+    for name in ("scripts/tests.sh", "scripts/pytest.sh", "conftest.py", "pyproject.toml"):
+        (folder / name).parent.mkdir(exist_ok=True)
+        shutil.copy(ROOT / name, folder / name)
+    support = folder / "python/tests/program/support"
+    support.mkdir(parents=True)
+    for package in ("", "program/", "program/support/"):
+        shutil.copy(ROOT / f"python/tests/{package}__init__.py", folder / f"python/tests/{package}__init__.py")
+    shutil.copy(ROOT / "python/tests/program/support/sharing.py", support)
+    (folder / "python/netrev").symlink_to(ROOT / "python/netrev")
+    (folder / "python/tests/test_few.py").write_text(TESTS)
+    return folder
 
 
-class Ending(unittest.TestCase):
-    def test_the_gate_tells_how_many_were_skipped_behind_what_passed(self) -> None:
-        text = (ROOT / "scripts/gate.sh").read_text()
-        ending = text[text.index("# names what was left out here") :]
-        for left_out, wanted in (
-            ("", ["7 passed, 1 failed"]),
-            ("a: no b\nc: no d\n", ["left out here:", "    a: no b", "    c: no d", "7 passed, 1 failed, 2 skipped"]),
-        ):
-            with tempfile.TemporaryDirectory() as folder:
-                out = Path(folder, "out")
-                out.mkdir()
-                (out / "left-out.txt").write_text(left_out)
-                (out / "log").write_text("7 passed, 0 failed\n")
-                ran = subprocess.run(
-                    ["sh", "-euc", f"log=out/log more=1 sum=out/sum\n{ending}"],
-                    cwd=folder,
-                    capture_output=True,
-                    text=True,
-                    check=False,
-                )
-            self.assertEqual((ran.stdout.splitlines(), ran.returncode), (wanted, 1), ran.stderr)
+def played(top: Path, **settings: str) -> tuple[int, str, str]:
+    """Runs the script; returns the status, the output, and the skipped tests."""
+    built = {"NETREV": "/bin/true", "NETREV_PLAIN": "/bin/true", "NR_REFUSED": "/bin/true", "JOBS": "2"}
+    ran = subprocess.run(
+        ["sh", "-c", 'trap "" INT; exec sh scripts/tests.sh'],
+        cwd=top,
+        env=os.environ | built | settings,
+        capture_output=True,
+        text=True,
+        check=False,
+    )
+    return ran.returncode, ran.stdout + ran.stderr, (top / "out/left-out.txt").read_text()
+
+
+def test_each_that_fails_is_counted_and_each_left_out_is_named(top: Path) -> None:
+    status, said, left_out = played(top)
+    assert (status, left_out) == (3, LEFT_OUT), said
+    for name in ("test_fails", "test_row[2]", "test_alone_fails"):
+        assert f"FAILED python/tests/test_few.py::{name}" in said
+    assert "2 failed, 3 passed, 1 skipped" in said
+    assert "1 failed, 1 passed" in said
+
+
+def test_what_has_no_tests_fails(top: Path) -> None:
+    (top / "python/tests/test_few.py").unlink()
+    assert played(top)[0] == 2
+
+
+def test_what_is_not_built_fails(top: Path) -> None:
+    status, said, _ = played(top, NR_REFUSED="/no/such/program")
+    assert (status, said) == (1, "/no/such/program isn't built\n")
+
+
+def test_without_pytest_all_is_left_out(top: Path) -> None:
+    for name in ("python3", "other"):
+        script = top / name
+        script.write_text("#!/bin/sh\nexit 1\n")
+        script.chmod(0o755)
+    finder = top / "scripts/pytest.sh"
+    finder.write_text(finder.read_text().replace("/usr/bin/python3", str(top / "other")))
+    status, _, left_out = played(top, PATH=f"{top}:{os.environ['PATH']}")
+    assert status == 0
+    assert re.search(r"^pytest: it isn't on this machine \(Debian: .*\)\n$", left_out)
+
+
+def test_the_gate_tells_how_many_were_skipped_behind_what_passed() -> None:
+    text = (ROOT / "scripts/gate.sh").read_text()
+    ending = text[text.index("# names what was left out here") :]
+    for left_out, wanted in (
+        ("", ["7 passed, 1 failed"]),
+        ("a: no b\nc: no d\n", ["left out here:", "    a: no b", "    c: no d", "7 passed, 1 failed, 2 skipped"]),
+    ):
+        with tempfile.TemporaryDirectory() as folder:
+            out = Path(folder, "out")
+            out.mkdir()
+            (out / "left-out.txt").write_text(left_out)
+            (out / "log").write_text("7 passed, 0 failed\n")
+            ran = subprocess.run(
+                ["sh", "-euc", f"log=out/log more=1 sum=out/sum\n{ending}"],
+                cwd=folder,
+                capture_output=True,
+                text=True,
+                check=False,
+            )
+        assert (ran.stdout.splitlines(), ran.returncode) == (wanted, 1), ran.stderr

@@ -1,7 +1,7 @@
 """scripts/pages.py: each rule finds the mistake planted for it in a small tree, and finds nothing without that
 mistake."""
 
-import unittest
+import pytest
 
 from tests.support.small_tree import LOG, PAGES, TREE, SmallTree
 
@@ -162,45 +162,52 @@ PLANTED: list[tuple[str, str, str, str, str]] = [
 ]
 
 
-class Pages(SmallTree):
-    def test_finds_nothing_where_there_is_no_mistake(self) -> None:
-        self.keep(LOG)
-        self.assertEqual(self.run_over(), (0, "pages: 7 pages, 22 rules, 0 findings\n"))
+def test_finds_nothing_where_there_is_no_mistake(tree: SmallTree) -> None:
+    tree.keep(LOG)
+    assert tree.run_over() == (0, "pages: 7 pages, 22 rules, 0 findings\n")
 
-    def test_each_mistake_is_found_by_its_rule(self) -> None:
-        for rule, path, old, new, says in PLANTED:
-            with self.subTest(rule, mistake=new[:40]):
-                self.assertEqual(TREE[path].count(old), 1, "the mistake has one place")
-                self.write(path, TREE[path].replace(old, new))
-                status, printed = self.run_over(rule)
-                self.write(path, TREE[path])
-                self.assertEqual(status, 1, printed)
-                self.assertIn(says, printed)
 
-    def test_each_rule_has_a_mistake(self) -> None:
-        self.assertEqual({rule for rule, *_ in PLANTED}, set(PAGES.RULES))
+@pytest.mark.parametrize("rule, path, old, new, says", PLANTED)
+def test_each_mistake_is_found_by_its_rule(
+    tree: SmallTree, rule: str, path: str, old: str, new: str, says: str
+) -> None:
+    assert TREE[path].count(old) == 1, "the mistake has one place"
+    tree.write(path, TREE[path].replace(old, new))
+    status, printed = tree.run_over(rule)
+    tree.write(path, TREE[path])
+    assert status == 1, printed
+    assert says in printed
 
-    def test_each_rule_is_named_where_it_is_said_what_they_are(self) -> None:
-        self.assertEqual([rule for rule in PAGES.RULES if rule not in str(PAGES.__doc__)], [])
 
-    def test_a_page_that_is_gone_is_missed(self) -> None:
-        (self.top / "docs/proof/THEOREM.md").unlink()
-        status, printed = self.run_over()
-        self.assertEqual((status, printed.split("\n")[0]), (1, "there is no docs/proof/THEOREM.md"))
+def test_each_rule_has_a_mistake() -> None:
+    assert {rule for rule, *_ in PLANTED} == set(PAGES.RULES)
 
-    def test_a_folder_has_at_most_fifteen_modules(self) -> None:
-        for count in range(4, 16):
-            self.write(f"python/nrdb/view_{count}.py", '"""A view."""\n')
-        self.assertEqual(self.run_over("imports")[0], 0)
-        self.write("python/nrdb/view_16.py", '"""A view."""\n')
-        self.assertIn("16 modules in its folder, 15 at most", self.run_over("imports")[1])
 
-    def test_a_folder_in_another_may_have_a_row_of_its_own(self) -> None:
-        row = "| `nrdb` | counts |\n"
-        self.write("python/nrdb/views/text.py", '"""Text."""\n\nfrom nrdb.counting import counted\n')
-        for rows, status in ((f"{row}| `nrdb/views` | views |\n", 0), (f"| `nrdb/views` | views |\n{row}", 1)):
-            self.write("CONTRIBUTING.md", TREE["CONTRIBUTING.md"].replace(row, rows))
-            self.assertEqual(self.run_over("imports")[0], status)
+def test_each_rule_is_named_where_it_is_said_what_they_are() -> None:
+    assert [rule for rule in PAGES.RULES if rule not in str(PAGES.__doc__)] == []
 
-    def test_an_unknown_rule_is_refused(self) -> None:
-        self.assertIn("there is no rule sums", self.run_over("sums")[1])
+
+def test_a_page_that_is_gone_is_missed(tree: SmallTree) -> None:
+    (tree.top / "docs/proof/THEOREM.md").unlink()
+    status, printed = tree.run_over()
+    assert (status, printed.split("\n")[0]) == (1, "there is no docs/proof/THEOREM.md")
+
+
+def test_a_folder_has_at_most_fifteen_modules(tree: SmallTree) -> None:
+    for count in range(4, 16):
+        tree.write(f"python/nrdb/view_{count}.py", '"""A view."""\n')
+    assert tree.run_over("imports")[0] == 0
+    tree.write("python/nrdb/view_16.py", '"""A view."""\n')
+    assert "16 modules in its folder, 15 at most" in tree.run_over("imports")[1]
+
+
+def test_a_folder_in_another_may_have_a_row_of_its_own(tree: SmallTree) -> None:
+    row = "| `nrdb` | counts |\n"
+    tree.write("python/nrdb/views/text.py", '"""Text."""\n\nfrom nrdb.counting import counted\n')
+    for rows, status in ((f"{row}| `nrdb/views` | views |\n", 0), (f"| `nrdb/views` | views |\n{row}", 1)):
+        tree.write("CONTRIBUTING.md", TREE["CONTRIBUTING.md"].replace(row, rows))
+        assert tree.run_over("imports")[0] == status
+
+
+def test_an_unknown_rule_is_refused(tree: SmallTree) -> None:
+    assert "there is no rule sums" in tree.run_over("sums")[1]

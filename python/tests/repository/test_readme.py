@@ -4,7 +4,6 @@ says; and each crate's README says what a newcomer may change."""
 import re
 import subprocess
 import sys
-import unittest
 from pathlib import Path
 
 from netrev_go.log.sockets import MOST_GOROUTINES, MOST_SOCKETS, MOST_STEPS
@@ -86,23 +85,21 @@ def kept_calls() -> dict[str, set[str]]:
     return found
 
 
-class Crates(unittest.TestCase):
-    """The first line of each crate's README says what a newcomer may change."""
+def test_each_has_such_a_line() -> None:
+    pages = sorted((ROOT / "crates").glob("*/README.md"))
+    crates = {path.parent.name for path in (ROOT / "crates").glob("*/src")}
+    assert {page.parent.name for page in pages} == crates
+    for page in pages:
+        title, blank, first, *_ = page.read_text(encoding="utf-8").split("\n")
+        assert (title, blank) == (f"# {page.parent.name}", "")
+        assert re.search(r"^\*\*(Stable API|Program|Tests|Internal):\*\* ", first), page.parent.name
 
-    def test_each_has_such_a_line(self) -> None:
-        pages = sorted((ROOT / "crates").glob("*/README.md"))
-        crates = {path.parent.name for path in (ROOT / "crates").glob("*/src")}
-        self.assertEqual({page.parent.name for page in pages}, crates)
-        for page in pages:
-            title, blank, first, *_ = page.read_text(encoding="utf-8").split("\n")
-            self.assertEqual((title, blank), (f"# {page.parent.name}", ""))
-            self.assertRegex(first, r"^\*\*(Stable API|Program|Tests|Internal):\*\* ", page.parent.name)
 
-    def test_the_calls_that_stay_are_named(self) -> None:
-        kept = kept_calls()
-        self.assertGreater(len(kept), 15)
-        for crate, names in kept.items():
-            text = (ROOT / "crates" / crate / "README.md").read_text(encoding="utf-8").partition("\n\n")[2]
-            line = text.partition("\n\n")[0]
-            named = {name for name in re.findall(r"`(\w+)`", line)}
-            self.assertEqual(named, names, crate)
+def test_the_calls_that_stay_are_named() -> None:
+    kept = kept_calls()
+    assert len(kept) > 15
+    for crate, names in kept.items():
+        text = (ROOT / "crates" / crate / "README.md").read_text(encoding="utf-8").partition("\n\n")[2]
+        line = text.partition("\n\n")[0]
+        named = {name for name in re.findall(r"`(\w+)`", line)}
+        assert named == names, crate

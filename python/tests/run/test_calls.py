@@ -2,8 +2,9 @@
 results; and the destinations of `next`, `finish` and their reverses."""
 
 import random
-import unittest
 from typing import Any, NamedTuple, Optional
+
+import pytest
 
 from dev.fuzz.generators.injections import Bug, Traffic
 from dev.fuzz.generators.little_go import Turns
@@ -75,131 +76,128 @@ def seen(call: Call) -> Made:
     return Made(call.goroutine, call.name, call.socket, call.first, call.last, call.outcome)
 
 
-class Calls(unittest.TestCase):
-    def compare(self, one: Optional[Call], made: Made) -> None:
-        """Compares a call that nrdb found with the call that was made."""
-        assert one is not None, made
-        found = seen(one)
-        if found.name == "Control" and (found.outcome is Outcome.CLOSED or not found.last):
-            found = found._replace(
-                name=made.name
-            )  # (a call that sets a deadline can't be told from Control until it has done so)
-        if not made.last:  # (it hasn't ended, or its last step was made but its goroutine has had no turn since)
-            made = made._replace(last=found.last, outcome=found.outcome)
-        self.assertEqual(found, made)
+def compare(one: Optional[Call], made: Made) -> None:
+    """Compares a call that nrdb found with the call that was made."""
+    assert one is not None, made
+    found = seen(one)
+    if found.name == "Control" and (found.outcome is Outcome.CLOSED or not found.last):
+        found = found._replace(
+            name=made.name
+        )  # (a call that sets a deadline can't be told from Control until it has done so)
+    if not made.last:  # (it hasn't ended, or its last step was made but its goroutine has had no turn since)
+        made = made._replace(last=found.last, outcome=found.outcome)
+    assert found == made
 
-    def test_are_those_that_the_goroutines_made(self) -> None:
-        ends: set[tuple[str, Outcome]] = set()
-        for seed in SEEDS:
-            traffic = Telling(seed)
-            traffic.run()
-            found = {call.first: call for call in run_of(Recording(traffic.text())).calls}
-            for made in traffic.told:
-                with self.subTest(seed=seed, step=made.first):
-                    self.compare(found.get(made.first), made)
-                ends.add((made.name, made.outcome))
-            others = [found[first] for first in set(found) - {made.first for made in traffic.told}]
-            self.assertLessEqual(
-                {call.name for call in others}, {"Open", "Control", "Read"}
-            )  # (`raw_read` and `controller`)
-        self.assertGreaterEqual(len(ends), 8, ends)
 
-    def test_steps_are_those_of_the_goroutine_the_socket_and_the_kind(self) -> None:
-        traffic = Telling(SEEDS[0])
+def test_are_those_that_the_goroutines_made() -> None:
+    ends: set[tuple[str, Outcome]] = set()
+    for seed in SEEDS:
+        traffic = Telling(seed)
+        traffic.run()
+        found = {call.first: call for call in run_of(Recording(traffic.text())).calls}
+        for made in traffic.told:
+            compare(found.get(made.first), made)
+            ends.add((made.name, made.outcome))
+        others = [found[first] for first in set(found) - {made.first for made in traffic.told}]
+        assert {call.name for call in others} <= {"Open", "Control", "Read"}  # (`raw_read` and `controller`)
+    assert len(ends) >= 8, ends
+
+
+def test_steps_are_those_of_the_goroutine_the_socket_and_the_kind() -> None:
+    traffic = Telling(SEEDS[0])
+    traffic.run()
+    recording = Recording(traffic.text())
+    every = [recording.step(number) for number in range(1, recording.length + 1)]
+    at = recording.length - 100
+    for g in (5, 9, 20):
+        rows = steps_table(recording, Subject("gor", g), at, None).rows
+        assert [row.values["step"] for row in rows] == [s.number for s in every[:at] if s.argument("g") == g]
+        assert rows
+    for kind in ("rwlock", "fire"):
+        rows = steps_table(recording, Subject(kind), at, None).rows
+        assert [row.values["step"] for row in rows] == [s.number for s in every[:at] if s.kind == kind]
+    named = [s.number for s in every[:at] if s.argument("s") == 3]
+    rows = steps_table(recording, Subject("sock", 3), at, None).rows
+    assert set(named) < {row.values["step"] for row in rows}
+    assert "pollreset" in {recording.step(row.values["step"]).kind for row in rows}
+    last = steps_table(recording, Subject("sock", 3), at, 5)
+    assert [row.values["step"] for row in last.rows] == [row.values["step"] for row in rows][-5:]
+    assert last.rest == f"{len(rows) - 5} earlier ones: steps sock 3 all"
+
+
+def test_errors_are_the_calls_that_failed() -> None:
+    for seed in SEEDS[:4]:
+        traffic = Telling(seed)
         traffic.run()
         recording = Recording(traffic.text())
-        every = [recording.step(number) for number in range(1, recording.length + 1)]
-        at = recording.length - 100
-        for g in (5, 9, 20):
-            rows = steps_table(recording, Subject("gor", g), at, None).rows
-            self.assertEqual(
-                [row.values["step"] for row in rows], [s.number for s in every[:at] if s.argument("g") == g]
-            )
-            self.assertTrue(rows)
-        for kind in ("rwlock", "fire"):
-            rows = steps_table(recording, Subject(kind), at, None).rows
-            self.assertEqual([row.values["step"] for row in rows], [s.number for s in every[:at] if s.kind == kind])
-        named = [s.number for s in every[:at] if s.argument("s") == 3]
-        rows = steps_table(recording, Subject("sock", 3), at, None).rows
-        self.assertLess(set(named), {row.values["step"] for row in rows})
-        self.assertIn("pollreset", {recording.step(row.values["step"]).kind for row in rows})
-        last = steps_table(recording, Subject("sock", 3), at, 5)
-        self.assertEqual([row.values["step"] for row in last.rows], [row.values["step"] for row in rows][-5:])
-        self.assertEqual(last.rest, f"{len(rows) - 5} earlier ones: steps sock 3 all")
-
-    def test_errors_are_the_calls_that_failed(self) -> None:
-        for seed in SEEDS[:4]:
-            traffic = Telling(seed)
-            traffic.run()
-            recording = Recording(traffic.text())
-            at = recording.length // 2
-            table = errors_table(recording, at, None)
-            failed = {made.first for made in traffic.told if made.last and made.outcome in ENDS.values()}
-            rows = [row for row in table.rows if row.values]  # (rows without values give reasons)
-            told = {row.values["first"] for row in rows}
-            self.assertLessEqual(failed, told)
-            self.assertTrue(all(row.values["outcome"] for row in rows))
-            self.assertEqual(
-                [row.values["last"] > at for row in rows], [row.values.get("later", False) for row in rows]
-            )
-            self.assertEqual([row.text.endswith("(later)") for row in rows], [row.values["last"] > at for row in rows])
-
-    def test_of_many_errors_the_nearest_are_shown(self) -> None:
-        recording = Recording(Traffic(3, None, 3000).run().text())
-        every = [row.values for row in errors_table(recording, recording.length, None).rows if row.values]
-        self.assertGreater(len(every), 8)
-        at = sorted(row["last"] for row in every)[3]
-        table = errors_table(recording, at, 6)
-        self.assertEqual([row.values.get("later", False) for row in table.rows if row.values], [False] * 4 + [True] * 2)
-        self.assertIn(f"{len(every) - 6} later ones: info errors all", table.rest)
-        table = errors_table(recording, at, 2)
-        self.assertEqual([row.values.get("later", False) for row in table.rows if row.values], [False] * 2)
-        self.assertIn("2 earlier ones: info errors all", table.rest)
+        at = recording.length // 2
+        table = errors_table(recording, at, None)
+        failed = {made.first for made in traffic.told if made.last and made.outcome in ENDS.values()}
+        rows = [row for row in table.rows if row.values]  # (rows without values give reasons)
+        told = {row.values["first"] for row in rows}
+        assert failed <= told
+        assert all(row.values["outcome"] for row in rows)
+        assert [row.values["last"] > at for row in rows] == [row.values.get("later", False) for row in rows]
+        assert [row.text.endswith("(later)") for row in rows] == [row.values["last"] > at for row in rows]
 
 
-class Going(unittest.TestCase):
-    def test_leads_to_the_ends_of_calls(self) -> None:
-        dice, met = random.Random("going"), 0
-        for seed in SEEDS[:6]:
-            traffic = Telling(seed)
-            traffic.run()
-            recording = Recording(traffic.text())
-            for _ in range(40):
-                at = dice.randint(100, recording.length)
-                g = goroutine_at(recording, at)
-                inside = [made for made in traffic.told if made.goroutine == g and made.first <= at < made.last]
-                if inside:
-                    self.assertEqual(GOALS["finish"](recording, g, at).position, inside[-1].last)
-                    self.assertEqual(GOALS["reverse-finish"](recording, g, at).position, inside[-1].first - 1)
-                    met += 1
-        self.assertGreater(met, 100)
+def test_of_many_errors_the_nearest_are_shown() -> None:
+    recording = Recording(Traffic(3, None, 3000).run().text())
+    every = [row.values for row in errors_table(recording, recording.length, None).rows if row.values]
+    assert len(every) > 8
+    at = sorted(row["last"] for row in every)[3]
+    table = errors_table(recording, at, 6)
+    assert [row.values.get("later", False) for row in table.rows if row.values] == [False] * 4 + [True] * 2
+    assert f"{len(every) - 6} later ones: info errors all" in table.rest
+    table = errors_table(recording, at, 2)
+    assert [row.values.get("later", False) for row in table.rows if row.values] == [False] * 2
+    assert "2 earlier ones: info errors all" in table.rest
 
-    def test_next_and_its_reverse_pass_whole_calls(self) -> None:
-        traffic = Telling(SEEDS[1])
+
+def test_leads_to_the_ends_of_calls() -> None:
+    dice, met = random.Random("going"), 0
+    for seed in SEEDS[:6]:
+        traffic = Telling(seed)
         traffic.run()
         recording = Recording(traffic.text())
-        own = [made for made in traffic.told if made.name == "Read" and made.last]
-        self.assertGreater(len(own), 20)
-        for made in own:
-            self.assertEqual(GOALS["next"](recording, made.goroutine, made.first - 1).position, made.last)
-            self.assertEqual(GOALS["reverse-next"](recording, made.goroutine, made.last).position, made.first - 1)
-            if made.last > made.first:  # within the call, the goroutine's own steps count
-                goal = GOALS["next"](recording, made.goroutine, made.first)
-                self.assertEqual(goal.call, None)
-                own_steps = [
-                    n for n in range(made.first + 1, made.last + 1) if recording.step(n).argument("g") == made.goroutine
-                ]
-                self.assertEqual(goal.position, own_steps[0])
+        for _ in range(40):
+            at = dice.randint(100, recording.length)
+            g = goroutine_at(recording, at)
+            inside = [made for made in traffic.told if made.goroutine == g and made.first <= at < made.last]
+            if inside:
+                assert GOALS["finish"](recording, g, at).position == inside[-1].last
+                assert GOALS["reverse-finish"](recording, g, at).position == inside[-1].first - 1
+                met += 1
+    assert met > 100
 
-    def test_says_where_there_is_nowhere_to_go(self) -> None:
-        recording = Recording(b'{"netrev":1,"gor":2,"sock":1,"desc":1,"buf":1}\n["sockopen",1,1]\n["rwlock",0,0,"r"]\n')
-        for name, at in (("next", 2), ("reverse-next", 1), ("finish", 1), ("finish", 2)):
-            with self.assertRaises(NoDestinationError):
-                GOALS[name](recording, 0, at)
-        self.assertEqual([goroutine_at(recording, at) for at in (0, 1, 2)], [0, 0, 0])
-        with self.assertRaises(NoDestinationError):
-            goroutine_at(Recording(recording.before_line(3)), 1)
-        self.assertEqual(
-            calls_table(recording, Subject(), 2, None).rows[0].text,
-            "gor 0    Read on socket 0: since step 2, hasn't ended",
-        )
+
+def test_next_and_its_reverse_pass_whole_calls() -> None:
+    traffic = Telling(SEEDS[1])
+    traffic.run()
+    recording = Recording(traffic.text())
+    own = [made for made in traffic.told if made.name == "Read" and made.last]
+    assert len(own) > 20
+    for made in own:
+        assert GOALS["next"](recording, made.goroutine, made.first - 1).position == made.last
+        assert GOALS["reverse-next"](recording, made.goroutine, made.last).position == made.first - 1
+        if made.last > made.first:  # within the call, the goroutine's own steps count
+            goal = GOALS["next"](recording, made.goroutine, made.first)
+            assert goal.call is None
+            own_steps = [
+                n for n in range(made.first + 1, made.last + 1) if recording.step(n).argument("g") == made.goroutine
+            ]
+            assert goal.position == own_steps[0]
+
+
+def test_says_where_there_is_nowhere_to_go() -> None:
+    recording = Recording(b'{"netrev":1,"gor":2,"sock":1,"desc":1,"buf":1}\n["sockopen",1,1]\n["rwlock",0,0,"r"]\n')
+    for name, at in (("next", 2), ("reverse-next", 1), ("finish", 1), ("finish", 2)):
+        with pytest.raises(NoDestinationError):
+            GOALS[name](recording, 0, at)
+    assert [goroutine_at(recording, at) for at in (0, 1, 2)] == [0, 0, 0]
+    with pytest.raises(NoDestinationError):
+        goroutine_at(Recording(recording.before_line(3)), 1)
+    assert (
+        calls_table(recording, Subject(), 2, None).rows[0].text
+        == "gor 0    Read on socket 0: since step 2, hasn't ended"
+    )

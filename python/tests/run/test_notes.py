@@ -2,10 +2,10 @@
 none. The pauses equal those that are found by examining each step alone."""
 
 import random
-import unittest
 from collections import defaultdict
 from typing import Any, Callable, Iterator, Sequence
-from unittest.mock import patch
+
+import pytest
 
 from dev.fuzz.generators.random_steps import Author
 from netrev.recording.notes import MANY
@@ -19,40 +19,34 @@ STEPS = 400
 NUMBERS = (("lock", "locks"), ("in", "inputs"), ("out", "outputs"))
 
 
-class Kept(unittest.TestCase):
-    """Random recordings, read once."""
-
-    def test_all_that_the_notes_keep_is_what_the_changes_say(self) -> None:
-        compared = 0
-        for seed in SEEDS:
-            recording, worlds = Author(random.Random(f"notes {seed}")).recording(STEPS)
-            notes = Book(PlayedSteps(recording.steps)).notes
-            with self.subTest(seed=seed):
-                for cell, kept in kept_of(notes, len(worlds[-1].goroutines)):
-                    self.assertEqual((cell, kept), (cell, notes.changes.value(cell, len(recording.steps))))
-                    compared += 1
-        self.assertGreater(compared, 2_500)
+def test_all_that_the_notes_keep_is_what_the_changes_say() -> None:
+    compared = 0
+    for seed in SEEDS:
+        recording, worlds = Author(random.Random(f"notes {seed}")).recording(STEPS)
+        notes = Book(PlayedSteps(recording.steps)).notes
+        for cell, kept in kept_of(notes, len(worlds[-1].goroutines)):
+            assert (cell, kept) == (cell, notes.changes.value(cell, len(recording.steps))), seed
+            compared += 1
+    assert compared > 2_500
 
 
-class Paused(unittest.TestCase):
-    """Random recordings, read in pieces of many lengths."""
-
-    def test_each_place_has_the_pauses_of_all_steps(self) -> None:
-        many = few = 0
-        for seed in SEEDS:
-            recording, _ = Author(random.Random(f"pauses {seed}")).recording(STEPS)
-            behind = Behind()
-            with self.subTest(seed=seed), patch("netrev.recording.changes.WINDOW", 2 ** (seed % 14)):
-                notes = Notes(PlayedSteps(recording.steps), {kind: behind.made for kind in KINDS})
-                pauses = behind.pauses(recording.steps)
-                found = {place: (known.count, known.longest) for place, known in notes.pauses.items() if known.count}
-                self.assertEqual(found.keys(), pauses.keys())
-                for place, each in pauses.items():
-                    count, longest = found[place]
-                    self.assertEqual((min(count, MANY), longest), (min(len(each), MANY), max(each)), place)
-                    many, few = many + (len(each) >= MANY), few + (len(each) < MANY)
-        self.assertGreater(many, 200)
-        self.assertGreater(few, 100)
+def test_each_place_has_the_pauses_of_all_steps(monkeypatch: pytest.MonkeyPatch) -> None:
+    many = few = 0
+    for seed in SEEDS:
+        recording, _ = Author(random.Random(f"pauses {seed}")).recording(STEPS)
+        behind = Behind()
+        with monkeypatch.context() as patch:
+            patch.setattr("netrev.recording.changes.WINDOW", 2 ** (seed % 14))
+            notes = Notes(PlayedSteps(recording.steps), {kind: behind.made for kind in KINDS})
+            pauses = behind.pauses(recording.steps)
+            found = {place: (known.count, known.longest) for place, known in notes.pauses.items() if known.count}
+            assert found.keys() == pauses.keys(), seed
+            for place, each in pauses.items():
+                count, longest = found[place]
+                assert (min(count, MANY), longest) == (min(len(each), MANY), max(each)), place
+                many, few = many + (len(each) >= MANY), few + (len(each) < MANY)
+    assert many > 200
+    assert few > 100
 
 
 class Behind:
@@ -94,7 +88,3 @@ def kept_of(notes: Notes, goroutines: int) -> Iterator[tuple[str, str]]:
         yield f"fdseq {d}", str(notes.tags[d])
         yield f"info {d}", str(notes.infos[d])
     yield "clock", str(notes.clock)
-
-
-if __name__ == "__main__":
-    unittest.main()

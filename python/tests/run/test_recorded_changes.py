@@ -1,13 +1,9 @@
 """The output of `netrev changes`, stored and queried: compared with the model, whole and in pieces, with faults,
 with a failing netrev, and interrupted."""
 
-import os
-import sys
-import time
 from pathlib import Path
 from threading import Thread
 from typing import Iterator
-from unittest import mock
 
 import pytest
 
@@ -24,6 +20,7 @@ from netrev.recording.changes import IncompleteChangesError, RecordedChanges
 from netrev.system.interrupts import Interrupts, SearchInterruptedError
 from netrev.text.vocabulary import CELLS, Of
 from tests.support.examples import EXAMPLES
+from tests.support.stubs import raising
 
 WITH_FAULTS = ("other-answer",)
 RECORDINGS = sorted(path for path in EXAMPLES.glob("*.jsonl") if path.stem not in WITH_FAULTS)
@@ -206,9 +203,10 @@ def test_a_line_in_the_middle_that_is_no_change_is_told(netrev: Path) -> None:
     changes.drop()
 
 
-def test_a_reader_that_was_not_started_is_replaced(netrev: Path) -> None:
+def test_a_reader_that_was_not_started_is_replaced(monkeypatch: pytest.MonkeyPatch, netrev: Path) -> None:
     changes, _ = arriving(netrev, "echo 1 gor 1 = idle; echo ok 1 steps")
-    with mock.patch.object(Thread, "start", side_effect=KeyboardInterrupt), pytest.raises(KeyboardInterrupt):
+    with monkeypatch.context() as patch, pytest.raises(KeyboardInterrupt):
+        patch.setattr(Thread, "start", raising(KeyboardInterrupt))
         changes.prepare()
     changes.drop()
     assert list(changes) == [(1, "gor 1", "idle")]

@@ -1,6 +1,5 @@
 """A reused descriptor number: facts about its first use are never reported for its next use."""
 
-import unittest
 
 from netrev.run.index import run_of
 from netrev.run.owners import NONE
@@ -10,25 +9,22 @@ from tests.suspects.test_suspects import OPEN, USED_AGAIN, Steps, recording_of
 LATE: Steps = [["setdeadline", 0, 0, "r", 3], ["tick", 9], ["pop"]]
 
 
-class UsedAgain(unittest.TestCase):
-    """Socket 0 had descriptor 0, which is now socket 1's."""
+def test_a_timer_that_is_run_late_is_of_the_socket_that_set_it() -> None:
+    recording = recording_of(OPEN + LATE + USED_AGAIN + [["fire", 0]])
+    timers = timers_of(recording)
+    assert [(one.socket, one.descriptor, one.is_stale) for one in timers.values()] == [(0, 0, False), (0, 0, True)]
+    book = run_of(recording).owners
+    assert (book.sockets[-1], book.descriptors[-1]) == (0, 0)
 
-    def test_a_timer_that_is_run_late_is_of_the_socket_that_set_it(self) -> None:
-        recording = recording_of(OPEN + LATE + USED_AGAIN + [["fire", 0]])
-        timers = timers_of(recording)
-        self.assertEqual(
-            [(one.socket, one.descriptor, one.is_stale) for one in timers.values()], [(0, 0, False), (0, 0, True)]
-        )
-        book = run_of(recording).owners
-        self.assertEqual((book.sockets[-1], book.descriptors[-1]), (0, 0))
 
-    def test_an_event_that_comes_late_is_of_the_socket_of_its_tag(self) -> None:
-        book = run_of(recording_of(OPEN + USED_AGAIN + [["pollevent", 0, tag, "rw", 0] for tag in (1, 2, 7)])).owners
-        self.assertEqual(list(book.sockets)[-3:], [0, 1, NONE])
+def test_an_event_that_comes_late_is_of_the_socket_of_its_tag() -> None:
+    book = run_of(recording_of(OPEN + USED_AGAIN + [["pollevent", 0, tag, "rw", 0] for tag in (1, 2, 7)])).owners
+    assert list(book.sockets)[-3:] == [0, 1, NONE]
 
-    def test_what_comes_to_a_closed_socket_is_of_no_descriptor(self) -> None:
-        book = run_of(
-            recording_of(OPEN + [["arrive", 0, "00"], *USED_AGAIN, ["arrive", 0, "00"], ["arrive", 1, "00"]])
-        ).owners
-        arrived = [at for at, s in enumerate(book.sockets) if at in (3, len(book.sockets) - 2, len(book.sockets) - 1)]
-        self.assertEqual([(book.sockets[at], book.descriptors[at]) for at in arrived], [(0, 0), (0, NONE), (1, 0)])
+
+def test_what_comes_to_a_closed_socket_is_of_no_descriptor() -> None:
+    book = run_of(
+        recording_of(OPEN + [["arrive", 0, "00"], *USED_AGAIN, ["arrive", 0, "00"], ["arrive", 1, "00"]])
+    ).owners
+    arrived = [at for at, s in enumerate(book.sockets) if at in (3, len(book.sockets) - 2, len(book.sockets) - 1)]
+    assert [(book.sockets[at], book.descriptors[at]) for at in arrived] == [(0, 0), (0, NONE), (1, 0)]

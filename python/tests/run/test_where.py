@@ -4,9 +4,10 @@ import json
 import os
 import tempfile
 import time
-import unittest
 from pathlib import Path
 from typing import Any
+
+import pytest
 
 from netrev.recording.recording import NotARecordingError, Recording
 from netrev.recording.waits import Name, name_of_goid, waits_of
@@ -14,7 +15,6 @@ from netrev.recording.where import MOST_BYTES, MOST_LINE, SourceLines
 from netrev.session.files import written
 from netrev.session.session import UsageError
 from netrev.text.files import whole, written_whole
-from tests.support.folders import folder_of
 
 FIRST = {"where": 1, "steps": 2}
 CALL = {"call": 1, "function": "main.main", "file": "main.go", "line": 3, "of": "program"}
@@ -45,9 +45,10 @@ NO_JSON: tuple[bytes, ...] = (
 )  # fmt: skip
 
 
-class Where(unittest.TestCase):
-    def setUp(self) -> None:
-        folder = folder_of(self)
+class Files:
+    """A recording, and the file of lines beside it."""
+
+    def __init__(self, folder: Path) -> None:
         self.recording = folder / "x.jsonl"
         self.recording.write_text('{"netrev":1,"gor":1,"sock":1,"desc":1,"buf":16}\n["tick",1]\n["tick",2]\n')
         self.file = self.recording.with_suffix(".where")
@@ -60,142 +61,147 @@ class Where(unittest.TestCase):
         self.file.write_bytes(data)
         lines = self.lines()
         if lines.fault:
-            self.assertFalse(lines)
-            self.assertEqual((len(lines.stacks), lines.orders, lines.words(1)), (1, None, ""))
+            assert not lines
+            assert (len(lines.stacks), lines.orders, lines.words(1)) == (1, None, "")
         return lines.fault
 
-    def test_one_of_its_form_is_used(self) -> None:
-        self.assertEqual(self.fault(text_of(GOOD)), "")
-        self.assertEqual(self.lines().words(1), "main.go:3 main.main")
-        self.file.unlink()
-        self.assertEqual(self.lines().fault, "")
 
-    def test_tests_and_bytes_are_known(self) -> None:
-        more = [{"bytes": 64}, {"test": "TestX/part", "package": "p", "steps": [1, 1]}]
-        self.assertEqual(self.fault(text_of([*GOOD, *more])), "")
-        lines = self.lines()
-        self.assertEqual((lines.bytes, lines.tests_at(1), lines.tests_at(2)), (64, ["p TestX/part"], []))
-        for wrong in ({"bytes": "64"}, {"test": 1, "package": "p", "steps": [1, 1]}, {"test": "T", "package": "p"}):
-            self.assertIn(SAID, self.fault(text_of([*GOOD, *more, wrong])))
-            self.assertEqual((self.lines().bytes, self.lines().tests_at(1)), (None, []))
-        for steps in ([1], [1, "1"], 7):
-            self.assertIn(SAID, self.fault(text_of([*GOOD, {"test": "T", "package": "p", "steps": steps}])))
-
-    def test_a_number_that_several_goroutines_had_is_the_one_s_that_has_it_at_the_step(self) -> None:
-        of_go = [[42, -1, 0, 0, 0, 1, 5, 6], [99, 3, 0, 0, 0, -1, 5, -1], [7, 4, 0, 0, 0, -1, 5, -1]]
-        parks = [
-            [99, 0, 1, 5, 6, "a select", 1, 42, []],
-            [99, 2, -1, 7, -1, "a select", 1, 0, []],
-            [42, 0, 1, 5, 6, "a select", 1, 0, []],
-        ]
-        more = [{"taken": [[3, 0, 42], [3, 1, 99]]}, {"goroutines": of_go}, {"parks": parks}]
-        self.assertEqual(self.fault(text_of([FIRST | {"where": 2}, *GOOD[1:], *more])), "")
-        recording = Recording.read(str(self.recording))
-        lines = recording.lines
-        self.assertEqual([lines.goid_of(3, step) for step in (0, 1, 2)], [42, 42, 99])
-        self.assertEqual((lines.goid_of(3), lines.goid_of(4, 1), lines.goid_of(4)), (99, 7, 7))
-        names = [str(name_of_goid(lines, goid, step)) for goid in (42, 99, 7) for step in (1, 2, None)]
-        own, seven = "goroutine 3", ["goroutine 4"] * 3
-        self.assertEqual(names, [own, "goid 42", "goid 42", "goid 99", own, own, *seven])
-        waits = waits_of(recording).of
-        spans = {str(name): [(wait.first, wait.last) for wait in some] for name, some in waits.items()}
-        self.assertEqual(spans, {"goid 99": [(0, 1)], own: [(0, 1), (2, None)]})
-        self.assertEqual(str(waits[Name(99, True)][0].by), own)
-        for wrong in ([[3, 0]], [[3, 0, "42"]], 7, [[3, 0, 42, 1]]):
-            self.assertIn(SAID, self.fault(text_of([*GOOD, {"taken": wrong}])))
-            self.assertEqual(self.lines().owners, {})
-
-    def test_one_that_is_not_is_not_used_and_that_is_said(self) -> None:
-        for place, value, said in WRONG:
-            with self.subTest(value):
-                lines = list(GOOD)
-                lines[place] = value
-                fault = self.fault(text_of(lines))
-                self.assertIn(said, fault)
-                self.assertTrue(fault.isprintable())
-                self.assertTrue(said != SAID or fault.startswith(f"line {place + 1} "), fault)
-        for data in NO_JSON:
-            with self.subTest(data[:20]):
-                self.assertIn(SAID, self.fault(text_of(GOOD[:3]) + data + b"\n"))
-        for beginning in (b"", text_of(GOOD)):
-            self.assertEqual(self.fault(beginning + b"\xff"), "it isn't text")
-        said = self.lines().why_unused(str(self.recording))
-        self.assertTrue(
-            said.startswith(
-                "x.where isn't used: it isn't text. The recording works without it; docs/reference/RECORDING.md"
-            ),
-            said,
-        )
-
-    def test_what_is_no_file_is_not_waited_for(self) -> None:
-        begun = time.monotonic()
-        os.mkfifo(self.file)
-        self.assertEqual(self.lines().fault, "it isn't a regular file")
-        self.file.unlink()
-        self.file.symlink_to("/dev/zero")
-        self.assertEqual(self.lines().fault, "it isn't a regular file")
-        self.file.unlink()
-        self.file.mkdir()
-        self.assertEqual(self.lines().fault, "it isn't a regular file")
-        self.file.rmdir()
-        self.file.symlink_to(self.file)
-        self.assertIn("symbolic link", self.lines().fault)
-        self.file.unlink()
-        with open(self.file, "wb") as sparse:
-            sparse.truncate(MOST_BYTES + 1)
-        self.assertEqual(self.lines().fault, "it is larger than 64 MB")
-        self.assertLess(time.monotonic() - begun, 5)
-
-    def test_a_recording_that_can_be_read_once_alone_is_refused(self) -> None:
-        pipe = self.recording.with_name("pipe")
-        os.mkfifo(pipe)
-        for path in (pipe, "/dev/zero"):
-            with self.assertRaisesRegex(NotARecordingError, "isn't a regular file: nrdb reads a recording twice"):
-                Recording.read(str(path))
-        for path in ("a\0b", "\ud800"):
-            with self.assertRaisesRegex(OSError, "no file can have that name"):
-                Recording.read(path)
+@pytest.fixture
+def files(folder: Path) -> Files:
+    return Files(folder)
 
 
-class Files(unittest.TestCase):
-    def test_a_file_is_written_whole_or_not_at_all(self) -> None:
-        with tempfile.TemporaryDirectory() as folder:
-            path, link = Path(folder, "a"), Path(folder, "b")
-            path.write_text("before")
-            link.symlink_to(path)
-            with self.assertRaises(KeyboardInterrupt), whole(path) as file:
-                file.write("after")
-                raise KeyboardInterrupt
-            self.assertEqual((path.read_text(), sorted(os.listdir(folder))), ("before", ["a", "b"]))
-            written_whole(link, b"after")
-            self.assertEqual((path.read_text(), link.is_symlink(), len(os.listdir(folder))), ("after", True, 2))
-            for name in ("nowhere/x", "", "a/x", "x" * 300, "a\0b"):
-                with self.subTest(name), self.assertRaises(OSError) as failed:
-                    written_whole(Path(folder) / name if name else Path(folder), b"")
-                self.assertTrue(failed.exception.strerror and failed.exception.filename)
-            self.assertEqual(sorted(os.listdir(folder)), ["a", "b"])
+def test_one_of_its_form_is_used(files: Files) -> None:
+    assert files.fault(text_of(GOOD)) == ""
+    assert files.lines().words(1) == "main.go:3 main.main"
+    files.file.unlink()
+    assert files.lines().fault == ""
 
-    def test_what_is_open_is_written_to_as_it_is(self) -> None:
-        with tempfile.TemporaryFile() as file:
-            written_whole(Path(f"/dev/fd/{file.fileno()}"), b"after")
-            self.assertEqual(file.read(), b"after")
-        reading, writing = os.pipe()
-        written_whole(Path(f"/dev/fd/{writing}"), b"after")
-        self.assertEqual(os.read(reading, 9), b"after")
-        os.close(reading)
-        os.close(writing)
 
-    def test_the_recording_is_never_written_over(self) -> None:
-        with tempfile.TemporaryDirectory() as folder:
-            path, other = Path(folder, "a.jsonl"), Path(folder, "b.jsonl")
-            path.write_text("steps")
-            path.with_suffix(".where").write_text("lines")
-            other.symlink_to(path)
-            for name in (path, other, path.with_suffix(".where")):
-                with self.assertRaisesRegex(UsageError, "is the recording itself, or its NAME.where"):
-                    written(str(name), str(path), b"page")
-            written(str(Path(folder, "c")), str(path), b"page")
-            self.assertEqual((path.read_text(), Path(folder, "c").read_text()), ("steps", "page"))
+def test_tests_and_bytes_are_known(files: Files) -> None:
+    more = [{"bytes": 64}, {"test": "TestX/part", "package": "p", "steps": [1, 1]}]
+    assert files.fault(text_of([*GOOD, *more])) == ""
+    lines = files.lines()
+    assert (lines.bytes, lines.tests_at(1), lines.tests_at(2)) == (64, ["p TestX/part"], [])
+    for wrong in ({"bytes": "64"}, {"test": 1, "package": "p", "steps": [1, 1]}, {"test": "T", "package": "p"}):
+        assert SAID in files.fault(text_of([*GOOD, *more, wrong]))
+        assert (files.lines().bytes, files.lines().tests_at(1)) == (None, [])
+    for steps in ([1], [1, "1"], 7):
+        assert SAID in files.fault(text_of([*GOOD, {"test": "T", "package": "p", "steps": steps}]))
+
+
+def test_a_number_that_several_goroutines_had_is_the_one_s_that_has_it_at_the_step(files: Files) -> None:
+    of_go = [[42, -1, 0, 0, 0, 1, 5, 6], [99, 3, 0, 0, 0, -1, 5, -1], [7, 4, 0, 0, 0, -1, 5, -1]]
+    parks = [
+        [99, 0, 1, 5, 6, "a select", 1, 42, []],
+        [99, 2, -1, 7, -1, "a select", 1, 0, []],
+        [42, 0, 1, 5, 6, "a select", 1, 0, []],
+    ]
+    more = [{"taken": [[3, 0, 42], [3, 1, 99]]}, {"goroutines": of_go}, {"parks": parks}]
+    assert files.fault(text_of([FIRST | {"where": 2}, *GOOD[1:], *more])) == ""
+    recording = Recording.read(str(files.recording))
+    lines = recording.lines
+    assert [lines.goid_of(3, step) for step in (0, 1, 2)] == [42, 42, 99]
+    assert (lines.goid_of(3), lines.goid_of(4, 1), lines.goid_of(4)) == (99, 7, 7)
+    names = [str(name_of_goid(lines, goid, step)) for goid in (42, 99, 7) for step in (1, 2, None)]
+    own, seven = "goroutine 3", ["goroutine 4"] * 3
+    assert names == [own, "goid 42", "goid 42", "goid 99", own, own, *seven]
+    waits = waits_of(recording).of
+    spans = {str(name): [(wait.first, wait.last) for wait in some] for name, some in waits.items()}
+    assert spans == {"goid 99": [(0, 1)], own: [(0, 1), (2, None)]}
+    assert str(waits[Name(99, True)][0].by) == own
+    for wrong in ([[3, 0]], [[3, 0, "42"]], 7, [[3, 0, 42, 1]]):
+        assert SAID in files.fault(text_of([*GOOD, {"taken": wrong}]))
+        assert files.lines().owners == {}
+
+
+def test_one_that_is_not_is_not_used_and_that_is_said(files: Files) -> None:
+    for place, value, said in WRONG:
+        lines = list(GOOD)
+        lines[place] = value
+        fault = files.fault(text_of(lines))
+        assert said in fault, value
+        assert fault.isprintable(), value
+        assert said != SAID or fault.startswith(f"line {place + 1} "), fault
+    for data in NO_JSON:
+        assert SAID in files.fault(text_of(GOOD[:3]) + data + b"\n"), data[:20]
+    for beginning in (b"", text_of(GOOD)):
+        assert files.fault(beginning + b"\xff") == "it isn't text"
+    said = files.lines().why_unused(str(files.recording))
+    assert said.startswith(
+        "x.where isn't used: it isn't text. The recording works without it; docs/reference/RECORDING.md"
+    ), said
+
+
+def test_what_is_no_file_is_not_waited_for(files: Files) -> None:
+    begun = time.monotonic()
+    os.mkfifo(files.file)
+    assert files.lines().fault == "it isn't a regular file"
+    files.file.unlink()
+    files.file.symlink_to("/dev/zero")
+    assert files.lines().fault == "it isn't a regular file"
+    files.file.unlink()
+    files.file.mkdir()
+    assert files.lines().fault == "it isn't a regular file"
+    files.file.rmdir()
+    files.file.symlink_to(files.file)
+    assert "symbolic link" in files.lines().fault
+    files.file.unlink()
+    with open(files.file, "wb") as sparse:
+        sparse.truncate(MOST_BYTES + 1)
+    assert files.lines().fault == "it is larger than 64 MB"
+    assert time.monotonic() - begun < 5
+
+
+def test_a_recording_that_can_be_read_once_alone_is_refused(files: Files) -> None:
+    pipe = files.recording.with_name("pipe")
+    os.mkfifo(pipe)
+    for path in (pipe, "/dev/zero"):
+        with pytest.raises(NotARecordingError, match="isn't a regular file: nrdb reads a recording twice"):
+            Recording.read(str(path))
+    for path in ("a\0b", "\ud800"):
+        with pytest.raises(OSError, match="no file can have that name"):
+            Recording.read(path)
+
+
+def test_a_file_is_written_whole_or_not_at_all(folder: Path) -> None:
+    path, link = folder / "a", folder / "b"
+    path.write_text("before")
+    link.symlink_to(path)
+    with pytest.raises(KeyboardInterrupt), whole(path) as file:
+        file.write("after")
+        raise KeyboardInterrupt
+    assert (path.read_text(), sorted(os.listdir(folder))) == ("before", ["a", "b"])
+    written_whole(link, b"after")
+    assert (path.read_text(), link.is_symlink(), len(os.listdir(folder))) == ("after", True, 2)
+    for name in ("nowhere/x", "", "a/x", "x" * 300, "a\0b"):
+        with pytest.raises(OSError) as failed:
+            written_whole(folder / name if name else folder, b"")
+        assert failed.value.strerror and failed.value.filename
+    assert sorted(os.listdir(folder)) == ["a", "b"]
+
+
+def test_what_is_open_is_written_to_as_it_is() -> None:
+    with tempfile.TemporaryFile() as file:
+        written_whole(Path(f"/dev/fd/{file.fileno()}"), b"after")
+        assert file.read() == b"after"
+    reading, writing = os.pipe()
+    written_whole(Path(f"/dev/fd/{writing}"), b"after")
+    assert os.read(reading, 9) == b"after"
+    os.close(reading)
+    os.close(writing)
+
+
+def test_the_recording_is_never_written_over(folder: Path) -> None:
+    path, other = folder / "a.jsonl", folder / "b.jsonl"
+    path.write_text("steps")
+    path.with_suffix(".where").write_text("lines")
+    other.symlink_to(path)
+    for name in (path, other, path.with_suffix(".where")):
+        with pytest.raises(UsageError, match="is the recording itself, or its NAME.where"):
+            written(str(name), str(path), b"page")
+    written(str(folder / "c"), str(path), b"page")
+    assert (path.read_text(), (folder / "c").read_text()) == ("steps", "page")
 
 
 def text_of(lines: list[Any]) -> bytes:

@@ -1,8 +1,7 @@
 """Ctrl-C is pressed once or twice, or netrev is killed, at every point of all communication. nrdb then continues with
 its normal output or ends, and never prints anything else."""
 
-import unittest
-from typing import Optional
+import pytest
 
 from netrev.connection.netrev import NetrevEndedError
 from netrev.connection.scout import Scout
@@ -60,35 +59,43 @@ class EveryPoint(Disturbances[Modelled]):
     def opened(self, weather: Weather[Modelled]) -> Modelled:
         return Modelled(MODEL, weather.interrupts, weather.happens)
 
-    def test_what_is_told_is_right_and_so_is_what_comes_then(self) -> None:
-        given_up = self.check(COMMANDS, (once, twice, twice_apart, killed, killed_twice))
-        self.assertGreater(given_up, 100)
 
-    def test_a_scout_that_is_gone_is_begun_anew(self) -> None:
-        def found(weather: Weather[Modelled]) -> list[list[str]]:
-            scout = Scout(lambda: self.opened(weather))
-            return [scout.values(position, ["lock 0", "gor 0"]) for position in (TEXT.length, 0, 3)]
-
-        weather: Weather[Modelled] = Weather(Interrupts())
-        right = found(weather)
-        self.assertGreater(weather.count, 5)
-        for point in range(weather.count):
-            disturbed: Weather[Modelled] = Weather(Interrupts())
-            disturbed.left, disturbed.action = point, killed
-            self.assertEqual(found(disturbed), right, point)
+@pytest.fixture
+def disturbances(monkeypatch: pytest.MonkeyPatch) -> EveryPoint:
+    return EveryPoint(monkeypatch)
 
 
-class Unread(unittest.TestCase):
-    def test_what_nobody_read_is_not_the_reply_to_another_line(self) -> None:
-        points = 0
+def test_what_is_told_is_right_and_so_is_what_comes_then(disturbances: EveryPoint) -> None:
+    given_up = disturbances.check(COMMANDS, (once, twice, twice_apart, killed, killed_twice))
+    assert given_up > 100
 
-        def fails(_netrev: Modelled) -> None:
-            nonlocal points
-            points += 1
-            if points == 3:  # before the second of the replies
-                raise MemoryError
 
-        netrev = Modelled(MODEL, Interrupts(), fails)
-        self.assertRaises(MemoryError, netrev.ask_all, ["info position", "print clock", "print timers"])
-        self.assertRaises(NetrevEndedError, netrev.ask, "info breakpoints")
-        self.assertTrue(netrev.has_ended)
+def test_a_scout_that_is_gone_is_begun_anew(disturbances: EveryPoint) -> None:
+    def found(weather: Weather[Modelled]) -> list[list[str]]:
+        scout = Scout(lambda: disturbances.opened(weather))
+        return [scout.values(position, ["lock 0", "gor 0"]) for position in (TEXT.length, 0, 3)]
+
+    weather: Weather[Modelled] = Weather(Interrupts())
+    right = found(weather)
+    assert weather.count > 5
+    for point in range(weather.count):
+        disturbed: Weather[Modelled] = Weather(Interrupts())
+        disturbed.left, disturbed.action = point, killed
+        assert found(disturbed) == right, point
+
+
+def test_what_nobody_read_is_not_the_reply_to_another_line() -> None:
+    points = 0
+
+    def fails(_netrev: Modelled) -> None:
+        nonlocal points
+        points += 1
+        if points == 3:  # before the second of the replies
+            raise MemoryError
+
+    netrev = Modelled(MODEL, Interrupts(), fails)
+    with pytest.raises(MemoryError):
+        netrev.ask_all(["info position", "print clock", "print timers"])
+    with pytest.raises(NetrevEndedError):
+        netrev.ask("info breakpoints")
+    assert netrev.has_ended

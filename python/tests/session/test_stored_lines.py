@@ -13,7 +13,6 @@ import sys
 import tempfile
 from collections.abc import Iterator
 from pathlib import Path
-from unittest import mock
 
 import pytest
 
@@ -132,7 +131,9 @@ def texts_of(name: str) -> list[str]:
         for path in source.iterdir():
             Path(folder, path.name).symlink_to(path)
         os.chdir(folder)
-        with mock.patch.dict(os.environ, {"COLUMNS": "120", "LINES": "50"}):
+        with pytest.MonkeyPatch.context() as patch:
+            patch.setenv("COLUMNS", "120")
+            patch.setenv("LINES", "50")
             found = [text.replace(folder, "FOLDER") for text in answers(name)]
     return ["\n".join(found[first : first + TOGETHER]) for first in range(0, len(found), TOGETHER)]
 

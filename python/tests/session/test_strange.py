@@ -10,14 +10,15 @@ import sys
 import tempfile
 import threading
 import unicodedata
-import unittest
 from pathlib import Path
 from typing import Callable, Iterator
-from unittest import mock
+
+import pytest
 
 from netrev.messages.session import NO_REPLY_YET
 from netrev.text.plain import plain
 from nrdb.cli import main
+from netrev.connection.output import TextPrinter
 
 ROOT = Path(__file__).resolve().parents[3]
 FIRST = ROOT / "examples/first.jsonl"
@@ -101,154 +102,148 @@ def behind_position(answer: bytes) -> Answers:
 PACKAGES = Path(__file__).resolve().parents[2]
 
 
-class Strangers(unittest.TestCase):
-    ANSWERS = {
-        "other words": b"hello\n",
-        "nothing": b"\n",
-        "a page": b"HTTP/1.0 400 Bad Request\r\n\r\n",
-        "a position alone": b"at 999999\n",
-        "a position that isn't there": b"at 9999999999999999999999\n",
-        "marks that never stood": b"at 5 by 1 2 3\n",
-        "digits without end": b"at " + b"9" * 5000 + b"\n",
-        "more marks than stand": b"marks 99\n" + b"1 break x\n" * 99,
-        "marks by the million": b"marks 99999999\n",
-        "marks of other shape": b"marks 1\nnonsense\n",
-        "bytes that are no text": b"at \xff\xfe\x80\n",
-        "a value of something else": b"rg 7 = nil\n",
-        "a value that isn't one": b"lock 0 = </script><img src=x>\n",
-        "a fault": b"fault 999 whatever\n",
-    }
-
-    def test_each_is_told_in_a_sentence(self) -> None:
-        for name, answer in self.ANSWERS.items():
-            for asked in (ASKED, *((line,) for line in ASKED)):
-                with self.subTest(name, asked=asked):
-                    status, said = joined(behind_position(answer), asked=asked)
-                    self.assertIn(status, (0, 3))
-                    self.assertNotIn("Traceback", said)
-                    self.assertEqual(unseen(said), [])
-
-    def test_who_isnt_netrev_is_called_so(self) -> None:
-        for answer in (b"220 mail.example ESMTP\n", b"\n", b"at 5\n", b"at 5 of 10 sideways\n", b"x" * 70 + b"\n"):
-            status, said = joined(lambda _: answer)
-            shown = answer.decode().rstrip()
-            shown = shown if len(shown) <= 60 else f"{shown[:58]}.."
-            self.assertEqual(
-                (status, said), (3, f'| the other program isn\'t netrev: it answered "info position" with "{shown}"\n')
-            )
-
-    def test_a_reply_without_an_end_is_cut(self) -> None:
-        with mock.patch("netrev.connection.netrev.LONGEST", 100_000):
-            status, said = joined(lambda _: b"a" * 1_000_000)
-        right = f'| the other program isn\'t netrev: it answered "info position" with "{"a" * 58}.."\n'
-        self.assertEqual((status, said), (3, right))
-
-    def test_a_front_in_use_is_waited_for_aloud(self) -> None:
-        there = threading.Event()
-
-        def late(line: bytes) -> bytes:
-            there.wait(10)
-            return POSITION if line == b"info position" else b"fault 201 unknown command\n"
-
-        def told(text: str) -> None:
-            if text == NO_REPLY_YET:
-                there.set()
-            before(text)
-
-        with mock.patch("netrev.connection.netrev.SILENCE", 0.05), mock.patch(
-            "netrev.connection.output.TextPrinter.note", autospec=True
-        ) as note:
-            before = mock.Mock()
-            note.side_effect = lambda _, text: told(text)
-            status, _ = joined(late, asked=())
-        self.assertEqual((status, before.mock_calls[0]), (0, mock.call(NO_REPLY_YET)))
-        self.assertTrue(there.is_set())
+ANSWERS = {
+    "other words": b"hello\n",
+    "nothing": b"\n",
+    "a page": b"HTTP/1.0 400 Bad Request\r\n\r\n",
+    "a position alone": b"at 999999\n",
+    "a position that isn't there": b"at 9999999999999999999999\n",
+    "marks that never stood": b"at 5 by 1 2 3\n",
+    "digits without end": b"at " + b"9" * 5000 + b"\n",
+    "more marks than stand": b"marks 99\n" + b"1 break x\n" * 99,
+    "marks by the million": b"marks 99999999\n",
+    "marks of other shape": b"marks 1\nnonsense\n",
+    "bytes that are no text": b"at \xff\xfe\x80\n",
+    "a value of something else": b"rg 7 = nil\n",
+    "a value that isn't one": b"lock 0 = </script><img src=x>\n",
+    "a fault": b"fault 999 whatever\n",
+}
 
 
-class WhoSays(unittest.TestCase):
-    """nrdb gives no input to the program that checks a file. The program may be something other than
-    netrev, and may read its input."""
-
-    def test_it_isnt_waited_for(self) -> None:
-        with tempfile.TemporaryDirectory() as folder:
-            program = Path(folder, "netrev")
-            program.write_text("#!/bin/sh\ncat > /dev/null\necho a fault\nexit 1\n")
-            program.chmod(0o755)
-            asks = f"from nrdb.cli import fault_of; print(fault_of({str(program)!r}, 'x'))"
-            words = [sys.executable, "-c", asks]
-            with subprocess.Popen(words, stdin=subprocess.PIPE, stdout=subprocess.PIPE, cwd=PACKAGES) as asked:
-                try:
-                    self.assertEqual(asked.wait(timeout=60), 0)
-                finally:
-                    asked.kill()
-                assert asked.stdout
-                self.assertEqual(asked.stdout.read(), b"a fault\n")
+def test_each_stranger_is_told_in_a_sentence() -> None:
+    for name, answer in ANSWERS.items():
+        for asked in (ASKED, *((line,) for line in ASKED)):
+            status, said = joined(behind_position(answer), asked=asked)
+            assert status in (0, 3), (name, asked)
+            assert "Traceback" not in said, (name, asked)
+            assert unseen(said) == [], (name, asked)
 
 
-class NoRecordings(unittest.TestCase):
-    """Files that netrev has never read, and that aren't recordings, in a session that nrdb joined."""
+def test_who_isnt_netrev_is_called_so() -> None:
+    for answer in (b"220 mail.example ESMTP\n", b"\n", b"at 5\n", b"at 5 of 10 sideways\n", b"x" * 70 + b"\n"):
+        status, said = joined(lambda _: answer)
+        shown = answer.decode().rstrip()
+        shown = shown if len(shown) <= 60 else f"{shown[:58]}.."
+        assert (status, said) == (3, f'| the other program isn\'t netrev: it answered "info position" with "{shown}"\n')
 
-    LINES = (b"garbage", b"5", b"[]", b'{"a":1}', b'[["rwlock",0,0,"r"]]', b"\xff\xfe", b"[1,2]", b"null", b"[" * 9000)
 
-    def test_each_is_told_in_a_sentence(self) -> None:
-        header = b'{"netrev":1,"gor":4,"sock":2,"desc":2,"buf":16}'
-        asked = tuple(word for line in ASKED for word in ("-ex", line))
+def test_a_reply_without_an_end_is_cut(monkeypatch: pytest.MonkeyPatch) -> None:
+    with monkeypatch.context() as patch:
+        patch.setattr("netrev.connection.netrev.LONGEST", 100_000)
+        status, said = joined(lambda _: b"a" * 1_000_000)
+    right = f'| the other program isn\'t netrev: it answered "info position" with "{"a" * 58}.."\n'
+    assert (status, said) == (3, right)
+
+
+def test_a_front_in_use_is_waited_for_aloud(monkeypatch: pytest.MonkeyPatch) -> None:
+    there = threading.Event()
+
+    def late(line: bytes) -> bytes:
+        there.wait(10)
+        return POSITION if line == b"info position" else b"fault 201 unknown command\n"
+
+    notes: list[str] = []
+
+    def note(_: TextPrinter, text: str) -> None:
+        if text == NO_REPLY_YET:
+            there.set()
+        notes.append(text)
+
+    monkeypatch.setattr(TextPrinter, "note", note)
+    monkeypatch.setattr("netrev.connection.netrev.SILENCE", 0.05)
+    status, _ = joined(late, asked=())
+    assert (status, notes[0]) == (0, NO_REPLY_YET)
+    assert there.is_set()
+
+
+def test_it_isnt_waited_for(folder: Path) -> None:
+    program = folder / "netrev"
+    program.write_text("#!/bin/sh\ncat > /dev/null\necho a fault\nexit 1\n")
+    program.chmod(0o755)
+    asks = f"from nrdb.cli import fault_of; print(fault_of({str(program)!r}, 'x'))"
+    words = [sys.executable, "-c", asks]
+    with subprocess.Popen(words, stdin=subprocess.PIPE, stdout=subprocess.PIPE, cwd=PACKAGES) as asked:
+        try:
+            assert asked.wait(timeout=60) == 0
+        finally:
+            asked.kill()
+        assert asked.stdout
+        assert asked.stdout.read() == b"a fault\n"
+
+
+LINES = (b"garbage", b"5", b"[]", b'{"a":1}', b'[["rwlock",0,0,"r"]]', b"\xff\xfe", b"[1,2]", b"null", b"[" * 9000)
+
+
+def test_each_file_that_is_no_recording_is_told_in_a_sentence(folder: Path) -> None:
+    header = b'{"netrev":1,"gor":4,"sock":2,"desc":2,"buf":16}'
+    asked = tuple(word for line in ASKED for word in ("-ex", line))
+    file = folder / "x.jsonl"
+    for line in LINES:
+        for text in (b"\n".join([header, *[line] * 10]), b"\n".join([line, *[b'["spawn"]'] * 10])):
+            file.write_bytes(text + b"\n")
+            with server(behind_position(b"at 5\n")) as address:
+                status, said = nrdb("--netrev", "/nowhere", "--join", address, file, "--batch", *asked)
+                if text.startswith(header):
+                    assert "the file isn't a recording: " in said.splitlines()[-1], text[:60]
+                    assert status == 3, text[:60]
+                assert unseen(said) == [], text[:60]
+
+
+def test_what_can_be_seen_stays() -> None:
+    for text in ("", "at 5 of 10 forward", 'sock 0: "äöü" | é 漢字 \\'):
+        assert plain(text) == text
+
+
+def test_all_else_is_written_out() -> None:
+    for text, shown in zip(
+        OBEYED,
+        (r"\x1b[2J", r"\x07", r"\r", r"\x7f", r"\x9b2J", r"\u202e", r"\u2066", r"\u2028", r"\u200b", r"\ufeff"),
+    ):
+        assert plain(f"a{text}b") == f"a{shown}b"
+    assert plain("\n\t\xa0\ud800\udc9b\U000e0041") == r"\n\t\xa0\ud800\x9b\U000e0041"
+
+
+def test_replies_and_values_of_a_server() -> None:
+    for text in OBEYED:
+        raw = text.encode()
+        for answer in (raw, b"at 5" + raw, b"lock 0 = " + raw, b"marks 1\n1 watch " + raw, b"fault 202 " + raw):
+            for form in ((), ("--json",)):
+                _, said = joined(behind_position(answer + b"\n"), *form, asked=("continue", "print lock 0"))
+                assert unseen(said) == [], (text, answer, form)
+                _, said = joined(lambda _: answer + b"\n", *form)
+                assert unseen(said) == [], (text, answer, form)
+
+
+def test_the_text_of_a_recording_that_a_server_has_another_of() -> None:
+    """In a joined session, netrev has never read the file."""
+    for text in OBEYED:
+        spelled = json.dumps(text)[1:-1]
+        steps = [f'["{spelled}",0]', f'["rwlock",0,0,"{spelled}"]', f'["tick",0,"{spelled}"]'] * 4
         with tempfile.TemporaryDirectory() as folder:
             file = Path(folder) / "x.jsonl"
-            for line in self.LINES:
-                for text in (b"\n".join([header, *[line] * 10]), b"\n".join([line, *[b'["spawn"]'] * 10])):
-                    file.write_bytes(text + b"\n")
-                    with self.subTest(text[:60]), server(behind_position(b"at 5\n")) as address:
-                        status, said = nrdb("--netrev", "/nowhere", "--join", address, file, "--batch", *asked)
-                        if text.startswith(header):
-                            self.assertIn("the file isn't a recording: ", said.splitlines()[-1])
-                            self.assertEqual(status, 3)
-                        self.assertEqual(unseen(said), [])
+            file.write_text("\n".join(['{"netrev":2}', *steps[:10]]) + "\n")
+            answers = behind_position(b"at 5\n")
+            with server(answers) as address:
+                asked = ("--batch", "-ex", "list", "-ex", "where", "-ex", "stepi")
+                _, said = nrdb("--netrev", "/nowhere", "--join", address, file, *asked)
+        assert unseen(said) == []
+        assert "next step 6" in said
 
 
-class Plain(unittest.TestCase):
-    def test_what_can_be_seen_stays(self) -> None:
-        for text in ("", "at 5 of 10 forward", 'sock 0: "äöü" | é 漢字 \\'):
-            self.assertEqual(plain(text), text)
-
-    def test_all_else_is_written_out(self) -> None:
-        for text, shown in zip(
-            OBEYED,
-            (r"\x1b[2J", r"\x07", r"\r", r"\x7f", r"\x9b2J", r"\u202e", r"\u2066", r"\u2028", r"\u200b", r"\ufeff"),
-        ):
-            self.assertEqual(plain(f"a{text}b"), f"a{shown}b")
-        self.assertEqual(plain("\n\t\xa0\ud800\udc9b\U000e0041"), r"\n\t\xa0\ud800\x9b\U000e0041")
-
-    def test_replies_and_values_of_a_server(self) -> None:
-        for text in OBEYED:
-            raw = text.encode()
-            for answer in (raw, b"at 5" + raw, b"lock 0 = " + raw, b"marks 1\n1 watch " + raw, b"fault 202 " + raw):
-                for form in ((), ("--json",)):
-                    with self.subTest(text=text, answer=answer, form=form):
-                        _, said = joined(behind_position(answer + b"\n"), *form, asked=("continue", "print lock 0"))
-                        self.assertEqual(unseen(said), [])
-                        _, said = joined(lambda _: answer + b"\n", *form)
-                        self.assertEqual(unseen(said), [])
-
-    def test_the_text_of_a_recording_that_a_server_has_another_of(self) -> None:
-        """In a joined session, netrev has never read the file."""
-        for text in OBEYED:
-            spelled = json.dumps(text)[1:-1]
-            steps = [f'["{spelled}",0]', f'["rwlock",0,0,"{spelled}"]', f'["tick",0,"{spelled}"]'] * 4
-            with tempfile.TemporaryDirectory() as folder:
-                file = Path(folder) / "x.jsonl"
-                file.write_text("\n".join(['{"netrev":2}', *steps[:10]]) + "\n")
-                answers = behind_position(b"at 5\n")
-                with server(answers) as address:
-                    asked = ("--batch", "-ex", "list", "-ex", "where", "-ex", "stepi")
-                    _, said = nrdb("--netrev", "/nowhere", "--join", address, file, *asked)
-            self.assertEqual(unseen(said), [])
-            self.assertIn("next step 6", said)
-
-    def test_words_of_the_command_line(self) -> None:
-        for text in OBEYED:
-            named: tuple[object, ...] = ("--netrev", text, FIRST)
-            for words in (("--join", text), (f"--{text}",), named, (f"no{text}", "--batch")):
-                status, said = nrdb(*words)
-                self.assertIn(status, (2, 3))
-                self.assertEqual(unseen(said), [])
+def test_words_of_the_command_line() -> None:
+    for text in OBEYED:
+        named: tuple[object, ...] = ("--netrev", text, FIRST)
+        for words in (("--join", text), (f"--{text}",), named, (f"no{text}", "--batch")):
+            status, said = nrdb(*words)
+            assert status in (2, 3)
+            assert unseen(said) == []

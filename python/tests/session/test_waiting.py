@@ -5,11 +5,11 @@ steps."""
 import io
 import json
 import random
-import unittest
 from collections import Counter
 from pathlib import Path
 from typing import Any, Iterator
-from unittest import mock
+
+import pytest
 
 from dev.fuzz.companion import visit
 from netrev.connection.output import JsonPrinter
@@ -21,7 +21,6 @@ from netrev.session.session import Session
 from netrev.system.interrupts import Interrupts
 from netrev.views.goroutines import goroutines_table
 from nrdb.prompt.answers import ANSWERS
-from tests.support.folders import folder_of
 from tests.support.modelled import Modelled, changes_at, changes_in, recording_at
 
 
@@ -41,9 +40,11 @@ def waiters(count: int, sockets: int = 1) -> str:
     return "\n".join([header, *steps]) + "\n"
 
 
-class Asked(unittest.TestCase):
-    def setUp(self) -> None:
-        self.folder = folder_of(self)
+class Waiting:
+    """Sessions over recordings in which goroutines wait."""
+
+    def __init__(self, folder: Path) -> None:
+        self.folder = folder
 
     def session(self, text: str, asked: Counter[str]) -> tuple[Session, io.StringIO]:
         """A session at the end of a recording, its output, and a count of the queries sent to netrev."""
@@ -65,31 +66,6 @@ class Asked(unittest.TestCase):
         session.run(f"goto {session.length}")
         return session, out
 
-    def test_a_number_that_is_used_again_has_gos_own_beside_it(self) -> None:
-        session, out = self.session(waiters(3), Counter())
-        assert session.recording
-        last = session.length
-        for owners, goid in (
-            ([[5, 0, 41]], 41),
-            ([[5, 0, 41], [5, last - 1, 42]], 42),
-            ([[5, 0, 41], [5, last, 42]], 41),
-        ):
-            session.recording.lines.owners.clear()
-            session.recording.lines.add_owners(owners)
-            session.run("info goroutines")
-            rows = {row["goroutine"]: row for row in json.loads(out.getvalue().splitlines()[-1])["rows"]}
-            self.assertEqual((rows[5]["goid"], "goid" in rows[4]), (goid, False))
-            texts = [row.text for row in goroutines_table(session.world()).rows]
-            self.assertIn(f"gor 5    (goid {goid}) queued 0 r ", "\n".join(texts))
-
-    def test_a_group_has_gos_own_numbers_of_those_that_are_used_again(self) -> None:
-        session, out = self.session(waiters(5), Counter())
-        assert session.recording
-        session.recording.lines.add_owners([[5, 0, 41], [6, 0, 43]])
-        session.run("info goroutines")
-        (group,) = [row for row in json.loads(out.getvalue().splitlines()[-1])["rows"] if "goroutines" in row]
-        self.assertEqual((group["goroutines"], group["goids"]), ([4, 5, 6, 7, 8], {"5": 41, "6": 43}))
-
     def asked(self, text: str, line: str) -> tuple[str, Counter[str]]:
         """The output of a line in a new session, and the lines that it sends to netrev."""
         asked: Counter[str] = Counter()
@@ -98,29 +74,11 @@ class Asked(unittest.TestCase):
         session.run(line)
         return out.getvalue(), asked
 
-    def test_a_lock_is_asked_for_once_however_many_wait(self) -> None:
-        asked: dict[int, Counter[str]] = {}
-        for count in (3, 60):
-            shown, asked_for_groups = self.asked(waiters(count), "info goroutines")
-            shown_all, asked[count] = self.asked(waiters(count), "info goroutines all")
-            self.assertEqual(asked_for_groups, asked[count])
-            self.assertIn(
-                f"place {count} of {count}, goroutine 0 has the lock since step {count + 5}", shown + shown_all
-            )
-            self.assertIn("relock 0 w", shown + shown_all)
-            is_group = f"queued for socket 0's read lock, which goroutine 0 has since step {count + 5}" in shown
-            self.assertEqual(is_group, count == 60)
-        few, many = (
-            {line: times for line, times in one.items() if not line.startswith("print gor ")} for one in asked.values()
-        )
-        self.assertEqual(few, many)
-        self.assertIn("dump rq 0", many)
-
     def searched(self, count: int, sockets: int, with_lines: bool) -> tuple[int, int, int]:
         """How much work `info goroutines` does with `count` waiters at each of `sockets` sockets. Returns three numbers:
         queries other than those for statuses, searches of the recording's text, and pieces of text that are searched.
         """
-        asked, begun = Counter[str](), mock.Mock()
+        asked, work = Counter[str](), Counter[str]()
         text = waiters(count, sockets)
         if with_lines:
             steps = text.count("\n") - 1
@@ -130,7 +88,7 @@ class Asked(unittest.TestCase):
             (self.folder / "recording.where").write_text("\n".join(map(json.dumps, lines)))
         session, out = self.session(text, asked)
         asked.clear()
-        searched, pieces = Recording.found_back, mock.Mock()
+        searched = Recording.found_back
 
         class Pieces:
             """A pattern that counts its searches."""
@@ -139,74 +97,125 @@ class Asked(unittest.TestCase):
                 self.spelled = spelled
 
             def finditer(self, *words: Any) -> Any:
-                pieces()
+                work["pieces"] += 1
                 return self.spelled.finditer(*words)
 
         def counted(recording: Recording, spelled: Any, until: int) -> Iterator[Any]:
-            begun()
+            work["searches"] += 1
             return searched(recording, Pieces(spelled), until)  # type: ignore[arg-type]
 
-        with mock.patch.object(Recording, "found_back", counted):
+        with pytest.MonkeyPatch.context() as patch:
+            patch.setattr(Recording, "found_back", counted)
             session.run("info goroutines")
         rows = json.loads(out.getvalue().splitlines()[-1])["rows"]
         told = [goroutine for row in rows for goroutine in row.get("goroutines", [row.get("goroutine")])]
-        self.assertEqual((len(told), len(set(told))), (count * sockets + 1, count * sockets + 1))
-        self.assertEqual({"at" in row for row in rows if "goroutine" in row}, {with_lines})
+        assert (len(told), len(set(told))) == (count * sockets + 1, count * sockets + 1)
+        assert {"at" in row for row in rows if "goroutine" in row} == {with_lines}
         questions = sum(times for line, times in asked.items() if not line.startswith("print gor "))
-        return questions, begun.call_count, pieces.call_count
-
-    def test_the_text_is_searched_once_however_many_wait_for_however_many_locks(self) -> None:
-        for with_lines in (False, True):
-            with self.subTest(with_lines=with_lines):
-                few, many = (self.searched(count, 4, with_lines) for count in (2, 12))
-                self.assertEqual(few[:2], many[:2])
-                self.assertLessEqual(many[2], few[2] + 2 * 3)  # a text of twice the length has one more piece
-                one, sixteen = (self.searched(3, sockets, with_lines) for sockets in (1, 16))
-                self.assertEqual((one[1], sixteen[1]), (1 + with_lines, 1 + with_lines))
-                self.assertLessEqual(sixteen[0] - one[0], 15 * 2)  # each socket's lock word, and its queue
+        return questions, work["searches"], work["pieces"]
 
 
-class Backwards(unittest.TestCase):
-    def worlds(self) -> Iterator[PositionValues]:
-        """Worlds at various positions of recordings, some of which are written with additional blanks or with
-        escapes."""
-        dice = random.Random("taken")
-        for number in range(60):
-            text = visit(f"taken-nrdb-{number}").recording
-            if number % 3 == 0:
-                text = text.replace(b",", b" ,\t").replace(b"\n", b"\n \n")
-            if number % 3 == 1:
-                text = text.replace(b'"rwlock"', b'"\\u0072wlock"')
-            recording = Recording(text)
-            for position in {recording.length, *(dice.randint(0, recording.length) for _ in range(6))}:
-                yield PositionValues(Modelled.__new__(Modelled), recording, position)
+@pytest.fixture
+def waiting(folder: Path) -> Waiting:
+    return Waiting(folder)
 
-    def test_takings_are_those_of_all_steps(self) -> None:
-        met: Counter[bool] = Counter()
-        for world in self.worlds():
-            changes = changes_in(world.recording.data)
-            right = {}
-            for socket in range(4):
-                held = holders_of(world.recording, changes, socket, world.position)
-                for side in "rw":
-                    found = [one.step for one in held if one.side == [side]][-1:]
-                    # (a `decref` by a goroutine that only has a lock counts as releasing the lock's reference)
-                    if found:
-                        right[socket, side] = found[0]
-                    met[bool(found)] += 1
-            self.assertEqual(takings(world.recording, world.position, list(right)), right, world.position)
-            for lock in right:
-                self.assertEqual(takings(world.recording, world.position, [lock]), {lock: right[lock]})
-        self.assertGreater(min(met.values()), 50, met)
 
-    def test_last_steps_are_those_of_all_steps(self) -> None:
-        met: Counter[bool] = Counter()
-        for world in self.worlds():
-            right = dict.fromkeys(range(5), 0)
-            for number in range(1, world.position + 1):
-                step = world.recording.step(number)
-                if step.kind in OF_A_GOROUTINE and step.argument("g") in right:
-                    right[step.argument("g")] = number
-            self.assertEqual(last_steps(world.recording, world.position, range(5)), right)
-            met.update(number > 0 for number in right.values())
-        self.assertGreater(min(met.values()), 50, met)
+def test_a_number_that_is_used_again_has_gos_own_beside_it(waiting: Waiting) -> None:
+    session, out = waiting.session(waiters(3), Counter())
+    assert session.recording
+    last = session.length
+    for owners, goid in (
+        ([[5, 0, 41]], 41),
+        ([[5, 0, 41], [5, last - 1, 42]], 42),
+        ([[5, 0, 41], [5, last, 42]], 41),
+    ):
+        session.recording.lines.owners.clear()
+        session.recording.lines.add_owners(owners)
+        session.run("info goroutines")
+        rows = {row["goroutine"]: row for row in json.loads(out.getvalue().splitlines()[-1])["rows"]}
+        assert (rows[5]["goid"], "goid" in rows[4]) == (goid, False)
+        texts = [row.text for row in goroutines_table(session.world()).rows]
+        assert f"gor 5    (goid {goid}) queued 0 r " in "\n".join(texts)
+
+
+def test_a_group_has_gos_own_numbers_of_those_that_are_used_again(waiting: Waiting) -> None:
+    session, out = waiting.session(waiters(5), Counter())
+    assert session.recording
+    session.recording.lines.add_owners([[5, 0, 41], [6, 0, 43]])
+    session.run("info goroutines")
+    (group,) = [row for row in json.loads(out.getvalue().splitlines()[-1])["rows"] if "goroutines" in row]
+    assert (group["goroutines"], group["goids"]) == ([4, 5, 6, 7, 8], {"5": 41, "6": 43})
+
+
+def test_a_lock_is_asked_for_once_however_many_wait(waiting: Waiting) -> None:
+    asked: dict[int, Counter[str]] = {}
+    for count in (3, 60):
+        shown, asked_for_groups = waiting.asked(waiters(count), "info goroutines")
+        shown_all, asked[count] = waiting.asked(waiters(count), "info goroutines all")
+        assert asked_for_groups == asked[count]
+        assert f"place {count} of {count}, goroutine 0 has the lock since step {count + 5}" in shown + shown_all
+        assert "relock 0 w" in shown + shown_all
+        is_group = f"queued for socket 0's read lock, which goroutine 0 has since step {count + 5}" in shown
+        assert is_group == (count == 60)
+    few, many = (
+        {line: times for line, times in one.items() if not line.startswith("print gor ")} for one in asked.values()
+    )
+    assert few == many
+    assert "dump rq 0" in many
+
+
+@pytest.mark.parametrize("with_lines", [False, True])
+def test_the_text_is_searched_once_however_many_wait_for_however_many_locks(waiting: Waiting, with_lines: bool) -> None:
+    few, many = (waiting.searched(count, 4, with_lines) for count in (2, 12))
+    assert few[:2] == many[:2]
+    assert many[2] <= few[2] + 2 * 3  # a text of twice the length has one more piece
+    one, sixteen = (waiting.searched(3, sockets, with_lines) for sockets in (1, 16))
+    assert (one[1], sixteen[1]) == (1 + with_lines, 1 + with_lines)
+    assert sixteen[0] - one[0] <= 15 * 2  # each socket's lock word, and its queue
+
+
+def worlds() -> Iterator[PositionValues]:
+    """Worlds at various positions of recordings, some of which are written with additional blanks or with
+    escapes."""
+    dice = random.Random("taken")
+    for number in range(60):
+        text = visit(f"taken-nrdb-{number}").recording
+        if number % 3 == 0:
+            text = text.replace(b",", b" ,\t").replace(b"\n", b"\n \n")
+        if number % 3 == 1:
+            text = text.replace(b'"rwlock"', b'"\\u0072wlock"')
+        recording = Recording(text)
+        for position in {recording.length, *(dice.randint(0, recording.length) for _ in range(6))}:
+            yield PositionValues(Modelled.__new__(Modelled), recording, position)
+
+
+def test_takings_are_those_of_all_steps() -> None:
+    met: Counter[bool] = Counter()
+    for world in worlds():
+        changes = changes_in(world.recording.data)
+        right = {}
+        for socket in range(4):
+            held = holders_of(world.recording, changes, socket, world.position)
+            for side in "rw":
+                found = [one.step for one in held if one.side == [side]][-1:]
+                # (a `decref` by a goroutine that only has a lock counts as releasing the lock's reference)
+                if found:
+                    right[socket, side] = found[0]
+                met[bool(found)] += 1
+        assert takings(world.recording, world.position, list(right)) == right, world.position
+        for lock in right:
+            assert takings(world.recording, world.position, [lock]) == {lock: right[lock]}
+    assert min(met.values()) > 50, met
+
+
+def test_last_steps_are_those_of_all_steps() -> None:
+    met: Counter[bool] = Counter()
+    for world in worlds():
+        right = dict.fromkeys(range(5), 0)
+        for number in range(1, world.position + 1):
+            step = world.recording.step(number)
+            if step.kind in OF_A_GOROUTINE and step.argument("g") in right:
+                right[step.argument("g")] = number
+        assert last_steps(world.recording, world.position, range(5)) == right
+        met.update(number > 0 for number in right.values())
+    assert min(met.values()) > 50, met

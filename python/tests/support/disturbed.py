@@ -4,11 +4,10 @@ must be the same as without the event, or a part of that output. `tests.session.
 
 import io
 import json
-import unittest
-from contextlib import ExitStack
 from pathlib import Path
 from typing import Any, Callable, Generic, Iterator, NamedTuple, Optional, Sequence, TypeVar
-from unittest import mock
+
+import pytest
 
 from netrev.connection.netrev import Netrev, NetrevEndedError
 from netrev.connection.output import JsonPrinter
@@ -86,14 +85,12 @@ class Played(NamedTuple):
         self.session.looks().drop()
 
 
-class Disturbances(unittest.TestCase, Generic[Of]):
+class Disturbances(Generic[Of]):
     """Makes batches and the journal small, so that a session has many points."""
 
-    def setUp(self) -> None:
-        with ExitStack() as stack:
-            for name, size in SMALL:
-                stack.enter_context(mock.patch(f"netrev.connection.{name}", size))
-            self.addCleanup(stack.pop_all().close)
+    def __init__(self, monkeypatch: pytest.MonkeyPatch) -> None:
+        for name, size in SMALL:
+            monkeypatch.setattr(f"netrev.connection.{name}", size)
 
     def opened(self, weather: Weather[Of]) -> Of:
         """A netrev that runs on the example, disturbed by `weather`."""
@@ -165,13 +162,14 @@ class Disturbances(unittest.TestCase, Generic[Of]):
             count, right = self.points(command)
             for action in actions:
                 for point, played, told, goes_on in self.disturbed(command, action, count):
-                    with self.subTest(f"{command}: {action.__name__} at {point}"):
-                        told = [event for event in told if event["event"] != "note" or event in right]
-                        self.assertEqual(told, right[: len(told)])
-                        if goes_on:
-                            position = played.session.stands().position
-                            self.assertEqual(played.run(*PROBES), told_then[position])
-                        else:
-                            given_up += 1
-                            self.assertRaises((SessionAbandonedError, NetrevEndedError), played.run, "info position")
+                    place = f"{command}: {action.__name__} at {point}"
+                    told = [event for event in told if event["event"] != "note" or event in right]
+                    assert told == right[: len(told)], place
+                    if goes_on:
+                        position = played.session.stands().position
+                        assert played.run(*PROBES) == told_then[position], place
+                    else:
+                        given_up += 1
+                        with pytest.raises((SessionAbandonedError, NetrevEndedError)):
+                            played.run("info position")
         return given_up

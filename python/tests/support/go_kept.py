@@ -5,6 +5,9 @@ import os
 import pathlib
 import shutil
 import subprocess
+from contextlib import ExitStack
+
+import pytest
 
 from netrev_go.go_command.running import logs_in
 from netrev_go.log.logfile import read_log
@@ -84,80 +87,89 @@ LOCKS = program(
 MANY = program("\tfor i := 0; i < 5000; i++ {\n\t\ta.SetDeadline(time.Now().Add(time.Hour))\n\t}", "time")
 
 
-class Kept(Tool):
-    """Runs that could be lost because of a name, a folder, or another program."""
+@pytest.fixture
+def tool(folder: pathlib.Path, cleanups: ExitStack) -> Tool:
+    return Tool(folder, cleanups)
 
-    def test_a_program_that_becomes_another_one_is_recorded_on(self) -> None:
-        self.written(BECOMES)
-        status, said = self.called("-o", "x", "run", "main.go")
-        self.assertEqual(status, 0, said)
-        self.recorded(said, "x")
-        self.recorded(said, "x-2")
-        self.assertNotIn("nothing is recorded", said)
 
-    def test_a_log_that_cannot_be_made_changes_nothing_of_the_program(self) -> None:
-        self.written(ENDS)
-        self.assertEqual(self.called("build", "-o", "prog", "main.go")[0], 0)
-        for folder in ("nowhere", "main.go"):
-            settings = self.environment(NETREV_LOG=f"{folder}/log")
-            ended = subprocess.run(["./prog"], cwd=self.folder, env=settings, capture_output=True, check=True)
-            self.assertEqual((ended.stdout, ended.stderr), (b"", b""))
+def mounted(tool: Tool, size: str) -> pathlib.Path:
+    """A mounted file system of this size."""
+    small = tool.folder / "small"
+    small.mkdir()
+    if os.geteuid() or os.system(f"mount -t tmpfs -o size={size} none {small} 2>/dev/null"):
+        pytest.skip("only root can mount a small file system")
+    tool.cleanups.callback(os.system, f"umount {small}")
+    return small
 
-    def test_no_program_that_it_starts_has_the_log_open(self) -> None:
-        self.written(INHERITS)
-        _, said = self.called("run", "main.go")
-        self.recorded(said)
-        self.assertIn("/proc/", said)
-        self.assertNotIn("netrev-go-", said)
 
-    def test_a_status_of_gos_is_told(self) -> None:
-        self.written(ENDS.replace("_, _ = a, b", "_, _ = a, b\n\tpanic(1)"))
-        status, said = self.called("run", "main.go")
-        self.assertEqual(status, 1, said)
-        self.recorded(said)
-        self.assertIn("recording.jsonl -ex continue -ex 'info errors'", said)
-        self.assertNotIn("--explore", said)
+def test_a_program_that_becomes_another_one_is_recorded_on(tool: Tool) -> None:
+    tool.written(BECOMES)
+    status, said = tool.called("-o", "x", "run", "main.go")
+    assert status == 0, said
+    tool.recorded(said, "x")
+    tool.recorded(said, "x-2")
+    assert "nothing is recorded" not in said
 
-    def test_the_log_has_just_the_mutexes_that_are_locked_in_the_end(self) -> None:
-        self.written(LOCKS)
-        self.assertEqual(self.called("build", "-o", "prog", "main.go")[0], 0)
-        for turn in range(3):
-            settings = self.environment(NETREV_LOG=str(self.folder / f"log-{turn}"))
-            run = subprocess.run(["./prog"], cwd=self.folder, env=settings, capture_output=True, text=True, check=True)
-            (log,) = (path for path in self.folder.glob(f"log-{turn}.*") if ".program." not in path.name)
-            self.assertEqual(len(list(self.folder.glob(f"log-{turn}.program.*"))), 1)
-            mutex, reading, writing = map(int, run.stdout.split())
-            held = {(one.address, one.is_reader) for one in read_log(log).holders or ()}
-            self.assertEqual(held, {(mutex, False), (reading, True), (writing, False)})
 
-    def mounted(self, size: str) -> pathlib.Path:
-        """A mounted file system of this size."""
-        small = self.folder / "small"
-        small.mkdir()
-        if os.geteuid() or os.system(f"mount -t tmpfs -o size={size} none {small} 2>/dev/null"):
-            self.skipTest("only root can mount a small file system")
-        self.addCleanup(os.system, f"umount {small}")
-        return small
+def test_a_log_that_cannot_be_made_changes_nothing_of_the_program(tool: Tool) -> None:
+    tool.written(ENDS)
+    assert tool.called("build", "-o", "prog", "main.go")[0] == 0
+    for folder in ("nowhere", "main.go"):
+        settings = tool.environment(NETREV_LOG=f"{folder}/log")
+        ended = subprocess.run(["./prog"], cwd=tool.folder, env=settings, capture_output=True, check=True)
+        assert (ended.stdout, ended.stderr) == (b"", b"")
 
-    def test_a_log_without_room_ends_and_the_program_goes_on(self) -> None:
-        self.written(MANY.replace("5000", "100000"))
-        self.assertEqual(self.called("build", "-o", "prog", "main.go")[0], 0)
-        small = self.mounted("10m")
-        settings = self.environment(NETREV_LOG=f"{small}/log")
-        ended = subprocess.run(["./prog"], cwd=self.folder, env=settings, capture_output=True, check=True)
-        self.assertEqual((ended.stdout, ended.stderr), (b"", b""))
-        (log,) = logs_in(small)
-        read = read_log(log)
-        self.assertGreater(len(read.points), 30_000)
-        self.assertEqual(read.notes[0], "the log ran out of space and ends before the program did")
-        self.assertEqual(list(small.glob("log.program.*")), [])
 
-    def test_a_full_disk_keeps_the_logs(self) -> None:
-        self.mounted("128k")
-        self.written(MANY)
-        status, said = self.called("-o", "small/x", "--keep", "--strict", "run", "main.go")
-        self.assertEqual(status, 5, said)
-        self.assertIn("netrev-go: small/x.jsonl: No space left on device", said)
-        logs = said.rpartition("convert ")[2].partition("`")[0]
-        self.addCleanup(shutil.rmtree, os.path.dirname(logs))
-        self.assertEqual(self.called("-o", "again", "convert", logs)[0], 0)
+def test_no_program_that_it_starts_has_the_log_open(tool: Tool) -> None:
+    tool.written(INHERITS)
+    _, said = tool.called("run", "main.go")
+    tool.recorded(said)
+    assert "/proc/" in said
+    assert "netrev-go-" not in said
+
+
+def test_a_status_of_gos_is_told(tool: Tool) -> None:
+    tool.written(ENDS.replace("_, _ = a, b", "_, _ = a, b\n\tpanic(1)"))
+    status, said = tool.called("run", "main.go")
+    assert status == 1, said
+    tool.recorded(said)
+    assert "recording.jsonl -ex continue -ex 'info errors'" in said
+    assert "--explore" not in said
+
+
+def test_the_log_has_just_the_mutexes_that_are_locked_in_the_end(tool: Tool) -> None:
+    tool.written(LOCKS)
+    assert tool.called("build", "-o", "prog", "main.go")[0] == 0
+    for turn in range(3):
+        settings = tool.environment(NETREV_LOG=str(tool.folder / f"log-{turn}"))
+        run = subprocess.run(["./prog"], cwd=tool.folder, env=settings, capture_output=True, text=True, check=True)
+        (log,) = (path for path in tool.folder.glob(f"log-{turn}.*") if ".program." not in path.name)
+        assert len(list(tool.folder.glob(f"log-{turn}.program.*"))) == 1
+        mutex, reading, writing = map(int, run.stdout.split())
+        held = {(one.address, one.is_reader) for one in read_log(log).holders or ()}
+        assert held == {(mutex, False), (reading, True), (writing, False)}
+
+
+def test_a_log_without_room_ends_and_the_program_goes_on(tool: Tool) -> None:
+    tool.written(MANY.replace("5000", "100000"))
+    assert tool.called("build", "-o", "prog", "main.go")[0] == 0
+    small = mounted(tool, "10m")
+    settings = tool.environment(NETREV_LOG=f"{small}/log")
+    ended = subprocess.run(["./prog"], cwd=tool.folder, env=settings, capture_output=True, check=True)
+    assert (ended.stdout, ended.stderr) == (b"", b"")
+    (log,) = logs_in(small)
+    read = read_log(log)
+    assert len(read.points) > 30_000
+    assert read.notes[0] == "the log ran out of space and ends before the program did"
+    assert list(small.glob("log.program.*")) == []
+
+
+def test_a_full_disk_keeps_the_logs(tool: Tool) -> None:
+    mounted(tool, "128k")
+    tool.written(MANY)
+    status, said = tool.called("-o", "small/x", "--keep", "--strict", "run", "main.go")
+    assert status == 5, said
+    assert "netrev-go: small/x.jsonl: No space left on device" in said
+    logs = said.rpartition("convert ")[2].partition("`")[0]
+    tool.cleanups.callback(shutil.rmtree, os.path.dirname(logs))
+    assert tool.called("-o", "again", "convert", logs)[0] == 0

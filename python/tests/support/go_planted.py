@@ -6,9 +6,9 @@ import os
 import pathlib
 import shutil
 import subprocess
-import tempfile
-import unittest
 from typing import Iterator
+
+import pytest
 
 from dev.recorder.fetching import commands_of
 
@@ -95,25 +95,18 @@ PLANTED: dict[str, tuple[list[Change], str]] = {
 }
 
 
-class Planted(unittest.TestCase):
+class Planted:
     """A copy of Go 1.27 without the parts that no program needs."""
 
-    root: pathlib.Path
-    folder: pathlib.Path
-
-    @classmethod
-    def setUpClass(cls) -> None:
-        made = tempfile.TemporaryDirectory(prefix="netrev-planted-")
-        cls.addClassCleanup(made.cleanup)
-        cls.folder = pathlib.Path(made.name)
-        cls.root = cls.folder / "go"
+    def __init__(self, folder: pathlib.Path) -> None:
+        self.folder, self.root = folder, folder / "go"
         theirs = commands_of("1.27").parent
         without = shutil.ignore_patterns("testdata", "*_test.go", "cmd")
-        shutil.copytree(theirs / "src", cls.root / "src", ignore=without)
+        shutil.copytree(theirs / "src", self.root / "src", ignore=without)
         for path in theirs.iterdir():
             if path.name != "src":
-                (cls.root / path.name).symlink_to(path.resolve())
-        (cls.folder / "main.go").write_text(ENDS)
+                (self.root / path.name).symlink_to(path.resolve())
+        (self.folder / "main.go").write_text(ENDS)
 
     @contextlib.contextmanager
     def planted(self, changes: list[Change]) -> Iterator[None]:
@@ -123,7 +116,7 @@ class Planted(unittest.TestCase):
             for name, words in changes:
                 path = self.root / "src" / name
                 for old, new in words.items():
-                    self.assertIn(old, path.read_text())
+                    assert old in path.read_text()
                     path.write_text(path.read_text().replace(old, new))
             yield
         finally:
@@ -142,52 +135,59 @@ class Planted(unittest.TestCase):
         )  # fmt: skip
         return run.returncode, run.stdout
 
-    def test_the_copy_is_recorded_as_it_is(self) -> None:
-        status, said = self.called("doctor")
-        self.assertEqual(status, 0, said)
-        status, said = self.called("-o", "whole", "run", "main.go")
-        self.assertEqual(status, 0, said)
-        self.assertTrue((self.folder / "whole.jsonl").exists())
 
-    def test_each_planted_change_is_named_and_nothing_is_recorded(self) -> None:
-        for name, (changes, told) in PLANTED.items():
-            with self.subTest(name), self.planted(changes):
-                status, said = self.called("doctor")
-                self.assertEqual(status, 1, said)
-                self.assertIn(told, said)
-                status, said = self.called("-o", "planted", "run", "main.go")
-                self.assertEqual(status, 4, said)
-                self.assertIn("netrev-go: go1.27.3 can't be recorded ", said)
-                self.assertEqual(list(self.folder.glob("planted*")), [])
+@pytest.fixture(scope="module")
+def release(tmp_path_factory: pytest.TempPathFactory) -> Planted:
+    return Planted(tmp_path_factory.mktemp("planted"))
 
-    def test_what_can_be_done_without_is_left_out_and_named(self) -> None:
-        changes: list[Change] = [("internal/poll/sendfile_unix.go", {"sendFileChunk(": "sendFilePart("})]
-        file = "internal/poll/sendfile_unix.go"
-        without = (
-            f"without what SendFile writes: {file} sendFile: sendFileChunk(dst, src, ...) occurs there 0 times, not 1"
-        )
-        elsewhere = f"without the bytes that go there: {file} sendFilePart: syscall.Send..) occurs there too"
-        with self.planted(changes):
-            status, said = self.called("-o", "partly", "run", "main.go")
-            self.assertEqual(status, 0, said)
-            self.assertIn(without, said)
-            self.assertIn(elsewhere, said)
-            self.assertTrue((self.folder / "partly.jsonl").exists())
-            self.assertNotIn(without, self.called("-o", "partly", "run", "main.go")[1])
-            status, said = self.called("doctor")
-            self.assertEqual(status, 0, said)
-            self.assertIn(f"  {without}\n", said)
 
-    def test_without_the_objects_of_waits_all_else_is_recorded(self) -> None:
-        parks = "gopark(parkunlock_c, unsafe.Pointer(&root.lock), reason, traceBlockSync, 3+skipframes)"
-        changes: list[Change] = [
-            ("runtime/sema.go", {"goparkunlock(&root.lock, reason, traceBlockSync, 4+skipframes)": parks})
-        ]
-        without = (
-            "without the objects at which goroutines wait: runtime/sema.go semacquire1: goparkunlock(&root.lock, ...) occurs there "
-            "0 times, not 1"
-        )
-        with self.planted(changes):
-            status, said = self.called("doctor")
-            self.assertEqual(status, 0, said)
-            self.assertIn(f"  {without}\n", said)
+def test_the_copy_is_recorded_as_it_is(release: Planted) -> None:
+    status, said = release.called("doctor")
+    assert status == 0, said
+    status, said = release.called("-o", "whole", "run", "main.go")
+    assert status == 0, said
+    assert (release.folder / "whole.jsonl").exists()
+
+
+def test_each_planted_change_is_named_and_nothing_is_recorded(release: Planted) -> None:
+    for name, (changes, told) in PLANTED.items():
+        with release.planted(changes):
+            status, said = release.called("doctor")
+            assert status == 1, said
+            assert told in said, name
+            status, said = release.called("-o", "planted", "run", "main.go")
+            assert status == 4, said
+            assert "netrev-go: go1.27.3 can't be recorded " in said, name
+            assert list(release.folder.glob("planted*")) == [], name
+
+
+def test_what_can_be_done_without_is_left_out_and_named(release: Planted) -> None:
+    changes: list[Change] = [("internal/poll/sendfile_unix.go", {"sendFileChunk(": "sendFilePart("})]
+    file = "internal/poll/sendfile_unix.go"
+    without = f"without what SendFile writes: {file} sendFile: sendFileChunk(dst, src, ...) occurs there 0 times, not 1"
+    elsewhere = f"without the bytes that go there: {file} sendFilePart: syscall.Send..) occurs there too"
+    with release.planted(changes):
+        status, said = release.called("-o", "partly", "run", "main.go")
+        assert status == 0, said
+        assert without in said
+        assert elsewhere in said
+        assert (release.folder / "partly.jsonl").exists()
+        assert without not in release.called("-o", "partly", "run", "main.go")[1]
+        status, said = release.called("doctor")
+        assert status == 0, said
+        assert f"  {without}\n" in said
+
+
+def test_without_the_objects_of_waits_all_else_is_recorded(release: Planted) -> None:
+    parks = "gopark(parkunlock_c, unsafe.Pointer(&root.lock), reason, traceBlockSync, 3+skipframes)"
+    changes: list[Change] = [
+        ("runtime/sema.go", {"goparkunlock(&root.lock, reason, traceBlockSync, 4+skipframes)": parks})
+    ]
+    without = (
+        "without the objects at which goroutines wait: runtime/sema.go semacquire1: goparkunlock(&root.lock, ...) occurs there "
+        "0 times, not 1"
+    )
+    with release.planted(changes):
+        status, said = release.called("doctor")
+        assert status == 0, said
+        assert f"  {without}\n" in said

@@ -10,7 +10,7 @@ import sys
 import time
 from collections.abc import Callable
 from pathlib import Path
-from unittest import mock
+
 
 from dev.fuzz.generators.logs import from_text
 from netrev_go import cli
@@ -91,12 +91,10 @@ def main(folder: Path, words: list[str]) -> int:
     netrev = folder / "netrev"
     go = Go(str(folder / "go"), folder, "go1", "linux/amd64", "")
     sys.argv[1:] = words
-    with (
-        mock.patch.object(cli, "find_go", lambda: go),
-        mock.patch.object(cli, "ready", lambda _: folder / "overlay.json"),
-        mock.patch.object(report, "netrev_program", lambda: str(netrev) if netrev.exists() else None),
-    ):
-        return cli.main(words)
+    setattr(cli, "find_go", lambda: go)
+    setattr(cli, "ready", lambda _: folder / "overlay.json")
+    setattr(report, "netrev_program", lambda: str(netrev) if netrev.exists() else None)
+    return cli.main(words)
 
 
 if __name__ == "__main__":

@@ -6,7 +6,10 @@ import os
 import re
 import signal
 import subprocess
-import unittest
+from contextlib import ExitStack
+from pathlib import Path
+
+import pytest
 
 from .go_tool import PAIR, TOOL, Tool
 
@@ -99,8 +102,8 @@ def timeless(said: str) -> list[str]:
 class Tested(Tool):
     """A package in whose folder netrev-go is called."""
 
-    def setUp(self) -> None:
-        super().setUp()
+    def __init__(self, folder: Path, cleanups: ExitStack) -> None:
+        super().__init__(folder, cleanups)
         self.written(TESTS, "p_test.go")
         self.written("module example.org/p\n\ngo 1.19\n", "go.mod")
 
@@ -110,96 +113,104 @@ class Tested(Tool):
     def made(self, folder: str = "recordings") -> list[str]:
         return sorted(path.name for path in (self.folder / folder).glob("*.jsonl"))
 
-    def test_of_those_that_fail_there_are_recordings(self) -> None:
-        status, said = self.called("--json", "a.json", "test", ".")
-        self.assertEqual((status, self.made()), (1, ["p.TestParts.part_1.jsonl", "p.TestRed.jsonl"]), said)
-        for name in ("TestRed", r"TestParts\.part_1"):
-            self.recorded(said, rf"recordings/p\.{name}")
-        told = {line["test"]: line for line in map(json.loads, (self.folder / "a.json").read_text().splitlines())}
-        self.assertEqual(told["TestGood"]["status"], "passed")
-        line = TESTS[: TESTS.index("t.Error(")].count("\n") + 1
-        self.assertEqual((told["TestRed"]["file"], told["TestRed"]["line"]), ("p_test.go", line))
-        self.assertEqual(told["TestParts/part_1"]["status"], "failed")
-
-    def test_however_it_ends_the_test_that_ran_is_kept(self) -> None:
-        for how in ("panic", "elsewhere", "exit", "hang"):
-            with self.subTest(how):
-                words = ("test", "-run", "Good|Ends", "-timeout", "2s", ".")
-                status, said = self.called("-o", how, *words, HOW=how)
-                self.assertEqual((status, self.made(how)), (1, ["p.TestEnds.jsonl"]), said)
-
     def same(self, *words: str) -> int:
         """Checks that Go and netrev-go end with the same exit status, and returns it."""
         plainly = subprocess.run(
             ["go", "test", *words], cwd=self.folder, env=self.environment(), capture_output=True, check=False
         )
-        self.assertEqual(self.called("test", *words)[0], plainly.returncode)
+        assert self.called("test", *words)[0] == plainly.returncode
         return plainly.returncode
 
-    def test_the_status_is_gos(self) -> None:
-        for words in (
-            ("-run", "Good", "."),
-            ("-run", "None", "."),
-            ("-list", ".", "."),
-            ("-race", "-run", "Good", "-count=2", "-v", "."),
-        ):
-            with self.subTest(words):
-                self.assertEqual(self.same(*words), 0)
-        for words in (("-run", "Red", "."), ("./nowhere",), ("-nonsense", ".")):
-            with self.subTest(words):
-                self.assertNotEqual(self.same(*words), 0)
-        self.written("package p\n\nfunc f() { return 1 }\n", "other.go")
-        self.assertNotEqual(self.same("."), 0)
 
-    def test_the_script_for_any_ci(self) -> None:
-        path = f"{TOOL.parent}:{os.environ['PATH']}"
-        words = ["sh", str(TOOL.parents[2] / "examples/ci/test.sh"), "-run", "Red", "."]
-        run = subprocess.run(
-            words, cwd=self.folder, env=self.environment(PATH=path), capture_output=True, text=True, check=False
-        )
-        self.assertEqual(run.returncode, 1, run.stderr)
-        self.assertEqual(self.made("out/netrev"), ["p.TestRed.jsonl"])
-        self.assertTrue((self.folder / "out/netrev/tests.xml").exists())
+@pytest.fixture
+def package(folder: Path, cleanups: ExitStack) -> Tested:
+    return Tested(folder, cleanups)
 
-    def test_json_stays_json(self) -> None:
-        run = subprocess.run(
-            [TOOL, "test", "-json", "."],
-            cwd=self.folder,
-            env=self.environment(),
-            capture_output=True,
-            text=True,
-            check=False,
-        )
-        told = [json.loads(line) for line in run.stdout.splitlines()]
-        self.assertIn(("fail", "TestRed"), [(line["Action"], line.get("Test")) for line in told])
-        self.assertIn("FAILED example.org/p TestRed", run.stderr)
 
-    def test_runs_that_are_the_same_are_linked_once_and_print_what_go_prints(self) -> None:
-        self.written(LOOKS, "look_test.go")
-        for more in ((), ("-race",)):
-            words = ("test", *more, "-v", "-run", "Good|Looks", ".")
-            plainly = timeless(self.called(*words)[1])
-            (self.folder / "seen").unlink(missing_ok=True)
-            status, said = self.called("--runs", "3", *words)
-            self.assertEqual(status, 0, said)
-            self.assertEqual(timeless(said), plainly * 3 + ["netrev-go: 2 tests, 3 runs; 0 failed"])
-            seen = (self.folder / "seen").read_text().splitlines()
-            self.assertEqual((len(seen), len(set(seen))), (3, 1))
-            self.assertRegex(seen[0], r"netrev-link-\w+/made\.\S+ \d+$")
+def test_of_those_that_fail_there_are_recordings(package: Tested) -> None:
+    status, said = package.called("--json", "a.json", "test", ".")
+    assert (status, package.made()) == (1, ["p.TestParts.part_1.jsonl", "p.TestRed.jsonl"]), said
+    for name in ("TestRed", r"TestParts\.part_1"):
+        package.recorded(said, rf"recordings/p\.{name}")
+    told = {line["test"]: line for line in map(json.loads, (package.folder / "a.json").read_text().splitlines())}
+    assert told["TestGood"]["status"] == "passed"
+    line = TESTS[: TESTS.index("t.Error(")].count("\n") + 1
+    assert (told["TestRed"]["file"], told["TestRed"]["line"]) == ("p_test.go", line)
+    assert told["TestParts/part_1"]["status"] == "failed"
 
-    def test_cancelled_it_ends_as_go_does(self) -> None:
-        for number, status in ((signal.SIGTERM, 128 + signal.SIGTERM), (signal.SIGINT, 1)):
-            with self.subTest(number):
-                process = subprocess.Popen(
-                    [TOOL, "-o", number.name, "test", "-run", "Ends", "."], cwd=self.folder,
-                    env=self.environment(HOW="hang"), stdout=subprocess.PIPE, stderr=subprocess.STDOUT, text=True,
-                )  # fmt: skip
-                self.addCleanup(process.kill)
-                here = self.folder / "here"
-                while process.poll() is None and not here.exists():
-                    pass
-                os.kill(process.pid, number)
-                said, _ = process.communicate(timeout=120)
-                here.unlink()
-                self.assertEqual(process.returncode, status, said)
-                self.assertEqual(self.made(number.name), ["p.TestEnds.jsonl"], said)
+
+@pytest.mark.parametrize("how", ["panic", "elsewhere", "exit", "hang"])
+def test_however_it_ends_the_test_that_ran_is_kept(package: Tested, how: str) -> None:
+    words = ("test", "-run", "Good|Ends", "-timeout", "2s", ".")
+    status, said = package.called("-o", how, *words, HOW=how)
+    assert (status, package.made(how)) == (1, ["p.TestEnds.jsonl"]), said
+
+
+def test_the_status_is_gos(package: Tested) -> None:
+    for words in (
+        ("-run", "Good", "."),
+        ("-run", "None", "."),
+        ("-list", ".", "."),
+        ("-race", "-run", "Good", "-count=2", "-v", "."),
+    ):
+        assert package.same(*words) == 0, words
+    for words in (("-run", "Red", "."), ("./nowhere",), ("-nonsense", ".")):
+        assert package.same(*words) != 0, words
+    package.written("package p\n\nfunc f() { return 1 }\n", "other.go")
+    assert package.same(".") != 0
+
+
+def test_the_script_for_any_ci(package: Tested) -> None:
+    path = f"{TOOL.parent}:{os.environ['PATH']}"
+    words = ["sh", str(TOOL.parents[2] / "examples/ci/test.sh"), "-run", "Red", "."]
+    run = subprocess.run(
+        words, cwd=package.folder, env=package.environment(PATH=path), capture_output=True, text=True, check=False
+    )
+    assert run.returncode == 1, run.stderr
+    assert package.made("out/netrev") == ["p.TestRed.jsonl"]
+    assert (package.folder / "out/netrev/tests.xml").exists()
+
+
+def test_json_stays_json(package: Tested) -> None:
+    run = subprocess.run(
+        [TOOL, "test", "-json", "."],
+        cwd=package.folder,
+        env=package.environment(),
+        capture_output=True,
+        text=True,
+        check=False,
+    )
+    told = [json.loads(line) for line in run.stdout.splitlines()]
+    assert ("fail", "TestRed") in [(line["Action"], line.get("Test")) for line in told]
+    assert "FAILED example.org/p TestRed" in run.stderr
+
+
+def test_runs_that_are_the_same_are_linked_once_and_print_what_go_prints(package: Tested) -> None:
+    package.written(LOOKS, "look_test.go")
+    for more in ((), ("-race",)):
+        words = ("test", *more, "-v", "-run", "Good|Looks", ".")
+        plainly = timeless(package.called(*words)[1])
+        (package.folder / "seen").unlink(missing_ok=True)
+        status, said = package.called("--runs", "3", *words)
+        assert status == 0, said
+        assert timeless(said) == plainly * 3 + ["netrev-go: 2 tests, 3 runs; 0 failed"]
+        seen = (package.folder / "seen").read_text().splitlines()
+        assert (len(seen), len(set(seen))) == (3, 1)
+        assert re.search(r"netrev-link-\w+/made\.\S+ \d+$", seen[0])
+
+
+@pytest.mark.parametrize("number, status", [(signal.SIGTERM, 128 + signal.SIGTERM), (signal.SIGINT, 1)])
+def test_cancelled_it_ends_as_go_does(package: Tested, number: signal.Signals, status: int) -> None:
+    process = subprocess.Popen(
+        [TOOL, "-o", number.name, "test", "-run", "Ends", "."], cwd=package.folder,
+        env=package.environment(HOW="hang"), stdout=subprocess.PIPE, stderr=subprocess.STDOUT, text=True,
+    )  # fmt: skip
+    package.cleanups.callback(process.kill)
+    here = package.folder / "here"
+    while process.poll() is None and not here.exists():
+        pass
+    os.kill(process.pid, number)
+    said, _ = process.communicate(timeout=120)
+    here.unlink()
+    assert process.returncode == status, said
+    assert package.made(number.name) == ["p.TestEnds.jsonl"], said

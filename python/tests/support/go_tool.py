@@ -4,14 +4,16 @@ the PATH (Debian's golang-go, or a release that dev.recorder.fetching fetched); 
 import dataclasses
 import json
 import os
-import pathlib
+import re
 import signal
 import subprocess
 import sys
 import time
-import unittest
-from typing import Callable
-from unittest import mock
+from contextlib import ExitStack
+from pathlib import Path
+from typing import Any, Callable
+
+import pytest
 
 from dev.recorder.fetching import here
 from netrev.recording.where import SourceLines
@@ -29,9 +31,8 @@ from netrev_go.go_command.toolchain import (
 )
 from netrev_go.log.logfile import Header
 
-from .folders import folder_of
 
-ROOT = pathlib.Path(__file__).resolve().parents[3]
+ROOT = Path(__file__).resolve().parents[3]
 SAMPLES = ROOT / "tools/go/samples"
 TOOL = ROOT / "tools/go/netrev-go"
 
@@ -98,11 +99,11 @@ TELLS = (
 )
 
 
-class Tool(unittest.TestCase):
+class Tool:
     """A folder with a program, and netrev-go called in it."""
 
-    def setUp(self) -> None:
-        self.folder = folder_of(self)
+    def __init__(self, folder: Path, cleanups: ExitStack) -> None:
+        self.folder, self.cleanups = folder, cleanups
 
     def written(self, text: str, name: str = "main.go") -> None:
         (self.folder / name).write_text(text)
@@ -118,335 +119,357 @@ class Tool(unittest.TestCase):
         )  # fmt: skip
         return run.returncode, run.stdout
 
-    def recorded(self, said: str, name: str = "recording") -> None:
-        self.assertRegex(said, rf"{name}\.jsonl: ok \d+ steps; \d+ goroutines?, \d+ sockets?")
+    def recorded(self, output: str, name: str = "recording") -> None:
+        """Checks that the output names a recording."""
+        assert re.search(rf"{name}\.jsonl: ok \d+ steps; \d+ goroutines?, \d+ sockets?", output)
 
 
-class Programs(Tool):
-    def test_a_program_that_hangs_ends_with_its_line(self) -> None:
-        self.written(HANGS)
-        status, said = self.called("-n", "1", "run", "main.go")
-        self.assertEqual(status, 1, said)  # Go's own status: SIGQUIT ended the program
-        self.recorded(said)
-        self.assertRegex(
-            said, rf"  main\.go:{READ_LINE}: net\.\(\*conn\)\.Read waits to read \(goroutine 0, since step \d+\)"
-        )
-        self.assertRegex(said, r"next: .* recording\.jsonl -ex 'goto \d+' -ex 'calls sock 3'\n")
-
-    def test_a_test_that_hangs_ends_with_its_line(self) -> None:
-        self.written(TEST, "p_test.go")
-        status, said = self.called("-o", "t", "test", ".", "-run", "Hang", "-timeout", "1s")
-        self.assertEqual(status, 1)
-        self.recorded(said, r"t/\S+\.TestHang")
-        self.assertRegex(said, rf"  p_test\.go:{READ_LINE + 1}: net\.\(\*conn\)\.Read waits to read")
-        self.assertNotIn("vet:", said)
-
-    def test_lines_are_told_however_it_was_built(self) -> None:
-        self.written(HANGS)
-        for flag in (["-ldflags=-s -w"], ["-trimpath"], ["-race"], ["-gcflags=-N"]):
-            with self.subTest(flag):
-                _, said = self.called("-n", "1", "run", *flag, "main.go")
-                self.recorded(said)
-                self.assertRegex(said, rf"main\.go:{READ_LINE}: ")
-
-    def test_a_program_that_may_lie_anywhere(self) -> None:
-        self.written(HANGS)
-        _, said = self.called("-n", "1", "run", "-buildmode=pie", "main.go")
-        self.recorded(said)
-        release, _ = release_of(find_go().version)
-        self.assertIn(
-            "Go reads no lines of it (-buildmode=pie)" if release == "1.19" else f"main.go:{READ_LINE}: ", said
-        )
-
-    def test_a_generic_function(self) -> None:
-        self.written(GENERIC)
-        _, said = self.called("-n", "1", "run", "main.go")
-        self.recorded(said)
-        self.assertIn(f"main.go:{GENERIC[: GENERIC.index('end.Read')].count(chr(10)) + 1}: ", said)
-
-    def test_a_workspace(self) -> None:
-        for name in ("mine", "dep"):
-            (self.folder / name).mkdir()
-            self.written(f"module example.org/{name}\n\ngo 1.18\n", f"{name}/go.mod")
-        self.written("go 1.18\n\nuse (\n\t./mine\n\t./dep\n)\n", "go.work")
-        self.written("package dep\n", "dep/dep.go")
-        self.written(HANGS.replace('"net"\n', '"net"\n\t_ "example.org/dep"\n'), "mine/main.go")
-        _, said = self.called("-n", "1", "run", "./mine", GO111MODULE="on")
-        self.recorded(said)
-        self.assertIn(f"mine/main.go:{READ_LINE + 1}: ", said)
-
-    def test_a_release_that_a_module_asks_for(self) -> None:
-        asked, other = here("1.27"), next(filter(None, map(here, ("1.26", "1.24", "1.23", "1.22", "1.21"))), None)
-        if not asked or not other:
-            self.skipTest("neither 1.27 nor another release that looks into go.mod is here")
-        tools = self.folder / "tools"
-        tools.mkdir()
-        (tools / "go1.27.3").symlink_to(asked / "go")
-        self.written("module example.org/mine\n\ngo 1.21\n\ntoolchain go1.27.3\n", "go.mod")
-        self.written(HANGS)
-        settings = {"PATH": f"{other}:{tools}:{os.environ['PATH']}", "GOTOOLCHAIN": "auto", "GO111MODULE": "on"}
-        self.assertIn("Go: go1.27.3, ", self.called("doctor", **settings)[1])
-        _, said = self.called("-n", "1", "run", ".", **settings)
-        self.recorded(said)
-        self.assertIn(f"main.go:{READ_LINE}: ", said)
-
-    def test_a_cgo_program(self) -> None:
-        self.written(HANGS.replace("import (\n", '// int one(void) { return 1; }\nimport "C"\n\nimport (\n'))
-        _, said = self.called("-n", "1", "run", "main.go")
-        self.recorded(said)
-        self.assertIn(f"main.go:{READ_LINE + 3}: ", said)
-
-    def test_a_vendored_module(self) -> None:
-        self.written(HANGS.replace('"net"\n', '"net"\n\t_ "example.org/dep"\n'))
-        self.written("module example.org/mine\n\ngo 1.19\n\nrequire example.org/dep v1.0.0\n", "go.mod")
-        (self.folder / "vendor/example.org/dep").mkdir(parents=True)
-        self.written("package dep\n", "vendor/example.org/dep/dep.go")
-        self.written("# example.org/dep v1.0.0\n## explicit; go 1.19\nexample.org/dep\n", "vendor/modules.txt")
-        _, said = self.called("-n", "1", "run", ".", GO111MODULE="on")
-        self.recorded(said)
-        self.assertIn(f"main.go:{READ_LINE + 1}: ", said)
-
-    def test_the_race_detector_sees_no_race_of_ours(self) -> None:
-        self.written(RACING)
-        _, said = self.called("run", "-race", "main.go")
-        self.recorded(said)
-        self.assertNotIn("DATA RACE", said)
-
-    def test_whatever_way_it_ends(self) -> None:
-        for body, imports in (
-            ("\tos.Exit(3)", ("os",)),
-            ('\tpanic("now")', ()),
-            ("\tsyscall.Kill(syscall.Getpid(), syscall.SIGKILL)", ("syscall",)),
-            ("\tselect {}", ()),
-        ):
-            with self.subTest(body):
-                self.written(program(body, *imports))
-                _, said = self.called("-n", "2", "run", "main.go")
-                self.recorded(said)
-
-    def test_children_have_recordings_of_their_own(self) -> None:
-        self.written(CHILD)
-        _, said = self.called("-o", "c", "run", "main.go")
-        self.recorded(said, "c")
-        self.recorded(said, "c-2")
-
-    def test_a_program_that_becomes_another_has_two_recordings(self) -> None:
-        self.written(BECOMES)
-        _, said = self.called("-o", "b", "run", "main.go")
-        self.recorded(said, "b")
-        self.recorded(said, "b-2")
+@pytest.fixture
+def tool(folder: Path, cleanups: ExitStack) -> Tool:
+    return Tool(folder, cleanups)
 
 
-class Orders(Tool):
-    def lines(self, name: str) -> tuple[list[list[object]], SourceLines]:
-        """The steps of a recording, and the lines beside it."""
-        steps = [json.loads(line) for line in (self.folder / f"{name}.jsonl").read_text().splitlines()[1:]]
-        return steps, SourceLines.beside(str(self.folder / f"{name}.jsonl"), len(steps))
-
-    def test_what_the_program_orders_is_recorded(self) -> None:
-        for made, tells, awaits, imports in TELLS:
-            with self.subTest(tells, awaits=awaits):
-                reads = f"\t{made}\n\tgo func() {{ b.Read(make([]byte, 1)); {tells} }}()"
-                self.written(program(f'{reads}\n\ta.Write([]byte("x"))\n\t{awaits}\n\tb.Close()', *imports))
-                _, said = self.called("run", "main.go")
-                self.recorded(said)
-                steps, lines = self.lines("recording")
-                read = max(
-                    at for at, step in enumerate(steps, 1) if step[0] == "rwunlock" and step[3] == "r" and step[1]
-                )
-                closes = max(at for at, step in enumerate(steps, 1) if step[0] == "increfclose")
-                self.assertIn((read, closes), lines.orders or [])
-
-    def test_a_machines_own_wake_up_is_no_order(self) -> None:
-        self.written(program("\tgo b.Read(make([]byte, 1))\n\ttime.Sleep(5e6)\n\tb.Close()\n\ttime.Sleep(5e6)", "time"))
-        _, said = self.called("run", "main.go")
-        self.recorded(said)
-        steps, lines = self.lines("recording")
-        evicts = max(at for at, step in enumerate(steps, 1) if step[0] == "evict")
-        self.assertEqual([pair for pair in lines.orders or [] if pair[0] == evicts], [])
-        self.assertIn("waitcheck", [step[0] for step in steps[evicts:]])
-
-    def test_they_can_be_left_out(self) -> None:
-        self.written(ENDS)
-        _, said = self.called("--no-orders", "run", "main.go")
-        self.recorded(said)
-        self.assertIsNone(self.lines("recording")[1].orders)
+def test_a_program_that_hangs_ends_with_its_line(tool: Tool) -> None:
+    tool.written(HANGS)
+    status, said = tool.called("-n", "1", "run", "main.go")
+    assert status == 1, said  # Go's own status: SIGQUIT ended the program
+    tool.recorded(said)
+    assert re.search(
+        rf"  main\.go:{READ_LINE}: net\.\(\*conn\)\.Read waits to read \(goroutine 0, since step \d+\)", said
+    )
+    assert re.search(r"next: .* recording\.jsonl -ex 'goto \d+' -ex 'calls sock 3'\n", said)
 
 
-class RunningOn(Tool):
-    def start(self, *words: str, **settings: str) -> subprocess.Popen[str]:
-        process = subprocess.Popen(
-            words, cwd=self.folder, env=self.environment(**settings), text=True, stdin=subprocess.DEVNULL,
-            stdout=subprocess.PIPE, stderr=subprocess.STDOUT,
-        )  # fmt: skip
-        self.addCleanup(process.communicate)
-        self.addCleanup(process.kill)
-        return process
-
-    def test_a_process_that_runs_on(self) -> None:
-        self.written(HANGS)
-        self.assertEqual(self.called("build", "-o", "prog", "main.go")[0], 0)
-        process = self.start("./prog", NETREV_LOG=str(self.folder / "mine"))
-        log = self.folder / f"mine.{process.pid}"
-        self.assertTrue(self.waited(log.exists))
-        time.sleep(0.5)
-        for words in (("--pid", str(process.pid), "convert"), ("convert", log.name)):
-            status, said = self.called("-o", "on", *words)
-            self.recorded(said, "on")
-            self.assertIn(f"main.go:{READ_LINE}: ", said)
-        self.assertIsNone(process.poll())
-        text = log.read_bytes()
-        log.write_bytes(text[: begin_of_ring(text) + 64 * 20 + 5])
-        self.assertIn("the log is cut short or damaged", self.called("convert", log.name)[1])
-        log.write_bytes(b"other")
-        self.assertIn("too short for a log", self.called("convert", log.name)[1])
-
-    def test_a_signal_makes_a_recording_of_what_is_there(self) -> None:
-        self.written(program('\tos.WriteFile("here", nil, 0600)\n\tb.Read(make([]byte, 1))', "os"))
-        process = self.start(str(TOOL), "-o", "s", "-n", "9", "run", "main.go")
-        self.assertTrue(self.waited((self.folder / "here").exists, 120))
-        os.kill(process.pid, signal.SIGUSR1)
-        said, _ = process.communicate(timeout=120)
-        self.recorded(said, "s-so-far-1")
-        self.recorded(said, "s")
-
-    def test_two_variables_make_any_go_record(self) -> None:
-        self.written(ENDS)
-        script = f'eval "$({TOOL} env)"; export NETREV_LOG=$PWD/e; go run main.go; exec {TOOL} convert e.[0-9]*'
-        run = self.start("sh", "-c", script)
-        said, _ = run.communicate(timeout=120)
-        self.assertRegex(said, r"e\.\d+\.jsonl: ok \d+ steps")
-
-    def waited(self, is_so: Callable[[], bool], seconds: int = 10) -> bool:
-        for _ in range(10 * seconds):
-            if is_so():
-                return True
-            time.sleep(0.1)
-        return False
+def test_a_test_that_hangs_ends_with_its_line(tool: Tool) -> None:
+    tool.written(TEST, "p_test.go")
+    status, said = tool.called("-o", "t", "test", ".", "-run", "Hang", "-timeout", "1s")
+    assert status == 1
+    tool.recorded(said, r"t/\S+\.TestHang")
+    assert re.search(rf"  p_test\.go:{READ_LINE + 1}: net\.\(\*conn\)\.Read waits to read", said)
+    assert "vet:" not in said
 
 
-class Sentences(Tool):
-    def test_what_stands_in_the_way_is_said(self) -> None:
-        self.written(program("\t_ = a"))
-        self.written("package main\n\nfunc main() {}\n", "none.go")
-        python = str(pathlib.Path(sys.executable).parent)
-        # (Go 1.21 reads its own cache first, which is below the same folder unless GOCACHE is set)
-        nowhere = {"XDG_CACHE_HOME": "/proc/none", "GOCACHE": str(self.folder / "go-build")}
-        ways: tuple[tuple[tuple[str, ...], dict[str, str], str], ...] = (
-            (("run", "none.go"), {}, "no socket was opened"),
-            (("run", "missing.go"), {}, "nothing was recorded: Go failed before it ran"),
-            (("run", "main.go"), {"PATH": f"{python}:/nowhere:{self.tools()}"}, "apt-get install golang-go"),
-            (("run", "-overlay=x.json", "main.go"), {}, "remove yours"),
-            (("run", "main.go"), {"GOFLAGS": "-overlay=x.json"}, "remove yours"),
-            (("run", "main.go"), {"GOARCH": "arm64"}, "records only linux/amd64"),
-            (("run", "main.go"), nowhere, "set XDG_CACHE_HOME to another folder"),
-            (("--points", "5", "run", "main.go"), {}, "--points is from 16384 to 16777216"),
-            (("--pid", "1", "convert"), {}, "process 1"),
-            (("convert", "nothing.1"), {}, "it can't be read: No such file or directory"),
-        )
-        for words, settings, said in ways:
-            with self.subTest(words=words, **settings):
-                status, told = self.called(*words, **settings)
-                self.assertEqual(status == 0, said == "no socket was opened")
-                self.assertIn(said, told)
-                self.assertNotIn("Traceback", told)
-
-    def tools(self) -> str:
-        """A folder with the tools that the launcher needs, without Go."""
-        folder = self.folder / "tools"
-        folder.mkdir(exist_ok=True)
-        for name in ("dirname", "readlink", "python3", "env", "sh"):
-            path = subprocess.check_output(["which", name], text=True).strip()
-            if not (folder / name).exists():
-                (folder / name).symlink_to(path)
-        return str(folder)
-
-    def fit(self, changes: dict[str, dict[str, str]]) -> tuple[int, list[str]]:
-        """The message about the installed Go after some texts in its files have been changed."""
-        go = find_go()
-        points = points_program(go, self.folder)
-        for name in CHANGED:
-            (self.folder / name).mkdir(parents=True, exist_ok=True)
-            for path in (go.sources() / name).glob("*.go"):
-                (self.folder / name / path.name).write_bytes(path.read_bytes())
-        for name in ("runtime/internal", "internal/runtime"):
-            if (go.sources() / name).exists() and not (self.folder / name).exists():
-                (self.folder / name).symlink_to(go.sources() / name)
-        for name, words in changes.items():
-            text = (self.folder / name).read_text()
-            for old, new in words.items():
-                self.assertIn(old, text)
-                text = text.replace(old, new)
-            (self.folder / name).write_text(text)
-        run = subprocess.run([points, "fit", self.folder], capture_output=True, text=True, check=False)
-        return run.returncode, run.stdout.splitlines()
-
-    def test_another_release_is_named_by_function_and_call(self) -> None:
-        status, said = self.fit({"runtime/netpoll.go": {"gpp.Swap(": "gpp.Exchange("}})
-        self.assertEqual(status, 1)
-        unfit = [line for line in said if line.startswith("unfit")]
-        self.assertEqual(unfit, ["unfit runtime/netpoll.go netpollblock: gpp.Swap(...) occurs there 0 times, not 1"])
-
-    def test_where_the_orders_do_not_fit_all_else_does(self) -> None:
-        status, said = self.fit(
-            {"runtime/chan.go": {"c.recvq.dequeue()": "c.recvq.first()", "chanbuf(c, c.sendx)": "c.at(c.sendx)"}}
-        )
-        self.assertEqual(status, 0)
-        self.assertEqual(
-            [line for line in said if not line.startswith("fits")],
-            ["without the program's orders: runtime/chan.go chansend: chanbuf(c, c.sendx) occurs there 0 times, not 1"],
-        )
-        points, folder = points_program(find_go(), self.folder), self.folder / "made"
-        folder.mkdir()
-        subprocess.run([points, "overlay", self.folder, SOURCES / "log", folder], check=True, capture_output=True)
-        replaced = sorted(path.name for path in folder.glob("*.go"))
-        self.assertNotIn("runtime_chan.go", replaced)
-        self.assertNotIn("runtime_proc.go", replaced)
-        self.assertIn("runtime_sema.go", replaced)
-
-    def test_a_place_where_go_passes_and_no_rule_is_doesnt_fit(self) -> None:
-        more = "func (fd *FD) readUnlock() {"
-        swap = "func (mu *fdMutex) try(old, new uint64) bool { return atomic.CompareAndSwapUint64(&mu.state, old, new) }\n\n"
-        status, said = self.fit({"internal/poll/fd_mutex.go": {more: swap + more}})
-        self.assertEqual(status, 1)
-        self.assertEqual(
-            [line for line in said if line.startswith("unfit")],
-            ["unfit internal/poll/fd_mutex.go try: atomic.CompareAndSwap..) occurs there too, and no rule covers it"],
-        )
-
-    def test_the_doctor_says_that_all_is_well(self) -> None:
-        status, said = self.called("doctor")
-        self.assertEqual(status, 0)
-        for told in ("rules: all fit\n", "compiled: ", "trial: the trial recording is correct: "):
-            self.assertIn(told, said)
-        self.assertNotIn("calls: ", said)
+def test_lines_are_told_however_it_was_built(tool: Tool) -> None:
+    tool.written(HANGS)
+    for flag in (["-ldflags=-s -w"], ["-trimpath"], ["-race"], ["-gcflags=-N"]):
+        _, said = tool.called("-n", "1", "run", *flag, "main.go")
+        tool.recorded(said)
+        assert re.search(rf"main\.go:{READ_LINE}: ", said), flag
 
 
-class Installed(Tool):
-    """The release of the `go` on the PATH."""
+def test_a_program_that_may_lie_anywhere(tool: Tool) -> None:
+    tool.written(HANGS)
+    _, said = tool.called("-n", "1", "run", "-buildmode=pie", "main.go")
+    tool.recorded(said)
+    release, _ = release_of(find_go().version)
+    assert ("Go reads no lines of it (-buildmode=pie)" if release == "1.19" else f"main.go:{READ_LINE}: ") in said
 
-    def test_it_was_tried(self) -> None:
-        self.assertIn(release_of(find_go().version)[0], TRIED)
 
-    def test_the_table_has_each_call_that_it_has(self) -> None:
-        self.assertEqual(calls_of_go.unknown_calls(find_go()), [])
-        self.assertLessEqual(
-            {"FD.Read", "FD.Accept", "FD.Writev", "Splice", "SendFile"}, set(calls_of_go.calls_of(find_go()))
-        )
+def test_a_generic_function(tool: Tool) -> None:
+    tool.written(GENERIC)
+    _, said = tool.called("-n", "1", "run", "main.go")
+    tool.recorded(said)
+    assert f"main.go:{GENERIC[: GENERIC.index('end.Read')].count(chr(10)) + 1}: " in said
 
-    def test_a_call_that_no_rule_knows_is_named(self) -> None:
-        go = find_go()
-        folder = self.folder / "src/internal/poll"
-        folder.mkdir(parents=True)
-        for path in (go.sources() / "internal/poll").glob("*.go"):
-            (folder / path.name).write_bytes(path.read_bytes())
-        with (folder / "fd_unix.go").open("a") as file:
-            file.write("\nfunc (fd *FD) ReadTwice(p []byte) (int, error) { return fd.Read(p) }\n")
-        self.assertEqual(calls_of_go.unknown_calls(dataclasses.replace(go, root=self.folder)), ["FD.ReadTwice"])
 
-    def test_what_is_changed_compiles_for_another_processor(self) -> None:
-        go = find_go()
-        made = str(overlay(go))
-        with mock.patch.dict(os.environ, {"GOARCH": "arm64"}):
-            run = quiet_go(go, self.folder, "build", "-overlay", made, *CHANGED)
-        self.assertEqual((run.returncode, run.stderr), (0, ""))
+def test_a_workspace(tool: Tool) -> None:
+    for name in ("mine", "dep"):
+        (tool.folder / name).mkdir()
+        tool.written(f"module example.org/{name}\n\ngo 1.18\n", f"{name}/go.mod")
+    tool.written("go 1.18\n\nuse (\n\t./mine\n\t./dep\n)\n", "go.work")
+    tool.written("package dep\n", "dep/dep.go")
+    tool.written(HANGS.replace('"net"\n', '"net"\n\t_ "example.org/dep"\n'), "mine/main.go")
+    _, said = tool.called("-n", "1", "run", "./mine", GO111MODULE="on")
+    tool.recorded(said)
+    assert f"mine/main.go:{READ_LINE + 1}: " in said
+
+
+def test_a_release_that_a_module_asks_for(tool: Tool) -> None:
+    asked, other = here("1.27"), next(filter(None, map(here, ("1.26", "1.24", "1.23", "1.22", "1.21"))), None)
+    if not asked or not other:
+        pytest.skip("neither 1.27 nor another release that looks into go.mod is here")
+    tools = tool.folder / "tools"
+    tools.mkdir()
+    (tools / "go1.27.3").symlink_to(asked / "go")
+    tool.written("module example.org/mine\n\ngo 1.21\n\ntoolchain go1.27.3\n", "go.mod")
+    tool.written(HANGS)
+    settings = {"PATH": f"{other}:{tools}:{os.environ['PATH']}", "GOTOOLCHAIN": "auto", "GO111MODULE": "on"}
+    assert "Go: go1.27.3, " in tool.called("doctor", **settings)[1]
+    _, said = tool.called("-n", "1", "run", ".", **settings)
+    tool.recorded(said)
+    assert f"main.go:{READ_LINE}: " in said
+
+
+def test_a_cgo_program(tool: Tool) -> None:
+    tool.written(HANGS.replace("import (\n", '// int one(void) { return 1; }\nimport "C"\n\nimport (\n'))
+    _, said = tool.called("-n", "1", "run", "main.go")
+    tool.recorded(said)
+    assert f"main.go:{READ_LINE + 3}: " in said
+
+
+def test_a_vendored_module(tool: Tool) -> None:
+    tool.written(HANGS.replace('"net"\n', '"net"\n\t_ "example.org/dep"\n'))
+    tool.written("module example.org/mine\n\ngo 1.19\n\nrequire example.org/dep v1.0.0\n", "go.mod")
+    (tool.folder / "vendor/example.org/dep").mkdir(parents=True)
+    tool.written("package dep\n", "vendor/example.org/dep/dep.go")
+    tool.written("# example.org/dep v1.0.0\n## explicit; go 1.19\nexample.org/dep\n", "vendor/modules.txt")
+    _, said = tool.called("-n", "1", "run", ".", GO111MODULE="on")
+    tool.recorded(said)
+    assert f"main.go:{READ_LINE + 1}: " in said
+
+
+def test_the_race_detector_sees_no_race_of_ours(tool: Tool) -> None:
+    tool.written(RACING)
+    _, said = tool.called("run", "-race", "main.go")
+    tool.recorded(said)
+    assert "DATA RACE" not in said
+
+
+@pytest.mark.parametrize(
+    "body, imports",
+    [
+        ("\tos.Exit(3)", ("os",)),
+        ('\tpanic("now")', ()),
+        ("\tsyscall.Kill(syscall.Getpid(), syscall.SIGKILL)", ("syscall",)),
+        ("\tselect {}", ()),
+    ],
+)
+def test_whatever_way_it_ends(tool: Tool, body: str, imports: tuple[Any, ...]) -> None:
+    tool.written(program(body, *imports))
+    _, said = tool.called("-n", "2", "run", "main.go")
+    tool.recorded(said)
+
+
+def test_children_have_recordings_of_their_own(tool: Tool) -> None:
+    tool.written(CHILD)
+    _, said = tool.called("-o", "c", "run", "main.go")
+    tool.recorded(said, "c")
+    tool.recorded(said, "c-2")
+
+
+def test_a_program_that_becomes_another_has_two_recordings(tool: Tool) -> None:
+    tool.written(BECOMES)
+    _, said = tool.called("-o", "b", "run", "main.go")
+    tool.recorded(said, "b")
+    tool.recorded(said, "b-2")
+
+
+def lines_of(tool: Tool, name: str) -> tuple[list[list[object]], SourceLines]:
+    """The steps of a recording, and the lines beside it."""
+    steps = [json.loads(line) for line in (tool.folder / f"{name}.jsonl").read_text().splitlines()[1:]]
+    return steps, SourceLines.beside(str(tool.folder / f"{name}.jsonl"), len(steps))
+
+
+@pytest.mark.parametrize("made, tells, awaits, imports", TELLS)
+def test_what_the_program_orders_is_recorded(
+    tool: Tool, made: str, tells: str, awaits: str, imports: tuple[Any, ...]
+) -> None:
+    reads = f"\t{made}\n\tgo func() {{ b.Read(make([]byte, 1)); {tells} }}()"
+    tool.written(program(f'{reads}\n\ta.Write([]byte("x"))\n\t{awaits}\n\tb.Close()', *imports))
+    _, said = tool.called("run", "main.go")
+    tool.recorded(said)
+    steps, lines = lines_of(tool, "recording")
+    read = max(at for at, step in enumerate(steps, 1) if step[0] == "rwunlock" and step[3] == "r" and step[1])
+    closes = max(at for at, step in enumerate(steps, 1) if step[0] == "increfclose")
+    assert (read, closes) in (lines.orders or [])
+
+
+def test_a_machines_own_wake_up_is_no_order(tool: Tool) -> None:
+    tool.written(program("\tgo b.Read(make([]byte, 1))\n\ttime.Sleep(5e6)\n\tb.Close()\n\ttime.Sleep(5e6)", "time"))
+    _, said = tool.called("run", "main.go")
+    tool.recorded(said)
+    steps, lines = lines_of(tool, "recording")
+    evicts = max(at for at, step in enumerate(steps, 1) if step[0] == "evict")
+    assert [pair for pair in lines.orders or [] if pair[0] == evicts] == []
+    assert "waitcheck" in [step[0] for step in steps[evicts:]]
+
+
+def test_they_can_be_left_out(tool: Tool) -> None:
+    tool.written(ENDS)
+    _, said = tool.called("--no-orders", "run", "main.go")
+    tool.recorded(said)
+    assert lines_of(tool, "recording")[1].orders is None
+
+
+def start(tool: Tool, *words: str, **settings: str) -> subprocess.Popen[str]:
+    process = subprocess.Popen(
+        words, cwd=tool.folder, env=tool.environment(**settings), text=True, stdin=subprocess.DEVNULL,
+        stdout=subprocess.PIPE, stderr=subprocess.STDOUT,
+    )  # fmt: skip
+    tool.cleanups.callback(process.communicate)
+    tool.cleanups.callback(process.kill)
+    return process
+
+
+def waited(is_so: Callable[[], bool], seconds: int = 10) -> bool:
+    for _ in range(10 * seconds):
+        if is_so():
+            return True
+        time.sleep(0.1)
+    return False
+
+
+def test_a_process_that_runs_on(tool: Tool) -> None:
+    tool.written(HANGS)
+    assert tool.called("build", "-o", "prog", "main.go")[0] == 0
+    process = start(tool, "./prog", NETREV_LOG=str(tool.folder / "mine"))
+    log = tool.folder / f"mine.{process.pid}"
+    assert waited(log.exists)
+    time.sleep(0.5)
+    for words in (("--pid", str(process.pid), "convert"), ("convert", log.name)):
+        status, said = tool.called("-o", "on", *words)
+        tool.recorded(said, "on")
+        assert f"main.go:{READ_LINE}: " in said
+    assert process.poll() is None
+    text = log.read_bytes()
+    log.write_bytes(text[: begin_of_ring(text) + 64 * 20 + 5])
+    assert "the log is cut short or damaged" in tool.called("convert", log.name)[1]
+    log.write_bytes(b"other")
+    assert "too short for a log" in tool.called("convert", log.name)[1]
+
+
+def test_a_signal_makes_a_recording_of_what_is_there(tool: Tool) -> None:
+    tool.written(program('\tos.WriteFile("here", nil, 0600)\n\tb.Read(make([]byte, 1))', "os"))
+    process = start(tool, str(TOOL), "-o", "s", "-n", "9", "run", "main.go")
+    assert waited((tool.folder / "here").exists, 120)
+    os.kill(process.pid, signal.SIGUSR1)
+    said, _ = process.communicate(timeout=120)
+    tool.recorded(said, "s-so-far-1")
+    tool.recorded(said, "s")
+
+
+def test_two_variables_make_any_go_record(tool: Tool) -> None:
+    tool.written(ENDS)
+    script = f'eval "$({TOOL} env)"; export NETREV_LOG=$PWD/e; go run main.go; exec {TOOL} convert e.[0-9]*'
+    run = start(tool, "sh", "-c", script)
+    said, _ = run.communicate(timeout=120)
+    assert re.search(r"e\.\d+\.jsonl: ok \d+ steps", said)
+
+
+def tools_without_go(tool: Tool) -> str:
+    """A folder with the tools that the launcher needs, without Go."""
+    folder = tool.folder / "tools"
+    folder.mkdir(exist_ok=True)
+    for name in ("dirname", "readlink", "python3", "env", "sh"):
+        path = subprocess.check_output(["which", name], text=True).strip()
+        if not (folder / name).exists():
+            (folder / name).symlink_to(path)
+    return str(folder)
+
+
+def fit(tool: Tool, changes: dict[str, dict[str, str]]) -> tuple[int, list[str]]:
+    """The message about the installed Go after some texts in its files have been changed."""
+    go = find_go()
+    points = points_program(go, tool.folder)
+    for name in CHANGED:
+        (tool.folder / name).mkdir(parents=True, exist_ok=True)
+        for path in (go.sources() / name).glob("*.go"):
+            (tool.folder / name / path.name).write_bytes(path.read_bytes())
+    for name in ("runtime/internal", "internal/runtime"):
+        if (go.sources() / name).exists() and not (tool.folder / name).exists():
+            (tool.folder / name).symlink_to(go.sources() / name)
+    for name, words in changes.items():
+        text = (tool.folder / name).read_text()
+        for old, new in words.items():
+            assert old in text
+            text = text.replace(old, new)
+        (tool.folder / name).write_text(text)
+    run = subprocess.run([points, "fit", tool.folder], capture_output=True, text=True, check=False)
+    return run.returncode, run.stdout.splitlines()
+
+
+def test_what_stands_in_the_way_is_said(tool: Tool) -> None:
+    tool.written(program("\t_ = a"))
+    tool.written("package main\n\nfunc main() {}\n", "none.go")
+    python = str(Path(sys.executable).parent)
+    # (Go 1.21 reads its own cache first, which is below the same folder unless GOCACHE is set)
+    nowhere = {"XDG_CACHE_HOME": "/proc/none", "GOCACHE": str(tool.folder / "go-build")}
+    ways: tuple[tuple[tuple[str, ...], dict[str, str], str], ...] = (
+        (("run", "none.go"), {}, "no socket was opened"),
+        (("run", "missing.go"), {}, "nothing was recorded: Go failed before it ran"),
+        (("run", "main.go"), {"PATH": f"{python}:/nowhere:{tools_without_go(tool)}"}, "apt-get install golang-go"),
+        (("run", "-overlay=x.json", "main.go"), {}, "remove yours"),
+        (("run", "main.go"), {"GOFLAGS": "-overlay=x.json"}, "remove yours"),
+        (("run", "main.go"), {"GOARCH": "arm64"}, "records only linux/amd64"),
+        (("run", "main.go"), nowhere, "set XDG_CACHE_HOME to another folder"),
+        (("--points", "5", "run", "main.go"), {}, "--points is from 16384 to 16777216"),
+        (("--pid", "1", "convert"), {}, "process 1"),
+        (("convert", "nothing.1"), {}, "it can't be read: No such file or directory"),
+    )
+    for words, settings, said in ways:
+        status, told = tool.called(*words, **settings)
+        assert (status == 0) == (said == "no socket was opened"), words
+        assert said in told, words
+        assert "Traceback" not in told, words
+
+
+def test_another_release_is_named_by_function_and_call(tool: Tool) -> None:
+    status, said = fit(tool, {"runtime/netpoll.go": {"gpp.Swap(": "gpp.Exchange("}})
+    assert status == 1
+    unfit = [line for line in said if line.startswith("unfit")]
+    assert unfit == ["unfit runtime/netpoll.go netpollblock: gpp.Swap(...) occurs there 0 times, not 1"]
+
+
+def test_where_the_orders_do_not_fit_all_else_does(tool: Tool) -> None:
+    status, said = fit(
+        tool, {"runtime/chan.go": {"c.recvq.dequeue()": "c.recvq.first()", "chanbuf(c, c.sendx)": "c.at(c.sendx)"}}
+    )
+    assert status == 0
+    assert [line for line in said if not line.startswith("fits")] == [
+        "without the program's orders: runtime/chan.go chansend: chanbuf(c, c.sendx) occurs there 0 times, not 1"
+    ]
+    points, folder = points_program(find_go(), tool.folder), tool.folder / "made"
+    folder.mkdir()
+    subprocess.run([points, "overlay", tool.folder, SOURCES / "log", folder], check=True, capture_output=True)
+    replaced = sorted(path.name for path in folder.glob("*.go"))
+    assert "runtime_chan.go" not in replaced
+    assert "runtime_proc.go" not in replaced
+    assert "runtime_sema.go" in replaced
+
+
+def test_a_place_where_go_passes_and_no_rule_is_doesnt_fit(tool: Tool) -> None:
+    more = "func (fd *FD) readUnlock() {"
+    swap = (
+        "func (mu *fdMutex) try(old, new uint64) bool { return atomic.CompareAndSwapUint64(&mu.state, old, new) }\n\n"
+    )
+    status, said = fit(tool, {"internal/poll/fd_mutex.go": {more: swap + more}})
+    assert status == 1
+    assert [line for line in said if line.startswith("unfit")] == [
+        "unfit internal/poll/fd_mutex.go try: atomic.CompareAndSwap..) occurs there too, and no rule covers it"
+    ]
+
+
+def test_the_doctor_says_that_all_is_well(tool: Tool) -> None:
+    status, said = tool.called("doctor")
+    assert status == 0
+    for told in ("rules: all fit\n", "compiled: ", "trial: the trial recording is correct: "):
+        assert told in said
+    assert "calls: " not in said
+
+
+def test_it_was_tried() -> None:
+    assert release_of(find_go().version)[0] in TRIED
+
+
+def test_the_table_has_each_call_that_it_has() -> None:
+    assert calls_of_go.unknown_calls(find_go()) == []
+    assert {"FD.Read", "FD.Accept", "FD.Writev", "Splice", "SendFile"} <= set(calls_of_go.calls_of(find_go()))
+
+
+def test_a_call_that_no_rule_knows_is_named(tool: Tool) -> None:
+    go = find_go()
+    folder = tool.folder / "src/internal/poll"
+    folder.mkdir(parents=True)
+    for path in (go.sources() / "internal/poll").glob("*.go"):
+        (folder / path.name).write_bytes(path.read_bytes())
+    with (folder / "fd_unix.go").open("a") as file:
+        file.write("\nfunc (fd *FD) ReadTwice(p []byte) (int, error) { return fd.Read(p) }\n")
+    assert calls_of_go.unknown_calls(dataclasses.replace(go, root=tool.folder)) == ["FD.ReadTwice"]
+
+
+def test_what_is_changed_compiles_for_another_processor(monkeypatch: pytest.MonkeyPatch, tool: Tool) -> None:
+    go = find_go()
+    made = str(overlay(go))
+    monkeypatch.setenv("GOARCH", "arm64")
+    run = quiet_go(go, tool.folder, "build", "-overlay", made, *CHANGED)
+    assert (run.returncode, run.stderr) == (0, "")

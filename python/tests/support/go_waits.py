@@ -3,6 +3,10 @@ recorded with each installed release of Go (dev.recorder.fetching), or with the 
 installed. `make real` runs it."""
 
 import os
+from contextlib import ExitStack
+from pathlib import Path
+
+import pytest
 
 from dev.recorder.fetching import SUITES, here
 from netrev.recording import goroutines as where
@@ -125,22 +129,6 @@ TWICE = ("locks", "awaits", "waits", "receives")  # with one object each
 class Waits(Tool):
     lines: SourceLines
 
-    def test_each_release_has_all_waits_and_their_objects(self) -> None:
-        self.written(PROGRAM)
-        folders = [str(folder) for folder in map(here, SUITES) if folder] or [""]
-        for folder in folders:
-            with self.subTest(folder):
-                status, said = self.called("run", "main.go", PATH=f"{folder}:{os.environ['PATH']}", GOTOOLCHAIN="local")
-                self.assertEqual(status, 0, said)
-                steps = len((self.folder / "recording.jsonl").read_text().splitlines()) - 1
-                self.lines = SourceLines.beside(str(self.folder / "recording.jsonl"), steps)
-                self.look_at_waits()
-                self.look_at_timers()
-                self.look_at_channels()
-                self.look_at_makings()
-                self.look_at_holders()
-                self.look_at_dials()
-
     def function_of(self, stack: int) -> str:
         """The innermost function of the program in a stack."""
         calls = self.lines.stacks[stack].calls if stack in self.lines.stacks else ()
@@ -157,21 +145,19 @@ class Waits(Tool):
 
     def look_at_waits(self) -> None:
         found = self.parks()
-        self.assertEqual(
-            {name: len(parks) for name, parks in found.items()}, {name: 1 + (name in TWICE) for name in WAITS}
-        )
+        assert {name: len(parks) for name, parks in found.items()} == {name: 1 + (name in TWICE) for name in WAITS}
         for name, (reason, objects) in WAITS.items():
             for park in found[name]:
                 at = [(self.lines.objects[one.object], one.use) for one in park.objects]
                 described = sorted((of.sort, -1 if reason == where.A_SELECT else of.room, use) for of, use in at)
-                self.assertEqual((name, park.reason, described), (name, reason, sorted(objects)))
+                assert (name, park.reason, described) == (name, reason, sorted(objects))
         numbers = {name: {one.object for park in parks for one in park.objects} for name, parks in found.items()}
-        self.assertEqual([len(numbers[name]) for name in TWICE], [1] * len(TWICE))
-        self.assertEqual(numbers["readLocks"], numbers["writeLocks"])
-        self.assertLess(numbers["receives"], numbers["selects"])
-        self.assertEqual(len(numbers["selects"]), 5)
+        assert [len(numbers[name]) for name in TWICE] == [1] * len(TWICE)
+        assert numbers["readLocks"] == numbers["writeLocks"]
+        assert numbers["receives"] < numbers["selects"]
+        assert len(numbers["selects"]) == 5
         (sleep,) = found["sleeps"]
-        self.assertAlmostEqual(sleep.due - sleep.begin, HOUR, delta=HOUR / 100)
+        assert sleep.due - sleep.begin == pytest.approx(HOUR, abs=HOUR / 100)
 
     def look_at_timers(self) -> None:
         found = self.parks()
@@ -181,10 +167,10 @@ class Waits(Tool):
             by_function.setdefault(self.function_of(timer.stack), []).append(timer)
         for name in ("ticks", "waitsAfter", "calls"):
             (timer,) = by_function[name]
-            self.assertAlmostEqual(timer.due - timer.time, HOUR, delta=HOUR / 100)
+            assert timer.due - timer.time == pytest.approx(HOUR, abs=HOUR / 100)
             (park,) = found[name]
-            self.assertEqual([one.object for one in park.objects] or [0], [timer.object])
-            self.assertEqual(timer.goid, park.goid)
+            assert ([one.object for one in park.objects] or [0]) == [timer.object]
+            assert timer.goid == park.goid
 
     def look_at_channels(self) -> None:
         uses: dict[tuple[str, str], list[ObjectUse]] = {}
@@ -192,11 +178,11 @@ class Waits(Tool):
             for use in several:
                 uses.setdefault((self.function_of(use.stack), use.what), []).append(use)
         (put,) = uses["sends", where.PUT]
-        self.assertEqual(put.often, 2)
+        assert put.often == 2
         (closed,) = uses["closes", where.CLOSED]
         (ended,) = self.ended("ends")
-        self.assertGreaterEqual(ended.end, closed.begin)
-        self.assertEqual(self.ended("locks"), [])
+        assert ended.end >= closed.begin
+        assert self.ended("locks") == []
 
     def look_at_makings(self) -> None:
         found = self.parks()
@@ -204,11 +190,11 @@ class Waits(Tool):
             name: self.lines.made[found[name][0].objects[0].object] for name in ("receivesOfMade", "receives", "ticks")
         }
         functions = {name: self.function_of(making.stack) for name, making in made.items()}
-        self.assertEqual(functions, {"receivesOfMade": "makes", "receives": "main", "ticks": "ticks"})
-        self.assertEqual(made["ticks"].goid, found["ticks"][0].goid)
-        self.assertEqual(made["receives"].goid, made["receivesOfMade"].goid)
+        assert functions == {"receivesOfMade": "makes", "receives": "main", "ticks": "ticks"}
+        assert made["ticks"].goid == found["ticks"][0].goid
+        assert made["receives"].goid == made["receivesOfMade"].goid
         for making in made.values():
-            self.assertGreater(making.time, 0)
+            assert making.time > 0
 
     def look_at_holders(self) -> None:
         """The locks at the end: two mutexes that main has locked, and an RWMutex with one of its two readers and a
@@ -222,21 +208,19 @@ class Waits(Tool):
             number: sorted((one.how, self.function_of(one.stack)) for one in rows) for number, rows in held.items()
         }
         readers = [(where.READ, "reads"), (where.READ, "reads")]
-        self.assertEqual(functions, {at: [("", "main")], shared: [("", "main")], read: [("", "pends"), *readers]})
+        assert functions == {at: [("", "main")], shared: [("", "main")], read: [("", "pends"), *readers]}
         main = {one.goid for rows in held.values() for one in rows if self.function_of(one.stack) != "pends"}
-        self.assertEqual(
-            main, {made.goid for made in self.lines.made.values() if self.function_of(made.stack) == "makes"}
-        )
-        self.assertIn(found["pends"][0].goid, {one.goid for one in held[read]})
+        assert main == {made.goid for made in self.lines.made.values() if self.function_of(made.stack) == "makes"}
+        assert found["pends"][0].goid in {one.goid for one in held[read]}
 
     def look_at_dials(self) -> None:
         dials = [dial for several in self.lines.failed_dials.values() for dial in several]
         found = {self.function_of(dial.stack): (dial.why, dial.address) for dial in dials}
-        self.assertEqual(found, {"isRefused": ("ECONNREFUSED", "127.0.0.1:1"), "isCancelled": ("cancelled", "")})
+        assert found == {"isRefused": ("ECONNREFUSED", "127.0.0.1:1"), "isCancelled": ("cancelled", "")}
         (cancelled,) = (dial for dial in dials if self.function_of(dial.stack) == "isCancelled")
         (closed,) = (use for use in self.lines.uses[cancelled.context] if use.what == where.CLOSED)
-        self.assertEqual(self.function_of(closed.stack), "isCancelled")
-        self.assertLessEqual(closed.end, cancelled.time)
+        assert self.function_of(closed.stack) == "isCancelled"
+        assert closed.end <= cancelled.time
 
     def ended(self, name: str) -> list[GoGoroutine]:
         """The goroutines that waited in a function and have ended."""
@@ -244,3 +228,24 @@ class Waits(Tool):
             park.goid for parks in self.lines.parks.values() for park in parks if self.function_of(park.stack) == name
         }
         return [one for goid in goids if (one := self.lines.goroutines[goid]).end >= 0]
+
+
+@pytest.fixture
+def tool(folder: Path, cleanups: ExitStack) -> Waits:
+    return Waits(folder, cleanups)
+
+
+def test_each_release_has_all_waits_and_their_objects(tool: Waits) -> None:
+    tool.written(PROGRAM)
+    folders = [str(folder) for folder in map(here, SUITES) if folder] or [""]
+    for folder in folders:
+        status, said = tool.called("run", "main.go", PATH=f"{folder}:{os.environ['PATH']}", GOTOOLCHAIN="local")
+        assert status == 0, said
+        steps = len((tool.folder / "recording.jsonl").read_text().splitlines()) - 1
+        tool.lines = SourceLines.beside(str(tool.folder / "recording.jsonl"), steps)
+        tool.look_at_waits()
+        tool.look_at_timers()
+        tool.look_at_channels()
+        tool.look_at_makings()
+        tool.look_at_holders()
+        tool.look_at_dials()

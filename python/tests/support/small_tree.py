@@ -3,13 +3,11 @@
 import contextlib
 import importlib.util
 import io
-import shutil
 import sys
-import tempfile
-import unittest
 from pathlib import Path
 from types import ModuleType
-from unittest import mock
+
+import pytest
 
 SCRIPTS = Path(__file__).resolve().parents[3] / "scripts"
 
@@ -204,21 +202,14 @@ TREE = {
 }
 
 
-class SmallTree(unittest.TestCase):
-    """A test on the small tree in a folder of its own. The tree has one law, and its program is named `counting`."""
+class SmallTree:
+    """The small tree in a folder of its own. The tree has one law, and its program is named `counting`."""
 
-    def setUp(self) -> None:
-        self.top = Path(tempfile.mkdtemp())
-        self.addCleanup(shutil.rmtree, self.top)
-        laws = mock.patch.object(READING, "LAWS", (LAW,))
-        laws.start()
-        self.addCleanup(laws.stop)
-        hunts = mock.patch.object(READING, "HUNTS", ())
-        hunts.start()
-        self.addCleanup(hunts.stop)
-        program = mock.patch.object(VERDICT, "PROGRAM", "counting")
-        program.start()
-        self.addCleanup(program.stop)
+    def __init__(self, folder: Path, monkeypatch: pytest.MonkeyPatch) -> None:
+        self.top = folder
+        monkeypatch.setattr(READING, "LAWS", (LAW,))
+        monkeypatch.setattr(READING, "HUNTS", ())
+        monkeypatch.setattr(VERDICT, "PROGRAM", "counting")
         for path, text in TREE.items():
             self.write(path, text)
 
@@ -247,4 +238,4 @@ class SmallTree(unittest.TestCase):
         """Stores the verdicts of a log."""
         self.write("out/gate.log", log)
         with contextlib.redirect_stdout(io.StringIO()):
-            self.assertEqual(VERDICTS.main(["--root", str(self.top)]), 0)
+            assert VERDICTS.main(["--root", str(self.top)]) == 0

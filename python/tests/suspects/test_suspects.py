@@ -3,8 +3,9 @@ recording; the bugs of the examples and bugs planted at random are listed first;
 suspect."""
 
 import json
-import unittest
 from typing import Any, NamedTuple
+
+import pytest
 
 from dev.fuzz.generators.injections import Bug, BugCount, counted
 from netrev.findings.suspects.found import Suspect
@@ -108,64 +109,64 @@ def shown(recording: Recording) -> list[Suspect]:
     return [suspect for suspect in suspects_of(recording).suspects if suspect.is_shown]
 
 
-class Rules(unittest.TestCase):
-    def test_each_finds_its_bug_and_not_one_that_nearly_is(self) -> None:
-        self.assertEqual(set(PAIRS), {rule.name for rule in RULES})
-        for rule, pair in PAIRS.items():
-            with self.subTest(rule):
-                self.assertEqual([suspect.rule for suspect in shown(recording_of(pair.bad))], [rule])
-                self.assertEqual([suspect.sentence() for suspect in shown(recording_of(pair.good))], [])
+def test_each_finds_its_bug_and_not_one_that_nearly_is() -> None:
+    assert set(PAIRS) == {rule.name for rule in RULES}
+    for rule, pair in PAIRS.items():
+        assert [suspect.rule for suspect in shown(recording_of(pair.bad))] == [rule], rule
+        assert [suspect.sentence() for suspect in shown(recording_of(pair.good))] == [], rule
 
-    def test_each_finds_its_bug_by_itself(self) -> None:
-        for rule in RULES:
-            with self.subTest(rule.name):
-                found = list(rule.suspects(Run(Notes(recording_of(PAIRS[rule.name].bad)))))
-                self.assertEqual({suspect.rule for suspect in found}, {rule.name})
-                near = rule.suspects(Run(Notes(recording_of(PAIRS[rule.name].good))))
-                self.assertEqual([suspect.sentence() for suspect in near if suspect.is_shown], [])
 
-    def test_a_deadline_from_before_the_recording_is_left_behind_if_the_other_side_alone_is_set(self) -> None:
-        before: Steps = [["setdeadline", 0, 0, "r", 4], ["setdeadline", 0, 0, "w", 5]]
-        moves: Steps = [["setdeadline", 0, 0, "r", 60], ["setdeadline", 0, 0, "r", 70]]
-        passes: Steps = [["tick", 9], ["pop"], ["fire", 0]]
-        prelude = len(OPEN + before)
-        for name, steps, begins, expected in (
-            ("left behind", moves, prelude, ["deadline left behind"]),
-            ("in one recording", moves, 0, []),
-            ("moved once", moves[:1], prelude, []),
-            ("moved too", [*moves, ["setdeadline", 0, 0, "w", 5]], prelude, []),
-        ):
-            with self.subTest(name):
-                recording = recording_of(OPEN + before + steps + passes)
-                recording.lines.prelude = begins
-                self.assertEqual([suspect.rule for suspect in shown(recording)], expected)
+@pytest.mark.parametrize("rule", RULES)
+def test_each_finds_its_bug_by_itself(rule: Any) -> None:
+    found = list(rule.suspects(Run(Notes(recording_of(PAIRS[rule.name].bad)))))
+    assert {suspect.rule for suspect in found} == {rule.name}
+    near = rule.suspects(Run(Notes(recording_of(PAIRS[rule.name].good))))
+    assert [suspect.sentence() for suspect in near if suspect.is_shown] == []
 
-    def test_an_error_event_whose_tag_go_compared_is_of_this_use(self) -> None:
-        for has_tags, expected in ((False, ["error event on a reused descriptor"]), (True, [])):
-            recording = recording_of(PAIRS["error event on a reused descriptor"].bad)
-            recording.lines.has_tags = has_tags
-            self.assertEqual([suspect.rule for suspect in shown(recording)], expected)
 
-    def test_the_page_has_the_definition_of_each(self) -> None:
-        page = (EXAMPLES.parent / "docs" / "reference" / "NRDB.md").read_text(encoding="utf-8")
-        table = page.partition("| Rule | Definition |\n|---|---|\n")[2].partition("\n\n")[0].splitlines()
-        rows = [f"| {rule.name} | {rule.definition} |" for rule in (*RULES, *RULES_OF_CALLS)]
-        self.assertEqual(sorted(table), sorted(rows))
+def test_a_deadline_from_before_the_recording_is_left_behind_if_the_other_side_alone_is_set() -> None:
+    before: Steps = [["setdeadline", 0, 0, "r", 4], ["setdeadline", 0, 0, "w", 5]]
+    moves: Steps = [["setdeadline", 0, 0, "r", 60], ["setdeadline", 0, 0, "r", 70]]
+    passes: Steps = [["tick", 9], ["pop"], ["fire", 0]]
+    prelude = len(OPEN + before)
+    for name, steps, begins, expected in (
+        ("left behind", moves, prelude, ["deadline left behind"]),
+        ("in one recording", moves, 0, []),
+        ("moved once", moves[:1], prelude, []),
+        ("moved too", [*moves, ["setdeadline", 0, 0, "w", 5]], prelude, []),
+    ):
+        recording = recording_of(OPEN + before + steps + passes)
+        recording.lines.prelude = begins
+        assert [suspect.rule for suspect in shown(recording)] == expected, name
 
-    def test_the_bug_of_each_example_is_named_first(self) -> None:
-        for example in ALL:
-            if example.name not in REFUSED:  # (there is nothing to examine)
-                with self.subTest(example.name):
-                    found = [suspect.rule for suspect in shown(Recording.read(str(example.path)))]
-                    self.assertEqual(found[:1], [example.suspect] if example.suspect else [])
 
-    def test_planted_bugs_are_named_first_and_good_traffic_has_no_suspect(self) -> None:
-        self.assertEqual(counted(None, range(100, 106)), BugCount())
-        total = BugCount()
-        for bug in Bug:
-            with self.subTest(bug.value):
-                count = counted(bug, range(100, 103))
-                self.assertEqual((count.named, count.besides), (count.first, 0))
-                total += count
-        self.assertGreaterEqual(total.shows, 18)
-        self.assertGreaterEqual(total.first, total.shows - 1)
+def test_an_error_event_whose_tag_go_compared_is_of_this_use() -> None:
+    for has_tags, expected in ((False, ["error event on a reused descriptor"]), (True, [])):
+        recording = recording_of(PAIRS["error event on a reused descriptor"].bad)
+        recording.lines.has_tags = has_tags
+        assert [suspect.rule for suspect in shown(recording)] == expected
+
+
+def test_the_page_has_the_definition_of_each() -> None:
+    page = (EXAMPLES.parent / "docs" / "reference" / "NRDB.md").read_text(encoding="utf-8")
+    table = page.partition("| Rule | Definition |\n|---|---|\n")[2].partition("\n\n")[0].splitlines()
+    rows = [f"| {rule.name} | {rule.definition} |" for rule in (*RULES, *RULES_OF_CALLS)]
+    assert sorted(table) == sorted(rows)
+
+
+def test_the_bug_of_each_example_is_named_first() -> None:
+    for example in ALL:
+        if example.name not in REFUSED:  # (there is nothing to examine)
+            found = [suspect.rule for suspect in shown(Recording.read(str(example.path)))]
+            assert found[:1] == ([example.suspect] if example.suspect else []), example.name
+
+
+def test_planted_bugs_are_named_first_and_good_traffic_has_no_suspect() -> None:
+    assert counted(None, range(100, 106)) == BugCount()
+    total = BugCount()
+    for bug in Bug:
+        count = counted(bug, range(100, 103))
+        assert (count.named, count.besides) == (count.first, 0), bug.value
+        total += count
+    assert total.shows >= 18
+    assert total.first >= total.shows - 1

@@ -2,7 +2,6 @@
 a lock that no goroutine gives up is a suspect. A listener's wait in Go's own Accept isn't a lost wake-up."""
 
 import json
-import unittest
 from typing import Any, Optional
 
 from netrev.findings.suspects.ranking import suspects_of
@@ -43,43 +42,48 @@ def lines_of(steps: Steps, functions: list[str], others: str) -> SourceLines:
     return lines
 
 
-class InCalls(unittest.TestCase):
-    def test_a_call_that_the_end_cut_off_is_not_suspected(self) -> None:
-        for steps in (TAKES, WRITES):
-            for name in ("(*FD).Write", "(*FD).Writev", "SendFile", "(*FD).Accept"):
-                with self.subTest(name, steps=len(steps)):
-                    self.assertEqual(found(steps, [name]), [])
-        self.assertEqual(found(TAKES + SLEEPS, ["(*FD).Write"]), [])
+def test_a_call_that_the_end_cut_off_is_not_suspected() -> None:
+    for steps in (TAKES, WRITES):
+        for name in ("(*FD).Write", "(*FD).Writev", "SendFile", "(*FD).Accept"):
+            assert found(steps, [name]) == [], (name, len(steps))
+    assert found(TAKES + SLEEPS, ["(*FD).Write"]) == []
 
-    def test_without_lines_it_is(self) -> None:
-        for steps in (TAKES, WRITES):
-            self.assertEqual(found(steps, None), ["leaked reference"])
-        self.assertEqual(found(TAKES + SLEEPS, None), ["lock held"])
 
-    def test_without_lines_it_is_not_behind_a_pollreset(self) -> None:
-        for steps in (RESETS, RESETS + SLEEPS):
-            self.assertEqual(found(steps, None), [])
-            self.assertNotEqual(found(steps, ["(*FD).RawWrite"]), [])
-        for before in ([["incref", 1, 0]], [["rwlock", 1, 0, "r"]]):
-            self.assertEqual(found(before + RESETS, None), ["leaked reference"])
+def test_without_lines_it_is() -> None:
+    for steps in (TAKES, WRITES):
+        assert found(steps, None) == ["leaked reference"]
+    assert found(TAKES + SLEEPS, None) == ["lock held"]
 
-    def test_one_in_which_the_program_runs_is(self) -> None:
-        for name in ("(*FD).RawWrite", "(*FD).RawControl", "(*FD).Fsync"):
-            self.assertEqual(found(TAKES, [name]), ["leaked reference"], name)
 
-    def test_one_that_was_left_with_the_lock_is(self) -> None:
-        self.assertEqual(found(WRITES, ["(*FD).Write", "(*FD).Write", "(*FD).Close"]), ["leaked reference"])
+def test_without_lines_it_is_not_behind_a_pollreset() -> None:
+    for steps in (RESETS, RESETS + SLEEPS):
+        assert found(steps, None) == []
+        assert found(steps, ["(*FD).RawWrite"]) != []
+    for before in ([["incref", 1, 0]], [["rwlock", 1, 0, "r"]]):
+        assert found(before + RESETS, None) == ["leaked reference"]
 
-    def test_a_reference_without_a_lock_is(self) -> None:
-        for name in ("(*FD).Write", "(*FD).RawControl"):
-            self.assertEqual(found([["incref", 1, 0]], [name]), ["leaked reference"])
 
-    def test_one_in_a_shutdown_that_the_end_cut_off_is_not(self) -> None:
-        self.assertEqual(found([["incref", 1, 0]], ["(*FD).Shutdown"]), [])
-        self.assertEqual(found([["incref", 1, 0]], None), ["leaked reference"])
+def test_one_in_which_the_program_runs_is() -> None:
+    for name in ("(*FD).RawWrite", "(*FD).RawControl", "(*FD).Fsync"):
+        assert found(TAKES, [name]) == ["leaked reference"], name
 
-    def test_a_listener_that_waits_in_accept_has_lost_no_wake_up(self) -> None:
-        waits = COMES + READ[:2] + PARK
-        self.assertEqual(found(waits, ["(*FD).Accept"]), [])
-        for functions in (["(*FD).RawRead"], None):
-            self.assertEqual(found(waits, functions), ["lost wake-up"])
+
+def test_one_that_was_left_with_the_lock_is() -> None:
+    assert found(WRITES, ["(*FD).Write", "(*FD).Write", "(*FD).Close"]) == ["leaked reference"]
+
+
+def test_a_reference_without_a_lock_is() -> None:
+    for name in ("(*FD).Write", "(*FD).RawControl"):
+        assert found([["incref", 1, 0]], [name]) == ["leaked reference"]
+
+
+def test_one_in_a_shutdown_that_the_end_cut_off_is_not() -> None:
+    assert found([["incref", 1, 0]], ["(*FD).Shutdown"]) == []
+    assert found([["incref", 1, 0]], None) == ["leaked reference"]
+
+
+def test_a_listener_that_waits_in_accept_has_lost_no_wake_up() -> None:
+    waits = COMES + READ[:2] + PARK
+    assert found(waits, ["(*FD).Accept"]) == []
+    for functions in (["(*FD).RawRead"], None):
+        assert found(waits, functions) == ["lost wake-up"]

@@ -4,7 +4,6 @@ to another; statuses equal the model's."""
 import gzip
 import json
 import random
-import unittest
 from functools import lru_cache
 from itertools import chain
 from pathlib import Path
@@ -26,6 +25,8 @@ from netrev.timeline.events_beside import beside
 from netrev.timeline.searched_cells import DEADLINES_AND_CLOCK, STATUSES, searched
 from netrev.timeline.trace import AT_ONCE, Tracing, packed, together, write_events
 from tests.support.modelled import changes_in
+
+pytestmark = pytest.mark.together
 
 EXAMPLES = Path(__file__).resolve().parents[3] / "examples"
 REQUIRED = {
@@ -112,111 +113,112 @@ def statuses_of(events: list[Event], length: int) -> list[dict[int, str]]:
     return found
 
 
-class Trace(unittest.TestCase):
-    def test_has_the_form_and_the_statuses_of_the_model(self) -> None:
-        for seed in range(8):
-            made, worlds = Author(random.Random(f"trace-{seed}")).recording(200)
-            events = traced(Recording(write_plain(made)))
-            self.assertEqual(faults_of(events), [])
-            told = statuses_of(events, len(made.steps))
-            for position, world in enumerate(worlds):
-                busy = {g: status for g, status in enumerate(world.goroutines) if status[0] not in ("idle", "gone")}
-                self.assertEqual(told[position], {g: " ".join(map(str, status)) for g, status in busy.items()})
-
-    def test_of_examples_and_traffic(self) -> None:
-        recordings = [Recording.read(str(path)) for path in sorted(EXAMPLES.glob("real/*.jsonl"))]
-        recordings.append(Recording(traffic().text()))
-        for recording in recordings:
-            events = traced(recording)
-            self.assertEqual(faults_of(events), [])
-            steps = [event for event in events if event.get("cat") == "step"]
-            self.assertEqual([event["args"]["step"] for event in steps], list(range(1, recording.length + 1)))
-            self.assertEqual(
-                [event["name"].split()[0] for event in steps], [values[0] for values in recording.arrays()]
-            )
-
-    def test_begins_where_the_recording_does(self) -> None:
-        recording = Recording.read(str(EXAMPLES / "real/hijacked.jsonl"))
-        whole, length = traced(recording), recording.length
-        for begins in (1, 40, 200, length - 1):
-            recording.lines.prelude = begins
-            events = traced(recording)
-            self.assertEqual(faults_of(events), [])
-            steps = [event["args"] for event in events if event.get("cat") == "step"]
-            self.assertEqual([step["step"] for step in steps], list(range(begins + 1, length + 1)))
-            of_whole = [event["args"] for event in whole if event.get("cat") == "step"]
-            self.assertEqual(steps, of_whole[begins:])
-            self.assertEqual(statuses_of(events, length), [{}] * begins + statuses_of(whole, length)[begins:])
-            self.assertEqual(min(event["ts"] for event in events if "ts" in event), begins)
-            ends = [call["ts"] + call["dur"] for call in whole if call.get("cat") == "call"]
-            later = [call["ts"] + call["dur"] for call in events if call.get("cat") == "call"]
-            self.assertEqual(sorted(later), sorted(end for end in ends if end > begins))
-
-    def test_each_wake_up_is_a_flow(self) -> None:
-        events, world = traced(Recording(traffic().text())), World(traffic().limits)
-        woken = []
-        for number, (kind, *rest) in enumerate(traffic().steps, 1):
-            of_bytes = kind in ("arrive", "syswrite")
-            before, (world, _) = world, apply(
-                world, (kind, *rest[:-1], bytes.fromhex(rest[-1])) if of_bytes else (kind, *rest)
-            )
-            for g, (old, new) in enumerate(zip(before.goroutines, world.goroutines)):
-                if (old[0], new[0]) in (("parked", "swapping"), ("queued", "acquiring")):
-                    woken.append((number, g))
-        self.assertTrue(woken)
-        self.assertEqual(sorted((event["ts"], event["tid"]) for event in events if event["ph"] == "f"), woken)
-
-    def test_lines_of_the_program_stand_at_steps(self) -> None:
-        recording = Recording.read(str(EXAMPLES / "real/hijacked.jsonl"))
-        lines = {
-            event["args"]["step"]: event["args"].get("line", "")
-            for event in traced(recording)
-            if event.get("cat") == "step"
-        }
-        self.assertEqual(lines, {number: recording.lines.words(number) for number in lines})
-        self.assertIn("main.go:34 net.(*conn).SetReadDeadline", lines.values())
-
-    def test_calls_deadlines_the_clock_and_suspects_are_there(self) -> None:
-        for path in sorted(EXAMPLES.glob("real/*.jsonl")):
-            recording = Recording.read(str(path))
-            events = traced(recording)
-            changes = changes_in(recording.data)
-            calls = [(one["tid"], one["ts"] + 1, one["dur"]) for one in events if one.get("cat") == "call"]
-            book = [one for one in run_of(recording).calls if one.last != one.first]
-            end = recording.length + 1
-            self.assertEqual(calls, [(one.goroutine, one.first, (one.last or end) - one.first + 1) for one in book])
-            clock = [(one["ts"], str(one["args"]["ns"])) for one in events if one["ph"] == "C"]
-            self.assertEqual(clock, changes.changes_of("clock"))
-            for one in (one for one in events if one.get("cat") == "deadline"):
-                (title,) = [
-                    name["args"]["name"]
-                    for name in events
-                    if name["ph"] == "M" and name["pid"] == one["pid"] and name.get("tid") == one["tid"]
-                ]
-                cell = f"{title[0]}d {title.split()[-1]}"
-                values = {
-                    changes.value(cell, position) for position in (one["ts"], min(one["ts"] + one["dur"] - 1, end - 1))
-                }
-                self.assertEqual(len(values), 1)
-                self.assertEqual(one["name"] == "has passed", values.pop().startswith("-"))
-            told = [one for one in events if one["ph"] == "i"]
-            found = [one for one in all_suspects_of(recording).suspects if one.is_shown]
-            for suspect in found:
-                names = {one["ts"]: one["name"] for one in told if one["args"]["says"] == suspect.sentence()}
-                self.assertEqual(sorted({suspect.step, *suspect.steps}), sorted(names))
-            self.assertTrue(told, path.stem)
+def test_has_the_form_and_the_statuses_of_the_model() -> None:
+    for seed in range(8):
+        made, worlds = Author(random.Random(f"trace-{seed}")).recording(200)
+        events = traced(Recording(write_plain(made)))
+        assert faults_of(events) == []
+        told = statuses_of(events, len(made.steps))
+        for position, world in enumerate(worlds):
+            busy = {g: status for g, status in enumerate(world.goroutines) if status[0] not in ("idle", "gone")}
+            assert told[position] == {g: " ".join(map(str, status)) for g, status in busy.items()}
 
 
-class Searched(unittest.TestCase):
-    def test_the_first_line_of_each_piece_is_found_too(self) -> None:
-        pieces = [
-            b"1 gor 0 = idle\n1 lock 0 = 2\n",
-            b"2 gor 0 = parked 0 r\n3 rd 0 = -1\n",
-            b"4 clock = 7\nok 4 steps\n",
-        ]
-        changes = RecordedChanges.read(pieces)
-        self.assertEqual(list(searched(changes, STATUSES)), [("1", "gor 0", "idle"), ("2", "gor 0", "parked 0 r")])
-        self.assertEqual(list(searched(changes, DEADLINES_AND_CLOCK)), [("3", "rd 0", "-1"), ("4", "clock", "7")])
+def test_of_examples_and_traffic() -> None:
+    recordings = [Recording.read(str(path)) for path in sorted(EXAMPLES.glob("real/*.jsonl"))]
+    recordings.append(Recording(traffic().text()))
+    for recording in recordings:
+        events = traced(recording)
+        assert faults_of(events) == []
+        steps = [event for event in events if event.get("cat") == "step"]
+        assert [event["args"]["step"] for event in steps] == list(range(1, recording.length + 1))
+        assert [event["name"].split()[0] for event in steps] == [values[0] for values in recording.arrays()]
+
+
+def test_begins_where_the_recording_does() -> None:
+    recording = Recording.read(str(EXAMPLES / "real/hijacked.jsonl"))
+    whole, length = traced(recording), recording.length
+    for begins in (1, 40, 200, length - 1):
+        recording.lines.prelude = begins
+        events = traced(recording)
+        assert faults_of(events) == []
+        steps = [event["args"] for event in events if event.get("cat") == "step"]
+        assert [step["step"] for step in steps] == list(range(begins + 1, length + 1))
+        of_whole = [event["args"] for event in whole if event.get("cat") == "step"]
+        assert steps == of_whole[begins:]
+        assert statuses_of(events, length) == [{}] * begins + statuses_of(whole, length)[begins:]
+        assert min(event["ts"] for event in events if "ts" in event) == begins
+        ends = [call["ts"] + call["dur"] for call in whole if call.get("cat") == "call"]
+        later = [call["ts"] + call["dur"] for call in events if call.get("cat") == "call"]
+        assert sorted(later) == sorted(end for end in ends if end > begins)
+
+
+def test_each_wake_up_is_a_flow() -> None:
+    events, world = traced(Recording(traffic().text())), World(traffic().limits)
+    woken = []
+    for number, (kind, *rest) in enumerate(traffic().steps, 1):
+        of_bytes = kind in ("arrive", "syswrite")
+        before, (world, _) = world, apply(
+            world, (kind, *rest[:-1], bytes.fromhex(rest[-1])) if of_bytes else (kind, *rest)
+        )
+        for g, (old, new) in enumerate(zip(before.goroutines, world.goroutines)):
+            if (old[0], new[0]) in (("parked", "swapping"), ("queued", "acquiring")):
+                woken.append((number, g))
+    assert woken
+    assert sorted((event["ts"], event["tid"]) for event in events if event["ph"] == "f") == woken
+
+
+def test_lines_of_the_program_stand_at_steps() -> None:
+    recording = Recording.read(str(EXAMPLES / "real/hijacked.jsonl"))
+    lines = {
+        event["args"]["step"]: event["args"].get("line", "")
+        for event in traced(recording)
+        if event.get("cat") == "step"
+    }
+    assert lines == {number: recording.lines.words(number) for number in lines}
+    assert "main.go:34 net.(*conn).SetReadDeadline" in lines.values()
+
+
+def test_calls_deadlines_the_clock_and_suspects_are_there() -> None:
+    for path in sorted(EXAMPLES.glob("real/*.jsonl")):
+        recording = Recording.read(str(path))
+        events = traced(recording)
+        changes = changes_in(recording.data)
+        calls = [(one["tid"], one["ts"] + 1, one["dur"]) for one in events if one.get("cat") == "call"]
+        book = [one for one in run_of(recording).calls if one.last != one.first]
+        end = recording.length + 1
+        assert calls == [(one.goroutine, one.first, (one.last or end) - one.first + 1) for one in book]
+        clock = [(one["ts"], str(one["args"]["ns"])) for one in events if one["ph"] == "C"]
+        assert clock == changes.changes_of("clock")
+        for one in (one for one in events if one.get("cat") == "deadline"):
+            (title,) = [
+                name["args"]["name"]
+                for name in events
+                if name["ph"] == "M" and name["pid"] == one["pid"] and name.get("tid") == one["tid"]
+            ]
+            cell = f"{title[0]}d {title.split()[-1]}"
+            values = {
+                changes.value(cell, position) for position in (one["ts"], min(one["ts"] + one["dur"] - 1, end - 1))
+            }
+            assert len(values) == 1
+            assert (one["name"] == "has passed") == values.pop().startswith("-")
+        told = [one for one in events if one["ph"] == "i"]
+        found = [one for one in all_suspects_of(recording).suspects if one.is_shown]
+        for suspect in found:
+            names = {one["ts"]: one["name"] for one in told if one["args"]["says"] == suspect.sentence()}
+            assert sorted({suspect.step, *suspect.steps}) == sorted(names)
+        assert told, path.stem
+
+
+def test_the_first_line_of_each_piece_is_found_too() -> None:
+    pieces = [
+        b"1 gor 0 = idle\n1 lock 0 = 2\n",
+        b"2 gor 0 = parked 0 r\n3 rd 0 = -1\n",
+        b"4 clock = 7\nok 4 steps\n",
+    ]
+    changes = RecordedChanges.read(pieces)
+    assert list(searched(changes, STATUSES)) == [("1", "gor 0", "idle"), ("2", "gor 0", "parked 0 r")]
+    assert list(searched(changes, DEADLINES_AND_CLOCK)) == [("3", "rd 0", "-1"), ("4", "clock", "7")]
 
 
 @pytest.mark.parametrize(("name", "is_packed"), [("x.json", False), ("x.json.gz", True), ("x.gz", True), ("gz", False)])

@@ -3,11 +3,12 @@ when it is back."""
 
 import json
 import sys
-import unittest
 from concurrent.futures import Future
+from contextlib import ExitStack
 from pathlib import Path
 from typing import Any, Callable, Optional
-from unittest import mock
+
+import pytest
 
 from netrev.connection.netrev import Netrev
 from netrev.connection.output import Printer
@@ -22,7 +23,6 @@ from nrdb.web.painting import MOST_WAITING as MOST_PICTURES, Painter
 from nrdb.web.running import MOST_WAITING, Running
 from nrdb.web.serving import UnavailableError
 from nrdb.web.shared import OutputSender, Shared
-from tests.support.folders import folder_of
 from tests.support.modelled import Modelled, changes_at, recording_at
 
 EXAMPLES = Path(__file__).resolve().parents[3] / "examples"
@@ -52,11 +52,14 @@ class Streams:
         return taken
 
 
-class Played(unittest.TestCase):
-    def setUp(self) -> None:
-        patched = mock.patch("nrdb.web.running.EVERY", 0.0)
-        patched.start()
-        self.addCleanup(patched.stop)
+GONE = "netrev has ended: lines aren't answered until it is back"
+
+
+class Page:
+    """The session of the page, over a model of netrev."""
+
+    def __init__(self, monkeypatch: pytest.MonkeyPatch) -> None:
+        monkeypatch.setattr("nrdb.web.running.EVERY", 0.0)
         self.streams, self.interrupts = Streams(), Interrupts()
         self.netrev = self.modelled()
         scout = Scout(self.modelled)
@@ -95,193 +98,196 @@ class Played(unittest.TestCase):
         """Moves the session from another front."""
         self.netrev._session.answer(line)
 
-
-class Moves(Played):
-    def test_a_line_is_told_with_who_moved_to_where(self) -> None:
-        events = self.types("stepi 6")
-        self.assertEqual(events[0], {"event": "line", "who": "browser 1", "line": "stepi 6"})
-        self.assertEqual(events[1], {"event": "said", "of": "reply", "lines": ["at 6"]})
-        moved = {"event": "moved", "who": "browser 1", "line": "stepi 6", "from": 0, "to": 6}
-        stands = {"event": "stands", "position": 6, "steps": 10, "direction": "forward"}
-        self.assertEqual(events[2:4], [moved, stands])
-        self.assertEqual(events[4]["of"], "place")
-        self.assertEqual(events[-1], {"event": "answered", "who": "browser 1", "line": "stepi 6"})
-
-    def test_each_part_of_a_line_is_a_move_of_its_own(self) -> None:
-        events = self.types("goto 3; reverse-stepi; until lock 0 18; print lock 0", "browser 7")
-        moves = [tuple(event.values())[1:] for event in events if event["event"] == "moved"]
-        self.assertEqual(
-            moves,
-            [
-                ("browser 7", "goto 3", 0, 3),
-                ("browser 7", "reverse-stepi", 3, 2),
-                ("browser 7", "until lock 0 18", 2, 5),
-            ],
-        )
-
-    def test_others_are_seen_where_they_left_the_session(self) -> None:
-        self.elsewhere(b"stepi 2")
-        self.elsewhere(b"stepi 2")
-        events = self.look()
-        self.assertEqual(events[0], {"event": "moved", "who": "another front", "line": None, "from": 0, "to": 4})
-        self.assertEqual(events[1], {"event": "stands", "position": 4, "steps": 10, "direction": "forward"})
-        self.assertEqual(self.look(), [])
-        self.elsewhere(b"set exec-direction reverse")
-        self.assertEqual([event["direction"] for event in self.look()], ["reverse"])
-
-    def test_others_are_seen_before_a_line_is_answered(self) -> None:
-        self.elsewhere(b"stepi 4")
-        events = [event for event in self.types("stepi") if event["event"] == "moved"]
-        self.assertEqual([(event["who"], event["from"], event["to"]) for event in events][0], ("another front", 0, 4))
-        self.assertEqual([(event["who"], event["from"], event["to"]) for event in events][1], ("browser 1", 4, 5))
-
-    def test_marks_are_told_when_they_change(self) -> None:
-        events = self.types("watch lock 0; tbreak @7")
-        marks = [{"mark": 1, "what": "watch lock 0"}, {"mark": 2, "what": "tbreak @7"}]
-        self.assertIn({"event": "marks", "marks": marks}, events)
-        self.elsewhere(b"delete 1")
-        self.assertEqual(self.look(), [{"event": "marks", "marks": marks[1:]}])
-
-    def test_nobody_listens(self) -> None:
-        self.streams.browsers = 0
-        self.elsewhere(b"stepi 2")
-        self.assertEqual(self.look(), [])
-
-
-class NotHere(Played):
-    def test_files_several_lines_and_the_end(self) -> None:
-        for line in (
-            "source /etc/passwd",
-            "timeline x.html",
-            "trace x.json",
-            "reduce x.jsonl",
-            "report x.md",
-            "rep x.md",
-        ):
-            self.assertEqual(self.says(line), [f"| {NO_FILES}"], line)
-        self.types("break @3")
-        self.assertEqual(self.says("commands 1"), [f"| {NO_COMMANDS}"])
-        for line in ("quit", "q", "exit", "qui", "stepi; quit"):
-            self.assertEqual(self.says(line)[-1], f"| {NO_QUIT}")
-        self.assertEqual(self.says("info position")[0], "at 1 of 10 forward")
-
-    def test_a_line_that_is_none_of_nrdbs(self) -> None:
-        self.assertEqual(self.says("nonsense")[0], "fault 201 unknown command")
-        self.assertEqual(
-            self.says("info holders"),
-            ["| info holders S: which goroutines hold references of socket S, and since which step"],
-        )
-        self.assertEqual(self.says(""), [])
-        self.assertEqual(self.says("#comment"), [])
-
-    def test_too_many_lines_wait(self) -> None:
-        for _ in range(MOST_WAITING):
-            self.running.post("browser 1", "info position")
-        with self.assertRaisesRegex(UnavailableError, f"{MOST_WAITING} lines wait"):
-            self.running.post("browser 2", "info position")
+    def completions(self, line: str) -> list[str]:
+        completing = self.running.complete(line)
         self.running.turn()
-        self.running.post("browser 2", "info position")
+        completions: list[str] = json.loads(completing.result(0))
+        return completions
 
 
-class Completed(Played):
-    def found(self, line: str) -> list[str]:
-        wanted = self.running.complete(line)
-        self.running.turn()
-        found: list[str] = json.loads(wanted.result(0))
-        return found
-
-    def test_words_cells_and_numbers(self) -> None:
-        self.assertEqual(self.found("rest"), ["restart"])
-        self.assertEqual(self.found("info sus"), ["suspects"])
-        self.assertEqual(self.found("stepi 3; print lo"), ["lock"])
-        self.assertEqual(self.found("print gor "), ["0"])
-        self.types("stepi 6")
-        self.assertEqual(self.found("print gor "), ["0", "1", "2"])
-        self.assertEqual(self.found("print gor 1 "), ["idle", *self.found("print gor 1 ")[1:]])
-        self.assertEqual(self.found("nonsense x"), [])
-        self.assertEqual(self.streams.take(), [])
-
-    def test_netrev_is_gone(self) -> None:
-        self.netrev.has_ended = True
-        self.assertEqual(self.found("print gor "), [])
-        self.assertEqual([event["event"] for event in self.streams.take()], ["netrev"])
-        self.assertEqual(self.found("print gor "), [])
+@pytest.fixture
+def web(monkeypatch: pytest.MonkeyPatch) -> Page:
+    return Page(monkeypatch)
 
 
-class Stopped(Played):
-    def test_a_walk_is_stopped_and_the_session_goes_on(self) -> None:
-        def stopped(_: Optional[int]) -> None:
-            self.interrupts.press()  # Ctrl-C in nrdb's terminal
-            self.interrupts.check()
-
-        with mock.patch.object(CHANGES, "_wait", stopped):
-            self.assertEqual(self.says("history lock 0 all"), ["| interrupted; the session goes on"])
-        self.assertEqual(self.says("stepi 2")[0], "at 2")
-
-
-class Gone(Played):
-    GONE = "netrev has ended: lines aren't answered until it is back"
-
-    def test_it_is_said_and_lines_arent_answered(self) -> None:
-        self.running.post("browser 2", "print clock")  # accepted before the page knows that netrev has ended
-        self.netrev.has_ended = True
-        self.assertEqual(
-            self.look()[-2:], [{"event": "netrev", "there": False, "says": self.GONE}, self.unanswered("print clock")]
-        )
-        with self.assertRaisesRegex(UnavailableError, "netrev has ended"):
-            self.running.post("browser 1", "stepi")
-        self.assertEqual(self.look(), [])
-
-    def unanswered(self, line: str) -> dict[str, Any]:
-        return {"event": "unanswered", "who": "browser 2", "line": line, "why": self.GONE}
-
-    def test_a_look_finds_it_gone(self) -> None:
-        self.netrev.has_ended = True
-        self.assertEqual(self.look(), [{"event": "netrev", "there": False, "says": self.GONE}])
-
-    def test_it_goes_on_where_the_next_one_stands(self) -> None:
-        self.types("stepi 6")
-        self.netrev.has_ended = True
-        self.look()
-        self.assertEqual(self.look(), [])
-        again = self.modelled()
-        again._session.answer(b"stepi 2")
-        again._session.answer(b"watch lock 0")
-        self.opened = lambda _: again
-        events = self.look()
-        self.assertEqual(events[0], {"event": "said", "of": "reply", "lines": ["at 2 of 10 forward"]})
-        self.assertIn({"event": "stands", "position": 2, "steps": 10, "direction": "forward"}, events)
-        self.assertIn({"event": "marks", "marks": [{"mark": 1, "what": "watch lock 0"}]}, events)
-        self.assertEqual((events[-1]["event"], events[-1]["there"]), ("netrev", True))
-        self.assertEqual([event for event in events if event["event"] == "moved"], [])
-        self.assertEqual(self.says("stepi")[0], "at 3")
-
-    def test_another_recording_is_served_there(self) -> None:
-        self.netrev.has_ended = True
-        self.look()
-        self.opened = lambda _: Modelled(OTHER_MODEL, self.interrupts, lambda _: None)
-        (told,) = self.look()
-        self.assertIn("the recording has 10 steps, but the session's has 22", told["says"])
-        with self.assertRaises(UnavailableError):
-            self.running.post("browser 1", "stepi")
-
-    def test_what_answers_there_isnt_netrev(self) -> None:
-        strange = self.modelled()
-        self.netrev.has_ended = True
-        self.look()
-        with mock.patch.object(Modelled, "_next", lambda *_: "220 mail.example ESMTP"):
-            self.opened = lambda _: strange
-            (told,) = self.look()
-        self.assertIn("the other program isn't netrev", told["says"])
-        self.assertTrue(strange.has_ended)
+def test_a_line_is_told_with_who_moved_to_where(web: Page) -> None:
+    events = web.types("stepi 6")
+    assert events[0] == {"event": "line", "who": "browser 1", "line": "stepi 6"}
+    assert events[1] == {"event": "said", "of": "reply", "lines": ["at 6"]}
+    moved = {"event": "moved", "who": "browser 1", "line": "stepi 6", "from": 0, "to": 6}
+    stands = {"event": "stands", "position": 6, "steps": 10, "direction": "forward"}
+    assert events[2:4] == [moved, stands]
+    assert events[4]["of"] == "place"
+    assert events[-1] == {"event": "answered", "who": "browser 1", "line": "stepi 6"}
 
 
-class Pictures(Played):
+def test_each_part_of_a_line_is_a_move_of_its_own(web: Page) -> None:
+    events = web.types("goto 3; reverse-stepi; until lock 0 18; print lock 0", "browser 7")
+    moves = [tuple(event.values())[1:] for event in events if event["event"] == "moved"]
+    assert moves == [
+        ("browser 7", "goto 3", 0, 3),
+        ("browser 7", "reverse-stepi", 3, 2),
+        ("browser 7", "until lock 0 18", 2, 5),
+    ]
+
+
+def test_others_are_seen_where_they_left_the_session(web: Page) -> None:
+    web.elsewhere(b"stepi 2")
+    web.elsewhere(b"stepi 2")
+    events = web.look()
+    assert events[0] == {"event": "moved", "who": "another front", "line": None, "from": 0, "to": 4}
+    assert events[1] == {"event": "stands", "position": 4, "steps": 10, "direction": "forward"}
+    assert web.look() == []
+    web.elsewhere(b"set exec-direction reverse")
+    assert [event["direction"] for event in web.look()] == ["reverse"]
+
+
+def test_others_are_seen_before_a_line_is_answered(web: Page) -> None:
+    web.elsewhere(b"stepi 4")
+    events = [event for event in web.types("stepi") if event["event"] == "moved"]
+    assert [(event["who"], event["from"], event["to"]) for event in events][0] == ("another front", 0, 4)
+    assert [(event["who"], event["from"], event["to"]) for event in events][1] == ("browser 1", 4, 5)
+
+
+def test_marks_are_told_when_they_change(web: Page) -> None:
+    events = web.types("watch lock 0; tbreak @7")
+    marks = [{"mark": 1, "what": "watch lock 0"}, {"mark": 2, "what": "tbreak @7"}]
+    assert {"event": "marks", "marks": marks} in events
+    web.elsewhere(b"delete 1")
+    assert web.look() == [{"event": "marks", "marks": marks[1:]}]
+
+
+def test_nobody_listens(web: Page) -> None:
+    web.streams.browsers = 0
+    web.elsewhere(b"stepi 2")
+    assert web.look() == []
+
+
+def test_files_several_lines_and_the_end(web: Page) -> None:
+    for line in (
+        "source /etc/passwd",
+        "timeline x.html",
+        "trace x.json",
+        "reduce x.jsonl",
+        "report x.md",
+        "rep x.md",
+    ):
+        assert web.says(line) == [f"| {NO_FILES}"], line
+    web.types("break @3")
+    assert web.says("commands 1") == [f"| {NO_COMMANDS}"]
+    for line in ("quit", "q", "exit", "qui", "stepi; quit"):
+        assert web.says(line)[-1] == f"| {NO_QUIT}"
+    assert web.says("info position")[0] == "at 1 of 10 forward"
+
+
+def test_a_line_that_is_none_of_nrdbs(web: Page) -> None:
+    assert web.says("nonsense")[0] == "fault 201 unknown command"
+    assert web.says("info holders") == [
+        "| info holders S: which goroutines hold references of socket S, and since which step"
+    ]
+    assert web.says("") == []
+    assert web.says("#comment") == []
+
+
+def test_too_many_lines_wait(web: Page) -> None:
+    for _ in range(MOST_WAITING):
+        web.running.post("browser 1", "info position")
+    with pytest.raises(UnavailableError, match=f"{MOST_WAITING} lines wait"):
+        web.running.post("browser 2", "info position")
+    web.running.turn()
+    web.running.post("browser 2", "info position")
+
+
+def test_words_cells_and_numbers(web: Page) -> None:
+    assert web.completions("rest") == ["restart"]
+    assert web.completions("info sus") == ["suspects"]
+    assert web.completions("stepi 3; print lo") == ["lock"]
+    assert web.completions("print gor ") == ["0"]
+    web.types("stepi 6")
+    assert web.completions("print gor ") == ["0", "1", "2"]
+    assert web.completions("print gor 1 ") == ["idle", *web.completions("print gor 1 ")[1:]]
+    assert web.completions("nonsense x") == []
+    assert web.streams.take() == []
+
+
+def test_netrev_is_gone(web: Page) -> None:
+    web.netrev.has_ended = True
+    assert web.completions("print gor ") == []
+    assert [event["event"] for event in web.streams.take()] == ["netrev"]
+    assert web.completions("print gor ") == []
+
+
+def test_a_walk_is_stopped_and_the_session_goes_on(monkeypatch: pytest.MonkeyPatch, web: Page) -> None:
+    def stopped(_: Optional[int]) -> None:
+        web.interrupts.press()  # Ctrl-C in nrdb's terminal
+        web.interrupts.check()
+
+    with monkeypatch.context() as patch:
+        patch.setattr(CHANGES, "_wait", stopped)
+        assert web.says("history lock 0 all") == ["| interrupted; the session goes on"]
+    assert web.says("stepi 2")[0] == "at 2"
+
+
+def test_it_is_said_and_lines_arent_answered(web: Page) -> None:
+    web.running.post("browser 2", "print clock")  # accepted before the page knows that netrev has ended
+    web.netrev.has_ended = True
+    unanswered = {"event": "unanswered", "who": "browser 2", "line": "print clock", "why": GONE}
+    assert web.look()[-2:] == [{"event": "netrev", "there": False, "says": GONE}, unanswered]
+    with pytest.raises(UnavailableError, match="netrev has ended"):
+        web.running.post("browser 1", "stepi")
+    assert web.look() == []
+
+
+def test_a_look_finds_it_gone(web: Page) -> None:
+    web.netrev.has_ended = True
+    assert web.look() == [{"event": "netrev", "there": False, "says": GONE}]
+
+
+def test_it_goes_on_where_the_next_one_stands(web: Page) -> None:
+    web.types("stepi 6")
+    web.netrev.has_ended = True
+    web.look()
+    assert web.look() == []
+    again = web.modelled()
+    again._session.answer(b"stepi 2")
+    again._session.answer(b"watch lock 0")
+    web.opened = lambda _: again
+    events = web.look()
+    assert events[0] == {"event": "said", "of": "reply", "lines": ["at 2 of 10 forward"]}
+    assert {"event": "stands", "position": 2, "steps": 10, "direction": "forward"} in events
+    assert {"event": "marks", "marks": [{"mark": 1, "what": "watch lock 0"}]} in events
+    assert (events[-1]["event"], events[-1]["there"]) == ("netrev", True)
+    assert [event for event in events if event["event"] == "moved"] == []
+    assert web.says("stepi")[0] == "at 3"
+
+
+def test_another_recording_is_served_there(web: Page) -> None:
+    web.netrev.has_ended = True
+    web.look()
+    web.opened = lambda _: Modelled(OTHER_MODEL, web.interrupts, lambda _: None)
+    (told,) = web.look()
+    assert "the recording has 10 steps, but the session's has 22" in told["says"]
+    with pytest.raises(UnavailableError):
+        web.running.post("browser 1", "stepi")
+
+
+def test_what_answers_there_isnt_netrev(monkeypatch: pytest.MonkeyPatch, web: Page) -> None:
+    strange = web.modelled()
+    web.netrev.has_ended = True
+    web.look()
+    monkeypatch.setattr(Modelled, "_next", lambda *_: "220 mail.example ESMTP")
+    web.opened = lambda _: strange
+    (told,) = web.look()
+    assert "the other program isn't netrev" in told["says"]
+    assert strange.has_ended
+
+
+class Pictures(Page):
     """The picture, made in a separate process with the model instead of netrev."""
 
-    def setUp(self) -> None:
-        super().setUp()
-        folder = folder_of(self)
+    def __init__(self, folder: Path, monkeypatch: pytest.MonkeyPatch, cleanups: ExitStack) -> None:
+        super().__init__(monkeypatch)
+        self.cleanups = cleanups
         program = folder / "netrev"
         program.write_text(
             f'#!/bin/sh\nexec {sys.executable} {EXAMPLES.parent / "python"} netrev.model "$@"\n', encoding="ascii"
@@ -292,60 +298,69 @@ class Pictures(Played):
 
     def painter(self, path: Path) -> Painter:
         painter = Painter(self.program, str(path), self.told.append)
-        self.addCleanup(painter.drop)
+        self.cleanups.callback(painter.drop)
         self.running._painter = painter
         return painter
 
     def made(self, wanted: "Future[bytes]") -> Any:
         return json.loads(wanted.result(PATIENCE))
 
-    def test_it_is_made_once_while_lines_are_answered(self) -> None:
-        painter = self.painter(FIRST)
-        wanted = self.running.timeline()
-        self.assertEqual(self.says("stepi 3")[0], "at 3")
-        first = self.made(wanted)
-        self.assertEqual((first["length"], first["first"], first["last"]), (10, 0, 10))
-        self.assertEqual(first["name"], "first.jsonl")
-        self.assertEqual(
-            self.told, [f"the picture, {at} of {len(STAGES)}: {says}" for at, says in enumerate(STAGES, 1)]
-        )
-        painter._process.kill()  # type: ignore
-        self.assertEqual(self.made(self.running.timeline()), first)
 
-    def test_a_part_has_the_values_of_its_positions(self) -> None:
-        self.painter(FIRST)
-        part, whole = self.made(self.running.part(2, 7)), self.made(self.running.timeline())
-        self.assertEqual((part["first"], part["last"], len(part["steps"])), (2, 7, 7))
-        self.assertEqual(part["steps"], whole["steps"][2:9])
-        for cell, runs in part["cells"].items():
-            self.assertEqual(runs[0][1], [value for at, value in whole["cells"][cell] if at <= 2][-1])
-        for first, last in ((3, 2), (0, 11), (-1, 4)):
-            with self.assertRaisesRegex(UnavailableError, f"at most {MOST} steps, from 0 to 10"):
-                self.running.part(first, last)
+@pytest.fixture
+def pictures(folder: Path, monkeypatch: pytest.MonkeyPatch, cleanups: ExitStack) -> Pictures:
+    return Pictures(folder, monkeypatch, cleanups)
 
-    def test_what_makes_it_ends_and_is_begun_anew(self) -> None:
-        painter = self.painter(FIRST)
-        first = self.made(self.running.timeline())
-        painter._process.kill()  # type: ignore
-        painter._process.wait()  # type: ignore
-        self.assertEqual(self.made(self.running.part(0, 10))["cells"], first["cells"])
 
-    def test_why_there_is_none(self) -> None:
-        self.painter(EXAMPLES / "other-answer.jsonl")
-        with self.assertRaisesRegex(UnavailableError, "step 11: fault 109 answer"):
-            self.made(self.running.timeline())
-        self.painter(EXAMPLES / "nothing.jsonl")
-        with self.assertRaisesRegex(UnavailableError, "nothing.jsonl"):
-            self.made(self.running.timeline())
+def test_it_is_made_once_while_lines_are_answered(pictures: Pictures) -> None:
+    painter = pictures.painter(FIRST)
+    wanted = pictures.running.timeline()
+    assert pictures.says("stepi 3")[0] == "at 3"
+    first = pictures.made(wanted)
+    assert (first["length"], first["first"], first["last"]) == (10, 0, 10)
+    assert first["name"] == "first.jsonl"
+    assert pictures.told == [f"the picture, {at} of {len(STAGES)}: {says}" for at, says in enumerate(STAGES, 1)]
+    painter._process.kill()  # type: ignore
+    assert pictures.made(pictures.running.timeline()) == first
 
-    def test_too_many_are_waited_for(self) -> None:
-        self.painter(FIRST)
-        with mock.patch.object(Painter, "_run", lambda _: None):
-            for _ in range(MOST_PICTURES):
-                self.running.timeline()
-            with self.assertRaisesRegex(UnavailableError, f"{MOST_PICTURES} pictures"):
-                self.running.timeline()
 
-    def test_without_the_recording_there_is_none(self) -> None:
-        with self.assertRaisesRegex(UnavailableError, "name its file after --join"):
-            self.running.timeline()
+def test_a_part_has_the_values_of_its_positions(pictures: Pictures) -> None:
+    pictures.painter(FIRST)
+    part, whole = pictures.made(pictures.running.part(2, 7)), pictures.made(pictures.running.timeline())
+    assert (part["first"], part["last"], len(part["steps"])) == (2, 7, 7)
+    assert part["steps"] == whole["steps"][2:9]
+    for cell, runs in part["cells"].items():
+        assert runs[0][1] == [value for at, value in whole["cells"][cell] if at <= 2][-1]
+    for first, last in ((3, 2), (0, 11), (-1, 4)):
+        with pytest.raises(UnavailableError, match=f"at most {MOST} steps, from 0 to 10"):
+            pictures.running.part(first, last)
+
+
+def test_what_makes_it_ends_and_is_begun_anew(pictures: Pictures) -> None:
+    painter = pictures.painter(FIRST)
+    first = pictures.made(pictures.running.timeline())
+    painter._process.kill()  # type: ignore
+    painter._process.wait()  # type: ignore
+    assert pictures.made(pictures.running.part(0, 10))["cells"] == first["cells"]
+
+
+def test_why_there_is_none(pictures: Pictures) -> None:
+    pictures.painter(EXAMPLES / "other-answer.jsonl")
+    with pytest.raises(UnavailableError, match="step 11: fault 109 answer"):
+        pictures.made(pictures.running.timeline())
+    pictures.painter(EXAMPLES / "nothing.jsonl")
+    with pytest.raises(UnavailableError, match="nothing.jsonl"):
+        pictures.made(pictures.running.timeline())
+
+
+def test_too_many_are_waited_for(monkeypatch: pytest.MonkeyPatch, pictures: Pictures) -> None:
+    pictures.painter(FIRST)
+    monkeypatch.setattr(Painter, "_run", lambda _: None)
+    for _ in range(MOST_PICTURES):
+        pictures.running.timeline()
+    with pytest.raises(UnavailableError, match=f"{MOST_PICTURES} pictures"):
+        pictures.running.timeline()
+
+
+def test_without_the_recording_there_is_none(pictures: Pictures) -> None:
+    with pytest.raises(UnavailableError, match="name its file after --join"):
+        pictures.running.timeline()

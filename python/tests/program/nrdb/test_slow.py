@@ -1,7 +1,7 @@
 """While nrdb waits for a slow netrev, Ctrl-C is pressed once or twice, or netrev is killed. The tests do this at each
 point in a conversation with the built program, with the session's netrev and with the one that the scout uses."""
 
-import unittest
+import pytest
 
 from dev.fuzz.sessions.interrupts import confined, heard, pressed, settle
 from dev.fuzz.sessions.slow import Slow
@@ -36,7 +36,13 @@ class EveryPoint(Disturbances[Slow]):
     def settle(self) -> None:
         settle()
 
-    def test_a_slow_netrev_is_told_right(self) -> None:
-        with confined():
-            given_up = self.check(COMMANDS, (slow_and_interrupted, slow_and_given_up, slow_and_killed))
-        self.assertGreater(given_up, 20)  # (on a busy machine, two Ctrl-C may arrive as one)
+
+@pytest.fixture
+def disturbances(monkeypatch: pytest.MonkeyPatch) -> EveryPoint:
+    return EveryPoint(monkeypatch)
+
+
+def test_a_slow_netrev_is_told_right(disturbances: EveryPoint) -> None:
+    with confined():
+        given_up = disturbances.check(COMMANDS, (slow_and_interrupted, slow_and_given_up, slow_and_killed))
+    assert given_up > 20  # (on a busy machine, two Ctrl-C may arrive as one)

@@ -5,9 +5,10 @@ import json
 import pathlib
 import re
 import shutil
-import unittest
+from contextlib import ExitStack
 from typing import Any
-from unittest import mock
+
+import pytest
 
 from netrev.recording.recording import Recording
 from netrev_go import tested
@@ -18,6 +19,7 @@ from netrev_go.steps.converting import Conversion
 from tests.go_command import test_go_tests
 from tests.program.nrdb.common.support import EXAMPLES
 from tests.program.support.sharing import NETREV
+from tests.support.stubs import raising
 
 HOSTILE = "</script><script>alert(1)</script>\x1b[31m"
 CALLS = {0: Calls((LineCall(f"main.{HOSTILE}", f"{HOSTILE}.go", 7, OF_THE_PROGRAM),), None)}
@@ -27,12 +29,12 @@ SECONDS = "600"  # far more time than its schedules take
 
 
 class Behind(test_go_tests.Tested):
-    def setUp(self) -> None:
-        super().setUp()
+    """A package whose recordings the built netrev checks."""
+
+    def __init__(self, folder: pathlib.Path, monkeypatch: pytest.MonkeyPatch, cleanups: ExitStack) -> None:
+        super().__init__(folder, monkeypatch, cleanups)
         for module in (report, tested):
-            patched = mock.patch.object(module, "netrev_program", lambda: str(NETREV))
-            patched.start()
-            self.addCleanup(patched.stop)
+            monkeypatch.setattr(module, "netrev_program", lambda: str(NETREV))
 
     def lines(self) -> list[dict[str, Any]]:
         """The lines of --json about the tests that have a recording."""
@@ -40,103 +42,115 @@ class Behind(test_go_tests.Tested):
         return [line for line in told if line["recording"]]
 
 
-class Pages(Behind):
-    def test_the_timeline_is_beside_the_recording_of_a_test_that_failed(self) -> None:
-        with mock.patch.object(converting, "lines_of", lambda *_: CALLS):
-            status, _, said = self.told("--html", "--json", "a.json", "test", ".")
-        self.assertEqual(status, 1, said)
-        pages = sorted(path.name for path in (self.folder / "recordings").glob("*.html"))
-        self.assertEqual(pages, ["toy.TestRed.a_part.html"], said)
-        (told,) = self.lines()
-        self.assertEqual(told["page"], f"recordings/{pages[0]}")
-        text = pathlib.Path(told["page"]).read_text()
-        found = DATA.search(text)
-        assert found, text
-        data, recording = json.loads(found[1]), Recording.read(told["recording"])
-        self.assertEqual((data["first"], data["last"], data["name"]), (0, recording.length, "toy.TestRed.a_part.jsonl"))
-        self.assertEqual(
-            [step.split()[0] for step in data["steps"][1:-1]],
-            [recording.step(number).kind for number in range(1, recording.length + 1)],
-        )
-        self.assertTrue(data["rows"])
-
-    def test_no_text_of_the_program_is_obeyed_there(self) -> None:
-        with mock.patch.object(converting, "lines_of", lambda *_: CALLS):
-            self.told("--html", "test", ".")
-        text = (self.folder / "recordings/toy.TestRed.a_part.html").read_text()
-        found = DATA.search(text)
-        assert found, text
-        shown = HOSTILE.replace("\x1b", r"\x1b")
-        self.assertIn(f"{shown}.go:7 main.{shown}", json.loads(found[1])["lines"]["texts"])
-        self.assertNotIn("\x1b", text)
-        self.assertNotIn("<script>alert", text)
-
-    def test_without_the_word_there_is_none(self) -> None:
-        self.told("test", ".")
-        self.assertEqual(list((self.folder / "recordings").glob("*.html")), [])
-
-    def test_a_page_that_cannot_be_made_is_said_and_changes_nothing(self) -> None:
-        (self.folder / "recordings/toy.TestRed.a_part.html").mkdir(parents=True)
-        status, _, said = self.told("--html", "--json", "a.json", "test", ".", status=1)
-        self.assertEqual(status, 1)
-        self.assertIn("netrev-go: recordings/toy.TestRed.a_part.html can't be made: ", said)
-        self.assertEqual([line["page"] for line in self.lines()], [None])
+@pytest.fixture
+def package(folder: pathlib.Path, monkeypatch: pytest.MonkeyPatch, cleanups: ExitStack) -> Behind:
+    return Behind(folder, monkeypatch, cleanups)
 
 
-class Explored(Behind):
-    """A run of tests that passed, with a recording that hangs in another schedule."""
+def test_the_timeline_is_beside_the_recording_of_a_test_that_failed(
+    monkeypatch: pytest.MonkeyPatch, package: Behind
+) -> None:
+    monkeypatch.setattr(converting, "lines_of", lambda *_: CALLS)
+    status, _, said = package.told("--html", "--json", "a.json", "test", ".")
+    assert status == 1, said
+    pages = sorted(path.name for path in (package.folder / "recordings").glob("*.html"))
+    assert pages == ["toy.TestRed.a_part.html"], said
+    (told,) = package.lines()
+    assert told["page"] == f"recordings/{pages[0]}"
+    text = pathlib.Path(told["page"]).read_text()
+    found = DATA.search(text)
+    assert found, text
+    data, recording = json.loads(found[1]), Recording.read(told["recording"])
+    assert (data["first"], data["last"], data["name"]) == (0, recording.length, "toy.TestRed.a_part.jsonl")
+    assert [step.split()[0] for step in data["steps"][1:-1]] == [
+        recording.step(number).kind for number in range(1, recording.length + 1)
+    ]
+    assert data["rows"]
 
-    def explored(self, *words: str, status: int = 0, recording: pathlib.Path = GOOD) -> tuple[int, str]:
-        """The status and the output of netrev-go if TestGreen has this recording."""
-        (self.folder / "lines").write_text(
-            "1 1 5 package example.org/toy\n3 20 1 runs TestGreen\n14 20 3 ends TestGreen\n"
-        )
 
-        def converted(_: object, name: pathlib.Path, *__: object, **___: object) -> Conversion:
-            shutil.copy(recording, name)
-            return Conversion(True, [f"{name}: ok"])
+def test_no_text_of_the_program_is_obeyed_there(monkeypatch: pytest.MonkeyPatch, package: Behind) -> None:
+    monkeypatch.setattr(converting, "lines_of", lambda *_: CALLS)
+    package.told("--html", "test", ".")
+    text = (package.folder / "recordings/toy.TestRed.a_part.html").read_text()
+    found = DATA.search(text)
+    assert found, text
+    shown = HOSTILE.replace("\x1b", r"\x1b")
+    assert f"{shown}.go:7 main.{shown}" in json.loads(found[1])["lines"]["texts"]
+    assert "\x1b" not in text
+    assert "<script>alert" not in text
 
-        with mock.patch.object(tested, "converted", converted):
-            returned, _, said = self.told("--explore", SECONDS, "--json", "a.json", *words, "test", ".", status=status)
-        return returned, said
 
-    def test_what_is_found_is_possible_and_the_status_is_gos(self) -> None:
-        for words, wanted in (
-            ((), 0),
-            (("--fail-on", "suspects"), 0),
-            (("--fail-on", "possible"), ExitStatus.SUSPECTED),
-            (("--fail-on", "suspects,possible"), ExitStatus.SUSPECTED),
-        ):
-            with self.subTest(words):
-                status, said = self.explored(*words)
-                self.assertEqual(status, wanted, said)
-                self.assertIn("possible, example.org/toy TestGreen:\n", said)
-                self.assertIn("deadline taken back too soon, in toy.TestGreen-other-1.jsonl", said)
-                (told,) = self.lines()
-                self.assertEqual((told["status"], told["suspects"]), ("passed", []))
-                self.assertTrue(any("deadline taken back too soon" in line for line in told["possible"]))
+def test_without_the_word_there_is_none(package: Behind) -> None:
+    package.told("test", ".")
+    assert list((package.folder / "recordings").glob("*.html")) == []
 
-    def test_where_nothing_is_found_nothing_is_said(self) -> None:
-        status, said = self.explored("--fail-on", "possible", recording=EXAMPLES / "temporary-break.jsonl")
-        self.assertEqual(status, 0)
-        self.assertNotIn("possible", said)
-        self.assertEqual([told["possible"] for told in self.lines()], [[]])
 
-    def test_where_it_could_not_look_that_is_said(self) -> None:
-        other = self.folder / "other.jsonl"
-        # a descriptor that is never closed
-        steps = ['["sockopen",16,16]', '["pollopen",0,0]', '["increfclose",0,0]', '["decref",0,0]']
-        other.write_text("\n".join(['{"netrev":1,"gor":2,"sock":1,"desc":1,"buf":16}', *steps, ""]))
-        status, said = self.explored("--fail-on", "possible", recording=other)
-        self.assertEqual(status, 0)
-        self.assertIn("TestGreen.jsonl: other schedules weren't explored: explore replays calls of Go", said)
-        with mock.patch.object(tested, "GRACE", 0):
-            _, said = self.explored("--explore", "0")
-        self.assertRegex(said, r"TestGreen\.jsonl: other schedules weren't explored: nrdb ended with status 13[07]")
+def test_a_page_that_cannot_be_made_is_said_and_changes_nothing(package: Behind) -> None:
+    (package.folder / "recordings/toy.TestRed.a_part.html").mkdir(parents=True)
+    status, _, said = package.told("--html", "--json", "a.json", "test", ".", status=1)
+    assert status == 1
+    assert "netrev-go: recordings/toy.TestRed.a_part.html can't be made: " in said
+    assert [line["page"] for line in package.lines()] == [None]
 
-    def test_where_go_fails_no_schedule_is_played(self) -> None:
-        with mock.patch.object(tested, "findings") as findings:
-            status, said = self.explored("--fail-on", "possible", status=7)
-        self.assertEqual(status, 7)
-        self.assertNotIn("possible", said)
-        findings.assert_not_called()
+
+def explored(package: Behind, *words: str, status: int = 0, recording: pathlib.Path = GOOD) -> tuple[int, str]:
+    """The status and the output of netrev-go if TestGreen passed with this recording, which may hang in another
+    schedule."""
+    (package.folder / "lines").write_text(
+        "1 1 5 package example.org/toy\n3 20 1 runs TestGreen\n14 20 3 ends TestGreen\n"
+    )
+
+    def converted(_: object, name: pathlib.Path, *__: object, **___: object) -> Conversion:
+        shutil.copy(recording, name)
+        return Conversion(True, [f"{name}: ok"])
+
+    with pytest.MonkeyPatch.context() as patch:
+        patch.setattr(tested, "converted", converted)
+        returned, _, output = package.told("--explore", SECONDS, "--json", "a.json", *words, "test", ".", status=status)
+    return returned, output
+
+
+@pytest.mark.parametrize(
+    "words, wanted",
+    [
+        ((), 0),
+        (("--fail-on", "suspects"), 0),
+        (("--fail-on", "possible"), ExitStatus.SUSPECTED),
+        (("--fail-on", "suspects,possible"), ExitStatus.SUSPECTED),
+    ],
+)
+def test_what_is_found_is_possible_and_the_status_is_gos(package: Behind, words: tuple[Any, ...], wanted: Any) -> None:
+    status, said = explored(package, *words)
+    assert status == wanted, said
+    assert "possible, example.org/toy TestGreen:\n" in said
+    assert "deadline taken back too soon, in toy.TestGreen-other-1.jsonl" in said
+    (told,) = package.lines()
+    assert (told["status"], told["suspects"]) == ("passed", [])
+    assert any("deadline taken back too soon" in line for line in told["possible"])
+
+
+def test_where_nothing_is_found_nothing_is_said(package: Behind) -> None:
+    status, said = explored(package, "--fail-on", "possible", recording=EXAMPLES / "temporary-break.jsonl")
+    assert status == 0
+    assert "possible" not in said
+    assert [told["possible"] for told in package.lines()] == [[]]
+
+
+def test_where_it_could_not_look_that_is_said(monkeypatch: pytest.MonkeyPatch, package: Behind) -> None:
+    other = package.folder / "other.jsonl"
+    # a descriptor that is never closed
+    steps = ['["sockopen",16,16]', '["pollopen",0,0]', '["increfclose",0,0]', '["decref",0,0]']
+    other.write_text("\n".join(['{"netrev":1,"gor":2,"sock":1,"desc":1,"buf":16}', *steps, ""]))
+    status, said = explored(package, "--fail-on", "possible", recording=other)
+    assert status == 0
+    assert "TestGreen.jsonl: other schedules weren't explored: explore replays calls of Go" in said
+    monkeypatch.setattr(tested, "GRACE", 0)
+    _, said = explored(package, "--explore", "0")
+    assert re.search(r"TestGreen\.jsonl: other schedules weren't explored: nrdb ended with status 13[07]", said)
+
+
+def test_where_go_fails_no_schedule_is_played(monkeypatch: pytest.MonkeyPatch, package: Behind) -> None:
+    monkeypatch.setattr(tested, "findings", raising(AssertionError("schedules are explored")))
+    status, said = explored(package, "--fail-on", "possible", status=7)
+    assert status == 7
+    assert "possible" not in said
