@@ -2,6 +2,7 @@
 
 from __future__ import annotations
 
+import json
 import os
 import pathlib
 import re
@@ -190,10 +191,16 @@ def nrdb_environment() -> dict[str, str]:
     return os.environ | ({"NETREV": program} if program else {})
 
 
+def notes_in(printed: str) -> list[str]:
+    """The lines of the notes that `nrdb --json` has printed. If it was killed, its last line may be incomplete."""
+    events = (json.loads(line) for line in printed.splitlines(keepends=True) if line.endswith("\n"))
+    return [plain(line) for event in events if event["event"] == "note" for line in event["text"].split("\n")]
+
+
 def findings(recording: str, seconds: float) -> list[str]:
     """nrdb's findings in other schedules within this many seconds, line by line. If the search fails or doesn't end, the result says
     so."""
-    words = [sys.executable, str(PACKAGES), "nrdb", "--explore", file_word(recording)]
+    words = [sys.executable, str(PACKAGES), "nrdb", "--json", "--explore", file_word(recording)]
     with subprocess.Popen(
         words, env=nrdb_environment(), text=True, stdin=subprocess.DEVNULL, stdout=subprocess.PIPE,
         stderr=subprocess.DEVNULL,
@@ -210,7 +217,7 @@ def findings(recording: str, seconds: float) -> list[str]:
             except subprocess.TimeoutExpired:
                 running.kill()
                 said, _ = running.communicate()
-    told = [line.removeprefix("| ") for line in said.splitlines()[2:]]
+    told = notes_in(said)
     if running.returncode not in (0, FOUND):
         ended = messages.NRDB_ENDED.format(status=as_a_shell_has_it(running.returncode))
         complain(messages.NOT_EXPLORED.format(recording=recording, why=told[-1] if told else ended))

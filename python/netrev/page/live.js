@@ -68,7 +68,7 @@ const EVENTS = {
     wait(`no reply yet to ${event.who}'s ${event.line}`);
   },
   said(event) {
-    for (const line of event.lines) say(line, line.startsWith("|") ? "added" : "reply");
+    for (const line of event.lines) say(line, ["reply", "echo"].includes(event.of) ? "reply" : "added");
   },
   answered() {
     wait("");

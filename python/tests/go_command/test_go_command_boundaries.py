@@ -288,7 +288,8 @@ def test_a_search_that_fails_is_reported(tmp_path: Path, monkeypatch: Patch, cap
     monkeypatch.setattr(tested, "netrev_program", lambda: "")
     recording = str(tmp_path / "nowhere.jsonl")
     assert tested.findings(recording, 60) == []
-    assert f"{recording}: other schedules weren't explored: nrdb ended with status 3" in capsys.readouterr().err
+    why = f"{recording}: No such file or directory"
+    assert f"{recording}: other schedules weren't explored: {why}" in capsys.readouterr().err
 
 
 @pytest.mark.parametrize(
