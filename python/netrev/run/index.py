@@ -10,7 +10,7 @@ from itertools import chain
 from operator import attrgetter
 from typing import Collection, Iterable, Iterator, Optional, Sequence
 
-from netrev.recording.call import CLOSE, CLOSE_WRITE, Call, Outcome
+from netrev.recording.call import CLOSE, CLOSE_WRITE, OPEN, Call, Outcome
 from netrev.recording.recording import Recording, Step
 from netrev.recording.waits import Name
 from netrev.recording.where import SourceCall, Stack
@@ -163,6 +163,10 @@ class RunIndex:
     def other_end(self, socket: int) -> Optional[int]:
         """The socket at the other end of a connection, if known."""
         return self.recording.lines.peers.get(socket)
+
+    def opening(self, socket: int) -> Optional[Call]:
+        """The call that opened a socket, if the recording has it."""
+        return next((call for call in self.by_socket.get(socket, ()) if call.name == OPEN), None)
 
     def closing(self, socket: int, until: int, whole: bool = False) -> Optional[Call]:
         """The first call, up to a step, that closed a socket; if not `whole`, a call that closed only the write side

@@ -30,17 +30,17 @@ def spelled(text: str) -> str:
 
 
 def _lines(recording: Recording, story: Optional[Data]) -> Iterator[str]:
-    owners = run_of(recording).owners
+    run = run_of(recording)
     names = names_data(recording, Window(0, recording.length))
     yield from (
         f"participant g{g} as {spelled(f'g{g} {names.get(g, str())}'.strip())}"
-        for g in sorted(set(owners.goroutines) - {-1})
+        for g in sorted(set(run.owners.goroutines) - {-1})
     )
     yield f"participant {NETWORK} as network and clock"
-    yield from (f"participant s{s} as socket {s}" for s in sorted(set(owners.sockets) - {-1}))
+    yield from (f"participant s{s} as socket {s}" for s in sorted(set(run.owners.sockets) - {-1}))
     numbers = {step: number for number, step in enumerate(story["steps"], 1)} if story else {}
     for number in range(1, recording.length + 1):
-        step, g, s = recording.step(number), owners.goroutines[number - 1], owners.sockets[number - 1]
+        step, g, s = recording.step(number), run.goroutine_of(number), run.socket_of(number)
         participant = NETWORK if g < 0 else f"g{g}"
         yield f"{participant}->>{participant if s < 0 else f's{s}'}: {number} {spelled(_step_text(step, recording))}"
         if number in numbers:

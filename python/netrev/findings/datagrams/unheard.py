@@ -5,7 +5,7 @@ from typing import Iterator, NamedTuple, Optional
 
 from netrev.findings.evidence.need import Need
 from netrev.findings.evidence.words import place_in, text_of_call
-from netrev.recording.call import OPEN, Call
+from netrev.recording.call import Call
 from netrev.run.index import RunIndex
 
 UNSPECIFIED = ("0.0.0.0:", "[::]:")
@@ -53,7 +53,7 @@ def unheard(index: RunIndex, call: Call, position: int) -> Optional[Need]:
 
 def opened_at(index: RunIndex, socket: int) -> str:
     """The line that opened a socket: `, which was opened at a.go:41 in answer`; empty if unknown."""
-    opened = next((call for call in index.by_socket.get(socket, ()) if call.name == OPEN), None)
+    opened = index.opening(socket)
     stack = index.recording.lines.of(opened.first) if opened else None
     return f", which was opened{place_in(stack)}" if stack and stack.own() else ""
 

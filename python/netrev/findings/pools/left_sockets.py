@@ -8,7 +8,7 @@ from netrev.findings.source.functions import range_of, text_at
 from netrev.findings.source.package import HEAD, files_of
 from netrev.findings.source.skipped_ways import is_match, ways_are, ways_words
 from netrev.findings.source.statements import code_at
-from netrev.recording.call import OPEN, Call
+from netrev.recording.call import Call
 from netrev.recording.recording import Recording
 from netrev.recording.waits import Name, waits_of
 from netrev.recording.where import OF_THE_PROGRAM, SourceCall as LineCall, Stack
@@ -24,7 +24,7 @@ TO_OTHERS = r"\breturn\b.*\b{name}\b|[=({{,:]\s*{name}\b\s*[,)}};]|[=:] *{name}$
 def left_socket(index: RunIndex, socket: int, position: int) -> list[str]:
     """Sentences about a socket at whose other end a goroutine waits. The socket is open although the function that
     opened it has returned: the path that the function took doesn't close it. None if unknown."""
-    opened = next((opening for opening in index.by_socket.get(socket, ()) if opening.name == OPEN), None)
+    opened = index.opening(socket)
     if opened is None or index.closing(socket, position, whole=True):
         return []
     now = stack_at(index, opened.goroutine, position)

@@ -63,7 +63,7 @@ def is_datagram(index: RunIndex, socket: int) -> bool:
 
 def has_opened(index: RunIndex, socket: int, part: str) -> bool:
     """Whether a function with `part` in its name opened a socket."""
-    opened = next((call for call in index.by_socket.get(socket, ()) if call.name == OPEN), None)
+    opened = index.opening(socket)
     return opened is not None and any(part in frame.function for frame in index.recording.lines.of(opened.first).calls)
 
 
