@@ -5,7 +5,6 @@ import pathlib
 import random
 import struct
 import tempfile
-from unittest import mock
 
 import pytest
 
@@ -21,6 +20,7 @@ from netrev_go.steps.making import NothingRecordedError, UnconvertibleError, mak
 from netrev_go.steps.report import Conversion, next_line, wait_of
 from netrev_go.steps.where import own_line, write_where
 from tests.session.test_strange import OBEYED, unseen
+from tests.support.stubs import stub
 
 REAL = pathlib.Path(__file__).resolve().parents[3] / "examples/real"
 NAMES = ("half", "hijacked", "hung", "leak", "lost", "older", "past")
@@ -369,7 +369,7 @@ def test_the_next_line_has_the_commands_of_the_first_suspect() -> None:
 
 def test_addresses_become_lines(monkeypatch: pytest.MonkeyPatch) -> None:
     told = "main.f\n/p/main.go:14\n?\n?:0\n"
-    monkeypatch.setattr(lines.subprocess, "run", lambda *_, **__: mock.Mock(stdout=told))
+    monkeypatch.setattr(lines.subprocess, "run", lambda *_, **__: stub(stdout=told))
     assert looked_up(pathlib.Path("p"), ["go"], [5, 4], 0) == {4: ("main.f", "/p/main.go", 14)}
 
 

@@ -6,7 +6,6 @@ import json
 import tempfile
 from dataclasses import replace
 from pathlib import Path
-from unittest import mock
 
 import pytest
 
@@ -357,11 +356,10 @@ def test_those_that_the_time_was_not_enough_for_are_named_and_not_built(
 ) -> None:
     recorder.end = 0.0
     said, names = io.StringIO(), ", ".join(suite.package for suite in WANTED)
-    with mock.patch.object(real, "built") as built, monkeypatch.context() as patch:
-        patch.setattr(real, "source_folder", lambda *_, **__: ROOT)
-        with contextlib.redirect_stdout(said):
-            recorder.all()
-    built.assert_not_called()
+    monkeypatch.setattr(real, "built", raising(AssertionError("it is built")))
+    monkeypatch.setattr(real, "source_folder", lambda *_: ROOT)
+    with contextlib.redirect_stdout(said):
+        recorder.all()
     assert f"1.27: the time was over before {names}\n" in said.getvalue()
 
 
