@@ -139,10 +139,10 @@ def test_which_call_fails_and_by_what() -> None:
         "goroutine 0 closes the socket before, at step ",
     )
     for sort, want in zip(SORTS, wants):
-        said = output_of(sort.good, sort.why)
-        assert "goroutine 1's Read on socket 0, which went well in the recording (steps " in said, want
-        assert want in said, want
-        assert "\n   possible, unless your program orders these calls by " in said, want
+        text = output_of(sort.good, sort.why)
+        assert "goroutine 1's Read on socket 0, which went well in the recording (steps " in text, want
+        assert want in text, want
+        assert "\n   possible, unless your program orders these calls by " in text, want
 
 
 def test_the_command_takes_the_word(monkeypatch: pytest.MonkeyPatch) -> None:

@@ -129,8 +129,8 @@ def test_who_should_have_woken_a_goroutine(bank: Bank) -> None:
     """The text names only functions of the same type that change what the goroutine checks and don't wait
     themselves."""
     wait = bank.waiting(WAIT, "(*queue).pop")
-    (said,) = unsignalled(bank.recording, wait)
-    assert f"{bank.file}:39 in (*queue).clear should have woken it: it changes items" in said
+    (text,) = unsignalled(bank.recording, wait)
+    assert f"{bank.file}:39 in (*queue).clear should have woken it: it changes items" in text
     (alone,) = single_signal(bank.recording, wait, 3)
     assert ":35 in (*queue).close should wake all: Signal wakes only one goroutine, and 3 still wait." in alone
     assert single_signal(bank.recording, wait, 1) == []

@@ -47,12 +47,12 @@ def test_each_call_is_there_and_each_step_of_the_story() -> None:
         story = next(causes_data(recording), None)
         picture = drawing(recording, story)
         kinds = Counter(node.get("class") for node in elements(picture, "rect"))
-        calls = [one for one in book_of(recording).calls if one.socket >= 0]
+        calls = [call for call in book_of(recording).calls if call.socket >= 0]
         assert sum(kinds[kind] for kind in CLASS.values()) == len(calls), name
-        hanging = [one for one in calls if not one.last and is_waiting(index_of(recording), one)]
+        hanging = [call for call in calls if not call.last and is_waiting(index_of(recording), call)]
         assert kinds[CLASS[HANGS]] == len(hanging), name
         heads = [node.text for node in elements(picture, "text") if (node.text or "").startswith("connection ")]
-        assert len(heads) == len({one.socket for one in calls})
+        assert len(heads) == len({call.socket for call in calls})
         numbers = [node.text for node in elements(picture, "text") if node.get("class") == "count"]
         assert numbers == [str(at) for at in range(1, len(story["steps"] if story else ()) + 1)], name
         if story:
@@ -66,7 +66,7 @@ def test_bars_are_where_their_steps_are() -> None:
     (hangs,) = [node for node in elements(picture, "rect") if node.get("class") == CLASS[HANGS]]
     ticks = {node.text: node for node in elements(picture, "text") if node.get("class") == "tick"}
     assert all(ticks)
-    (call,) = [one for one in book_of(recording).calls if not one.last and one.name == "Read"]
+    (call,) = [call for call in book_of(recording).calls if not call.last and call.name == "Read"]
     per = float(ticks["5"].get("x", 0)) - float(ticks["0"].get("x", 0))
     begin = float(ticks["0"].get("x", 0)) - 3 + per * (call.first - 1) / 5
     assert float(hangs.get("x", 0)) == pytest.approx(begin, abs=0.1)
@@ -105,24 +105,24 @@ def test_a_text_is_cut_where_there_is_no_room() -> None:
 
 def test_each_step_is_a_message_in_its_order() -> None:
     recording = read("leak")
-    told = sequence(recording, {"steps": [61, 71]})
-    assert told.splitlines()[0] == "sequenceDiagram"
-    steps = re.findall(r"^    (\w+)->>(\w+): (\d+) (\w+)", told, re.MULTILINE)
-    assert [int(one[2]) for one in steps] == list(range(1, recording.length + 1))
+    result = sequence(recording, {"steps": [61, 71]})
+    assert result.splitlines()[0] == "sequenceDiagram"
+    steps = re.findall(r"^    (\w+)->>(\w+): (\d+) (\w+)", result, re.MULTILINE)
+    assert [int(step[2]) for step in steps] == list(range(1, recording.length + 1))
     for who, where, number, kind in steps:
         step = recording.step(int(number))
         g, s = step.argument("g"), step.argument("s")
         assert (kind, who) == (step.kind, "net" if g is None else f"g{g}")
         if s is not None:
             assert where == f"s{s}"
-    named = set(re.findall(r"^    participant (\w+) as ", told, re.MULTILINE))
+    named = set(re.findall(r"^    participant (\w+) as ", result, re.MULTILINE))
     assert {one for who, where, *_ in steps for one in (who, where)} - named == set()
-    assert len(re.findall(r"^    Note over g[24]: [12]\. ", told, re.MULTILINE)) == 2
+    assert len(re.findall(r"^    Note over g[24]: [12]\. ", result, re.MULTILINE)) == 2
 
 
 def test_texts_of_others_stay_texts_in_sequences() -> None:
-    told = sequence(with_lines_of(HOSTILE), None)
-    for line in told.splitlines()[1:]:
+    result = sequence(with_lines_of(HOSTILE), None)
+    for line in result.splitlines()[1:]:
         head, _, message = line.partition(": ")
         assert not re.search(r"[<>\"{}%]|:(?! )", message if "->>" in line else "")
         assert re.search(r"^    (participant|\w+->>\w+)", head)

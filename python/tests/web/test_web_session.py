@@ -265,8 +265,8 @@ def test_another_recording_is_served_there(web: Page) -> None:
     web.netrev.has_ended = True
     web.look()
     web.opened = lambda _: Modelled(OTHER_MODEL, web.interrupts, lambda _: None)
-    (told,) = web.look()
-    assert "the recording has 10 steps, but the session's has 22" in told["says"]
+    (result,) = web.look()
+    assert "the recording has 10 steps, but the session's has 22" in result["says"]
     with pytest.raises(UnavailableError):
         web.running.post("browser 1", "stepi")
 
@@ -277,8 +277,8 @@ def test_what_answers_there_isnt_netrev(monkeypatch: pytest.MonkeyPatch, web: Pa
     web.look()
     monkeypatch.setattr(Modelled, "_next", lambda *_: "220 mail.example ESMTP")
     web.opened = lambda _: strange
-    (told,) = web.look()
-    assert "the other program isn't netrev" in told["says"]
+    (result,) = web.look()
+    assert "the other program isn't netrev" in result["says"]
     assert strange.has_ended
 
 
