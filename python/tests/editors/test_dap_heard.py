@@ -91,10 +91,10 @@ class Client:
 
     def stopped(self, request: Request, work: Callable[[Interrupts], None], heard: bytes, by: type[Exception]) -> None:
         """Checks that a message soon stops the work on a request: within this much processor time, whatever else the machine does."""
-        said: list[float] = []
+        text: list[float] = []
 
         def says() -> None:
-            said.append(time.process_time())
+            text.append(time.process_time())
             os.write(self.says, heard)
 
         late = Timer(0.1, says)
@@ -103,7 +103,7 @@ class Client:
             work(self.interrupts)
         ended = time.process_time()
         late.join()
-        assert ended - said[0] < SOON
+        assert ended - text[0] < SOON
 
     def sends(self, data: bytes) -> None:
         """Sends everything, however long that takes."""
@@ -267,13 +267,15 @@ def test_a_move_is_answered_before_it_is_done() -> None:
 
 
 def test_progress_is_shown_to_an_editor_that_knows_of_it() -> None:
-    names = [one.get("event") or one["command"] for one in told_of_work("variables", True, 2)]
+    names = [message.get("event") or message["command"] for message in told_of_work("variables", True, 2)]
     assert names == ["progressStart", "progressUpdate", "progressEnd", "variables"]
     start, update, *_ = told_of_work("continue", True, 3)
     assert (start["body"]["requestId"], start["body"]["cancellable"]) == (7, True)
     assert told_of_work("continue", True, 0)[0]["command"] == "continue"
-    told = [one["body"] for one in told_of_work("variables", True, 2) if one.get("event") == "progressUpdate"]
-    assert (told[0]["message"], told[0]["percentage"]) == ("at 30 of 90", 33)
+    events = [
+        message["body"] for message in told_of_work("variables", True, 2) if message.get("event") == "progressUpdate"
+    ]
+    assert (events[0]["message"], events[0]["percentage"]) == ("at 30 of 90", 33)
 
 
 @pytest.fixture
@@ -282,8 +284,8 @@ def interrupts() -> Interrupts:
 
 
 def moves_of(interrupts: Interrupts) -> tuple[Moves, Marks, Debuggee]:
-    said = io.StringIO()
-    session = session_of(said)
+    output = io.StringIO()
+    session = session_of(output)
     session.interrupts = interrupts
     printer = Collecting()
     session.printer = printer
@@ -359,8 +361,8 @@ def test_messages_are_told_on_the_way_in_its_order(session: Session) -> None:
     assert isinstance(wish, BreakpointRequest)
     assert points.set("main.go", [3, 5, 9], wish)["verified"]
     status = session.changes().value("gor 0", 5)
-    assert [one.split(":")[0] for one in points.messages(3, 9)] == ["at 5", "at 9"]
-    assert [one.split(":")[0] for one in points.messages(9, 3)] == ["at 5", "at 3"]
+    assert [message.split(":")[0] for message in points.messages(3, 9)] == ["at 5", "at 9"]
+    assert [message.split(":")[0] for message in points.messages(9, 3)] == ["at 5", "at 3"]
     assert next(points.messages(3, 5)) == f"at 5: 5 has {status}, {{{status}}}"
     points.clear("main.go")
     assert list(points.messages(0, 9)) == []

@@ -9,7 +9,9 @@ import pytest
 from netrev.connection.shapes import Move
 from netrev.recording.call import Outcome
 from netrev.run.index import RunIndex
-from nrdb.dap import breakpoints, looks, marks as dap_marks, moving
+from nrdb.dap import breakpoints, looks
+from nrdb.dap import marks as dap_marks
+from nrdb.dap import moving
 from nrdb.dap.marks import BreakpointKind, Marks
 from nrdb.dap.moving import AT_THE_END, Moves, Stop, text_of
 from nrdb.dap.view import filters, memory

@@ -61,13 +61,13 @@ def test_a_connection_is_admitted_by_a_launch_with_the_token(
         editor.shutdown(socket.SHUT_WR)
         assert connection.admitted() == is_admitted
         assert (connection.launch is not None) == is_admitted
-        begins = [one for one in (connection.initialize, connection.launch) if one]
+        begins = [item for item in (connection.initialize, connection.launch) if item]
         if is_admitted:
-            assert [one.command for one in begins] == ["initialize", "launch"][sent == LAUNCH :]
+            assert [item.command for item in begins] == ["initialize", "launch"][sent == LAUNCH :]
             assert connection.wire.most is None  # (from now on, it may send as much as it likes)
         connection.close()
-        told = [(one["command"], one["success"]) for one in messages_in(reader.read())]
-        assert told == answered
+        result = [(message["command"], message["success"]) for message in messages_in(reader.read())]
+        assert result == answered
         with pytest.raises(OSError):
             ours.send(b"x")  # (it has been closed)
 
@@ -130,8 +130,10 @@ def test_an_editor_is_told_what_a_recording_lacks(monkeypatch: pytest.MonkeyPatc
     monkeypatch.setattr(adapter, "DebugTarget", lambda *_: stub(moves=stub(goto=lambda *_: None)))
     monkeypatch.setattr(adapter, "begin_words", lambda _: begins)
     outcome = began._begin(Launch.of(Request(1, "launch", {"program": "x.jsonl"})))
-    told = [one["body"]["output"] for one in messages_in(written.getvalue()) if one.get("event") == "output"]
-    assert told == [*([f"| x.jsonl: {fault}\n"] if fault else []), *([f"| {begins}\n"] if begins else [])]
+    output = [
+        message["body"]["output"] for message in messages_in(written.getvalue()) if message.get("event") == "output"
+    ]
+    assert output == [*([f"| x.jsonl: {fault}\n"] if fault else []), *([f"| {begins}\n"] if begins else [])]
     assert outcome.event == "initialized"
     assert calls == ["say_nothing_yet"]
 
@@ -291,7 +293,7 @@ def test_threads_that_no_goroutine_has(thread: int) -> None:
 )  # fmt: skip
 def test_a_part_of_a_list(arguments: dict[str, Any], shown: str) -> None:
     found = page(Request(1, "variables", arguments), [{"name": letter} for letter in "abcde"], "start", "count")
-    assert "".join(one["name"] for one in found) == shown
+    assert "".join(item["name"] for item in found) == shown
 
 
 @pytest.mark.parametrize("arguments", [{"start": -1}, {"count": -1}, {"start": "1"}, {"count": 1.5}])

@@ -86,8 +86,8 @@ def test_without_a_delay_each_recording_is_played_to_the_very_same_steps() -> No
         recording = answered(path)
         player = Scheduler(script_of(recording))
         player.finish(2 * recording.length + 100)
-        told = [json.loads(line_of(made.step, made.answer)) for made in player.steps]
-        assert told[: recording.length] == list(recording.arrays()), path.stem
+        lines = [json.loads(line_of(made.step, made.answer)) for made in player.steps]
+        assert lines[: recording.length] == list(recording.arrays()), path.stem
         numbers = [made.number for made in player.steps]
         assert numbers[: recording.length] == list(range(1, recording.length + 1)), path.stem
 
@@ -98,8 +98,8 @@ def test_so_is_random_traffic(seed: Any) -> None:
     recording = with_answers(Recording(steps))
     player = Scheduler(script_of(recording))
     player.finish(2 * recording.length)
-    told = [json.loads(line_of(made.step, made.answer)) for made in player.steps]
-    assert told[: recording.length] == list(recording.arrays())
+    lines = [json.loads(line_of(made.step, made.answer)) for made in player.steps]
+    assert lines[: recording.length] == list(recording.arrays())
 
 
 def test_what_is_refused_is_no_run_of_the_machine() -> None:
@@ -113,7 +113,7 @@ def test_a_call_is_a_row_of_operations() -> None:
     reader = [operation.sort for operation in script.goroutines[1]]
     assert reader == [OperationType.LOCK, OperationType.RESET, OperationType.READ, OperationType.UNLOCK]
     assert [operation.on_failure for operation in script.goroutines[1][1:3]] == [3, 3]
-    assert [one.sort for one in script.goroutines[0][:2]] == [OperationType.MAKE, OperationType.OPEN]
+    assert [goroutine.sort for goroutine in script.goroutines[0][:2]] == [OperationType.MAKE, OperationType.OPEN]
 
 
 def test_a_call_that_found_its_deadline_passed_would_have_read() -> None:
@@ -154,19 +154,19 @@ def test_who_stands_still_does_so_until_a_step_of_others_about_the_same_thing() 
 def test_single_delays_come_first_and_a_seed_draws_the_same_again() -> None:
     delays = single_delays(script_of(recording_of(GOOD)))
     made = list(schedules(delays, len(delays) + 20))
-    assert [one.delays for one in made[: len(delays)]] == [(delay,) for delay in delays]
-    seeds = [one.seed for one in made[len(delays) :]]
+    assert [delay.delays for delay in made[: len(delays)]] == [(delay,) for delay in delays]
+    seeds = [delay.seed for delay in made[len(delays) :]]
     assert seeds == sorted(set(seeds))
-    assert [one.delays for one in made[len(delays) :]] == [drawn(delays, sorted(delays), seed) for seed in seeds]
-    assert len({one.delays for one in made}) == len(delays) + 20
-    assert all(1 <= len(one.delays) <= 3 for one in made)
+    assert [delay.delays for delay in made[len(delays) :]] == [drawn(delays, sorted(delays), seed) for seed in seeds]
+    assert len({item.delays for item in made}) == len(delays) + 20
+    assert all(1 <= len(item.delays) <= 3 for item in made)
 
 
 def test_nothing_that_may_answer_a_write_comes_before_it() -> None:
     script = script_at("real/half")
     write = next(
         number
-        for number in [one.number for one in script.triggers if not one.goroutine]
+        for number in [cause.number for cause in script.triggers if not cause.goroutine]
         if script.answers[number - 1] == ("put", 3)
     )
     player = Scheduler(script, (Delay(write, write + 12),))
@@ -293,10 +293,10 @@ def test_each_finding_ends_with_that_it_is_possible(search: SearchWithSentences)
 
 def test_the_summary_says_how_many_and_by_which_seeds(search: SearchWithSentences) -> None:
     delays = len(search.exploring.delays)
-    said = summary(search.exploring, 1.25, True)
-    assert said.startswith("stopped: 40 schedules near the recorded one in 1.2 s ("), said
-    assert f"(one delay: {delays} of {delays}; two and three: seeds 1 to {search.exploring.seed})" in said
-    assert said.endswith("; 2 findings"), said
+    text = summary(search.exploring, 1.25, True)
+    assert text.startswith("stopped: 40 schedules near the recorded one in 1.2 s ("), text
+    assert f"(one delay: {delays} of {delays}; two and three: seeds 1 to {search.exploring.seed})" in text
+    assert text.endswith("; 2 findings"), text
 
 
 def test_a_recording_that_is_too_long_is_refused() -> None:
@@ -316,7 +316,7 @@ def test_ctrl_c_keeps_what_was_found(monkeypatch: pytest.MonkeyPatch, search: Se
     session = stub(text=lambda: search.recording, program="netrev", interrupts=stub(check=check))
     monkeypatch.setattr(commands, "answered_recording", lambda *_: search.recording)
     monkeypatch.setattr(commands.FindingFiles, "write", lambda _, at, finding, times: [f"{at}. {finding.key[0]}"])
-    said = commands.explored(session, 1_000)
-    assert said.text.startswith("stopped: 39 schedules"), said.text
-    assert said.found == len(said.text.splitlines()) - 1
-    assert said.found > 0
+    text = commands.explored(session, 1_000)
+    assert text.text.startswith("stopped: 39 schedules"), text.text
+    assert text.found == len(text.text.splitlines()) - 1
+    assert text.found > 0

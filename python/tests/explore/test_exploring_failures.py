@@ -9,7 +9,7 @@ import pytest
 from netrev.explore import commands
 from netrev.explore.failures import FAILS, Why, watched
 from netrev.explore.script import script_of
-from netrev.explore.search import Search, ScheduleFinding
+from netrev.explore.search import ScheduleFinding, Search
 from netrev.explore.sentences import FindingSentences
 from netrev.recording.recording import Recording
 from netrev.recording.where import SourceLines
@@ -139,10 +139,10 @@ def test_which_call_fails_and_by_what() -> None:
         "goroutine 0 closes the socket before, at step ",
     )
     for sort, want in zip(SORTS, wants):
-        said = output_of(sort.good, sort.why)
-        assert "goroutine 1's Read on socket 0, which went well in the recording (steps " in said, want
-        assert want in said, want
-        assert "\n   possible, unless your program orders these calls by " in said, want
+        text = output_of(sort.good, sort.why)
+        assert "goroutine 1's Read on socket 0, which went well in the recording (steps " in text, want
+        assert want in text, want
+        assert "\n   possible, unless your program orders these calls by " in text, want
 
 
 def test_the_command_takes_the_word(monkeypatch: pytest.MonkeyPatch) -> None:

@@ -82,7 +82,7 @@ def test_each_race_is_found_in_a_good_recording() -> None:
     assert {path.stem for path in RACES} == set(SORTS)
     for path in RACES:
         recording = answered(path)
-        assert [one for one in suspects_of(recording).suspects if one.is_shown] == [], path.stem
+        assert [suspect for suspect in suspects_of(recording).suspects if suspect.is_shown] == [], path.stem
         found = explored(script_of(recording), 90).found
         assert {key[0] for key in found} == SORTS[path.stem], path.stem
 
@@ -113,10 +113,10 @@ def test_what_a_function_of_the_programs_tries_is_left_open() -> None:
     for is_known in (True, False):
         recording.lines = recording.lines if is_known else SourceLines()
         exploring = explored(script_of(recording), 50)
-        said = [
+        text = [
             FindingSentences(recording, run_of(recording), exploring.script).unless(f) for f in exploring.found.values()
         ]
-        assert said == ([f"{UNLESS}{LEFT_UNKNOWN}; {IF_RAW}"] if is_known else [])
+        assert text == ([f"{UNLESS}{LEFT_UNKNOWN}; {IF_RAW}"] if is_known else [])
 
 
 def test_the_deadline_that_ended_a_call_and_the_one_that_moved_it() -> None:

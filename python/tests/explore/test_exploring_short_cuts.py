@@ -4,6 +4,7 @@ from pathlib import Path
 from typing import Any, Optional
 
 import pytest
+
 from dev.fuzz.generators.injections import Traffic
 from netrev.explore.numbered_state import ImpossibleScheduleError
 from netrev.explore.scheduler import Scheduler
@@ -77,7 +78,7 @@ class ShortCuts:
             self.came_back += 1
             assert plain_played.has_news <= plain.recorded.has_news
             statuses, recorded = plain_played.world.goroutines, plain.recorded.world.goroutines
-            assert [one[0] for one in statuses] == [one[0] for one in recorded]
+            assert [status[0] for status in statuses] == [item[0] for item in recorded]
             assert plain_played.places == plain.recorded.places
 
     def in_all(self, paths: list[Path]) -> None:

@@ -6,6 +6,7 @@ from subprocess import PIPE, Popen
 from typing import Any
 
 import pytest
+
 from netrev.explore import workers
 from netrev.explore.script import script_of
 from netrev.explore.search import Search

@@ -67,7 +67,7 @@ def test_a_timer_that_goes_off_twice_before_it_is_run_is_two() -> None:
     for runs, wanted in (([0, 0], [[6, 10], [9, 11]]), ([1, 0], [[6, 11], [9, 10]])):
         _, units, events = player_of(recording_of(OPEN + twice + [["fire", place] for place in runs]))
         found = [[events.all[place].number for place in unit.events] for unit in units]
-        assert [one for one in found if len(one) > 1] == wanted
+        assert [item for item in found if len(item) > 1] == wanted
 
 
 def test_a_reference_that_is_kept_is_no_call_for_ever() -> None:

@@ -38,9 +38,9 @@ ANSWERED = ("explore.commands", "reduce.writing", "reduce.reduced", "reduce.repo
 
 def answered_by(_: str, command: str, data: bytes) -> tuple[int, bytes]:
     """The model's exit status and output."""
-    said = printed(command, data, b"", Observer())
-    assert said
-    return said.status, said.output
+    text = printed(command, data, b"", Observer())
+    assert text
+    return text.status, text.output
 
 
 def read_with_changes(_: str, path: str) -> Recording:
@@ -83,11 +83,11 @@ def texts_of(name: str) -> dict[str, str]:
         try:
             for line in LINES:
                 session.attempt(line)
-                said = re.sub(r"\b\d+(?:\.\d+)? (?:s|ms)\b", "some time", printer.take())
+                text = re.sub(r"\b\d+(?:\.\d+)? (?:s|ms)\b", "some time", printer.take())
                 written = "".join(f"{path.name}:\n{text_of(path)}" for path in sorted(Path().iterdir()))
                 for path in Path().iterdir():
                     path.unlink()
-                found[line] = f"> {line}\n{said}{written}"
+                found[line] = f"> {line}\n{text}{written}"
         finally:
             os.chdir(before)
     return found

@@ -15,7 +15,9 @@ from netrev.findings.locks.new_readers import thrown_away
 from netrev.findings.streams.exchanges import perhaps_why
 from netrev.findings.streams.flushes import ways_round_a_flush, writes_through_a_buffer
 from netrev.recording.recording import Recording
-from netrev.recording.where import OF_GO, SourceCall as LineCall, Stack
+from netrev.recording.where import OF_GO
+from netrev.recording.where import SourceCall as LineCall
+from netrev.recording.where import Stack
 from netrev.run.index import run_of
 from tests.hangs.test_needs import line, put, stored
 from tests.trials.go_caused import source_of
@@ -209,7 +211,9 @@ def test_one_that_was_read_and_not_answered() -> None:
         dropped_datagram(index, replace(call, last=recording.length))[0],
     )
     answered = [
-        one for one in index.by_goroutine[0] if one.name == "Read" and one.moved and index.other_end(one.socket) is None
+        call
+        for call in index.by_goroutine[0]
+        if call.name == "Read" and call.moved and index.other_end(call.socket) is None
     ]
     assert [says for one in answered for says in dropped_datagram(index, one)] == []
 
@@ -219,7 +223,7 @@ def test_the_line_that_defers_a_cancel_and_the_one_that_makes_the_context() -> N
     recording.lines.written = float("inf")
     index = run_of(recording)
     found = (cancel_before(index, call.first) for call in index.calls if call.name == "Close")
-    cancel = next(one for one in found if one)
+    cancel = next(item for item in found if item)
     with in_the_folder_of_the_source(source_of("cancelled")):
         assert re.search(
             r"^main.go:\d+ defers that, of the context that main.go:\d+ makes\.$", deferred_says(index, cancel)[0]

@@ -13,7 +13,10 @@ from netrev.findings.handovers import dropped_notices  # fmt: skip
 from netrev.findings.hangs import missing_cases, needs_elsewhere, wait_graph  # fmt: skip
 from netrev.findings.http import requests as http_requests  # fmt: skip
 from netrev.findings.locks import conditions, group_counts, groups, new_readers  # fmt: skip
-from netrev.findings.source import locks, package as package_source, functions as source_functions  # fmt: skip
+from netrev.findings.source import functions as source_functions
+from netrev.findings.source import locks
+
+from netrev.findings.source import package as package_source  # fmt: skip
 from netrev.findings.streams import unfinished_replies, unused_sockets  # fmt: skip
 from netrev.recording.call import OPEN
 from netrev.recording.goroutines import FOR_ROOM, FOR_VALUE

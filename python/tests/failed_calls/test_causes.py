@@ -8,7 +8,6 @@ import os
 import re
 from pathlib import Path
 from typing import Any, Iterator, NamedTuple
-from unittest import mock
 
 import pytest
 
@@ -123,20 +122,20 @@ def with_lines(steps: Steps, of: str = "program") -> Recording:
     """A recording of these steps, all of which have the source line of the same call. Sockets 0 and 1 are the ends of
     one connection."""
     recording = recording_of(steps)
-    told: list[Any] = [
+    result: list[Any] = [
         {"where": 1, "steps": len(steps)},
         {"call": 1, "function": "main.main", "file": "a.go", "line": 1, "of": of},
         {"stack": 1, "calls": [1]},
         {"step": 1, "stacks": [1] * len(steps)},
         {"peers": [[0, 1]]},
     ]
-    recording.lines = SourceLines("\n".join(map(json.dumps, told)), len(steps))
+    recording.lines = SourceLines("\n".join(map(json.dumps, result)), len(steps))
     assert recording.lines and not recording.lines.fault, recording.lines.fault
     return recording
 
 
 def rules_of(recording: Recording) -> list[object]:
-    return [one.rule for one in all_suspects_of(recording).suspects if one.is_shown]
+    return [suspect.rule for suspect in all_suspects_of(recording).suspects if suspect.is_shown]
 
 
 @contextlib.contextmanager
@@ -154,8 +153,8 @@ def test_the_line_of_each_bug_is_said_first() -> None:
         recording = Recording.read(str(CAUSED / f"{name}-bad.jsonl"))
         recording.lines.written = float("inf")  # (a clone's files are newer than the recording)
         with in_the_folder_of_the_source(source_of(name)):
-            told = "\n".join(first_words(recording, name))
-            assert (re.search(rf"{bug_line(name)}\b", told) is not None) == (name not in WITHOUT_A_LINE), told
+            text = "\n".join(first_words(recording, name))
+            assert (re.search(rf"{bug_line(name)}\b", text) is not None) == (name not in WITHOUT_A_LINE), text
 
 
 @pytest.mark.parametrize("name", ALL)
@@ -164,15 +163,15 @@ def test_good_runs_have_no_suspect(name: Any) -> None:
 
 
 def test_what_is_said_of_a_timeout() -> None:
-    told = first_words(Recording.read(str(CAUSED / "pool-bad.jsonl")), "pool.jsonl")
+    text = first_words(Recording.read(str(CAUSED / "pool-bad.jsonl")), "pool.jsonl")
     assert re.search(
-        r"cause:  Read at main.go:\d+ in ask, called at main.go:\d+ \(goroutine 0\) ended with a timeout\.", told[0]
+        r"cause:  Read at main.go:\d+ in ask, called at main.go:\d+ \(goroutine 0\) ended with a timeout\.", text[0]
     )
     assert re.search(
         r" Its deadline was set at main.go:\d+ in pool.func1, called at main.go:\d+ \(goroutine 0, step \d+\), 80 ms ahead; 1 Read went",
-        told[1],
+        text[1],
     )
-    assert re.search(r"next:   \S*nrdb pool.jsonl -ex 'goto \d+' -ex 'history rd 1'", told[-1])
+    assert re.search(r"next:   \S*nrdb pool.jsonl -ex 'goto \d+' -ex 'history rd 1'", text[-1])
 
 
 def test_calls_that_wait_for_one_another() -> None:
@@ -185,23 +184,23 @@ def test_calls_that_wait_for_one_another() -> None:
 
 def test_who_reads_what_another_writes_is_in_no_ring() -> None:
     recording = with_lines(TWO_ENDS + writes(0) + READS_ON)
-    told = "\n".join(row.text for row in hangs_table(recording, recording.length).rows)
-    assert "There Write at a.go:1 in main (goroutine 0) is itself under way" in told
-    assert "wait for one another" not in told
+    result = "\n".join(row.text for row in hangs_table(recording, recording.length).rows)
+    assert "There Write at a.go:1 in main (goroutine 0) is itself under way" in result
+    assert "wait for one another" not in result
     assert rules_of(recording) == []
 
 
 def test_a_write_needs_room_also_where_its_reader_has_shut_its_own_writing() -> None:
-    told = "\n".join(first_words(Recording.read(str(CAUSED / "unread-bad.jsonl")), "unread"))
-    assert re.search(r"Write at main.go:\d+ in unread.func1 .* waits on socket 3", told)
-    assert "Socket 3 has no room: its other end, socket 2, was never read." in told
-    assert "closed for writing" not in told
+    text = "\n".join(first_words(Recording.read(str(CAUSED / "unread-bad.jsonl")), "unread"))
+    assert re.search(r"Write at main.go:\d+ in unread.func1 .* waits on socket 3", text)
+    assert "Socket 3 has no room: its other end, socket 2, was never read." in text
+    assert "closed for writing" not in text
 
 
 def test_pieces_of_two_messages_that_are_mixed() -> None:
-    told = "\n".join(first_words(Recording.read(str(CAUSED / "writers-bad.jsonl")), "writers"))
+    text = "\n".join(first_words(Recording.read(str(CAUSED / "writers-bad.jsonl")), "writers"))
     assert re.search(
-        r"Perhaps: writes of two goroutines are mixed at socket \d\.\n +Write at main.go:\d+ in writers.func1", told
+        r"Perhaps: writes of two goroutines are mixed at socket \d\.\n +Write at main.go:\d+ in writers.func1", text
     )
     assert first_words(Recording.read(str(CAUSED / "writers-good.jsonl")), "writers") == []
 
@@ -220,13 +219,19 @@ def test_a_broken_connection_is_told_by_its_other_end() -> None:
     assert re.search(r"The other end, socket 2, was closed in net/http", table.rows[1].text)
 
 
-def test_of_calls_that_fail_alike_one_cause_is_looked_for() -> None:
+def test_of_calls_that_fail_alike_one_cause_is_looked_for(monkeypatch: pytest.MonkeyPatch) -> None:
     """A program that spins on a closed descriptor has a failed call for each step."""
     recording = with_lines([*OPEN, *CLOSES_IT, *[["rwlock", 1, 0, "r"]] * 500])
-    with mock.patch("netrev.findings.causes.first.cause_of", wraps=cause_of) as looks:
-        told = first_words(recording, "spin")
-    assert looks.call_count == 1
-    assert "499 more like it." in told[2]
+    calls = []
+
+    def counted(*arguments: Any) -> Any:
+        calls.append(arguments)
+        return cause_of(*arguments)
+
+    monkeypatch.setattr("netrev.findings.causes.first.cause_of", counted)
+    text = first_words(recording, "spin")
+    assert len(calls) == 1
+    assert "499 more like it." in text[2]
 
 
 def test_the_source_is_shown_to_the_end_of_its_function() -> None:
@@ -238,8 +243,8 @@ def test_under_a_deadline_are_the_calls_that_ended_since_it_was_set() -> None:
     for seed in range(5):
         index = run_of(Recording(Traffic(seed, None, 800).run().text()))
         for call in index.calls:
-            same_side = [one for one in index.by_socket[call.socket] if one.name == call.name]
-            under = [one for one in same_side if call.cause < one.last <= call.first]
+            same_side = [item for item in index.by_socket[call.socket] if item.name == call.name]
+            under = [item for item in same_side if call.cause < item.last <= call.first]
             assert index.under_its_deadline(call) == under
             found += bool(call.cause and under)
     assert found > 0
@@ -270,12 +275,12 @@ def test_those_of_lines_and_of_other_ends_say_nothing_without() -> None:
 
 def test_an_end_that_was_not_passed_on_is_said_first() -> None:
     recording = with_lines(PAIRS["end not passed on"].bad)
-    told = first_words(recording, "a.jsonl")
+    text = first_words(recording, "a.jsonl")
     assert re.search(
         r"cause:  The end of a stream isn't passed on: Read at a.go:1 in main \(goroutine 1\) met it on socket 2",
-        told[0],
+        text[0],
     )
-    assert "waits for it at the other end, socket 1" in told[1]
+    assert "waits for it at the other end, socket 1" in text[1]
 
 
 def test_a_relay_that_has_not_written_all_or_reads_elsewhere_is_none() -> None:
@@ -301,8 +306,8 @@ def test_a_timeout_by_a_deadline_under_which_calls_went_well_is_no_suspect() -> 
     for name in ("forgotten", "pool"):
         recording = Recording.read(str(CAUSED / f"{name}-bad.jsonl"))
         assert all_suspects_of(recording).suspects == []
-        told = "\n".join(first_words(recording, name))
-        assert re.search(rf"Its deadline was set at {bug_line(name)} in .*; 1 (Read|Write) went well under it", told)
+        text = "\n".join(first_words(recording, name))
+        assert re.search(rf"Its deadline was set at {bug_line(name)} in .*; 1 (Read|Write) went well under it", text)
 
 
 def test_go_s_own_code_is_not_suspected() -> None:

@@ -31,7 +31,7 @@ def says_with(change: Callable[[Any], None]) -> list[str]:
     """The text about the requests that ended, with changed lines."""
     changed = recording()
     change(changed.lines)
-    return [" ".join(one.says(changed)) for one in cancelled_requests(run_of(changed))]
+    return [" ".join(request.says(changed)) for request in cancelled_requests(run_of(changed))]
 
 
 def test_each_is_on_the_connection_on_which_it_was_written() -> None:
@@ -84,9 +84,9 @@ def test_one_that_the_program_cancelled_is_no_failure() -> None:
 
 
 def test_info_errors_says_why_the_connection_was_closed() -> None:
-    told = [row.text for row in errors_table(recording(), 10**6, None).rows]
-    at = next(number for number, text in enumerate(told) if "It was closed at main.go:29" in text)
-    assert "ended because its client's Timeout passed" in told[at + 1]
+    result = [row.text for row in errors_table(recording(), 10**6, None).rows]
+    at = next(number for number, text in enumerate(result) if "It was closed at main.go:29" in text)
+    assert "ended because its client's Timeout passed" in result[at + 1]
 
 
 def test_of_two_deadlines_none_is_named() -> None:

@@ -34,17 +34,17 @@ MILLISECOND = 10**6
 def timeout_says(functions: tuple[str, ...]) -> str:
     """The text about a Read that timed out, whose deadline was set in these functions, the innermost first."""
     steps = OPEN + SETS + PASSES + LATE
-    made = with_lines(steps)
+    recording = with_lines(steps)
     of = {True: "program", False: "go"}
-    told: list[Any] = [{"where": 1, "steps": len(steps)}]
-    told += [
+    result: list[Any] = [{"where": 1, "steps": len(steps)}]
+    result += [
         {"call": number, "function": function, "file": "a.go", "line": number, "of": of[function.startswith("main.")]}
         for number, function in enumerate(functions, 1)
     ]
-    told += [{"stack": 1, "calls": list(range(1, len(functions) + 1))}, {"step": 1, "stacks": [1] * len(steps)}]
-    made.lines = SourceLines("\n".join(map(json.dumps, told)), len(steps))
-    assert not made.lines.fault, made.lines.fault
-    return "\n".join(causes_of(made, made.length)[0].says)
+    result += [{"stack": 1, "calls": list(range(1, len(functions) + 1))}, {"step": 1, "stacks": [1] * len(steps)}]
+    recording.lines = SourceLines("\n".join(map(json.dumps, result)), len(steps))
+    assert not recording.lines.fault, recording.lines.fault
+    return "\n".join(causes_of(recording, recording.length)[0].says)
 
 
 @pytest.mark.parametrize("by", [("net/http.(*conn).readRequest",), ("net/http.(*conn).readRequest.func1",), ()])
@@ -65,7 +65,7 @@ def says(*earlier: tuple[int, int]) -> str:
     each pair in `earlier`: how much earlier the timer was made, and how much earlier it was due."""
     made = recording()
     lines = made.lines
-    timer = next(one for one in lines.timers[0] if contains(lines.stacks[one.stack], CLIENT_TIMEOUT))
+    timer = next(timer for timer in lines.timers[0] if contains(lines.stacks[timer.stack], CLIENT_TIMEOUT))
     lines.timers[0] += [timer._replace(time=timer.time - time, due=timer.due - due) for time, due in earlier]
     use = next(use for uses in lines.uses.values() for use in uses)
     return cancel_says(run_of(made), Cancel(1, use, [timer]))
@@ -83,7 +83,9 @@ def test_a_request_before_it_has_a_limit_of_its_own() -> None:
 
 def test_a_request_that_ended_names_no_rest_either() -> None:
     def redirected(lines: Any) -> None:
-        lines.timers[0] += [one._replace(time=one.time - 5 * MILLISECOND, due=one.due + 90) for one in lines.timers[0]]
+        lines.timers[0] += [
+            timer._replace(time=timer.time - 5 * MILLISECOND, due=timer.due + 90) for timer in lines.timers[0]
+        ]
 
     assert re.search(r"It counts from the call at main.go:\d+ .* \d+ ms earlier\.$", says_with(lambda lines: None)[0])
     assert re.search(r"It counts from the call at main.go:\d+ in \w+\.$", says_with(redirected)[0])
@@ -92,14 +94,14 @@ def test_a_request_that_ended_names_no_rest_either() -> None:
 def text_of_group(*others: tuple[int, int], waiter: int = 0, maker: int = 1) -> str:
     """The text about the wait of a goroutine that `main.walk` started together with other goroutines. `others` has
     pairs: a goroutine's number, and the number of the goroutine that started it."""
-    made = with_lines(TWO_ENDS)
+    recording = with_lines(TWO_ENDS)
     go = line(4, "walk")
     stack = Stack((line(9, "walk"),), go)
     names = [Name(7, True), *(Name(goid, True) for goid, _ in others)]
-    made.lines.goroutines.update(
+    recording.lines.goroutines.update(
         {goid: GoGoroutine(goid, -1, go, maker, 0, -1, 0, -1) for goid, maker in [(7, maker), *others]}
     )
-    groups = Groups(run_of(made), waits_of(made), [(name, stack) for name in names], made.length)
+    groups = Groups(run_of(recording), waits_of(recording), [(name, stack) for name in names], recording.length)
     for name in (names[0], names[waiter]):
         need = groups.of(Waiter(name, 1, stack), (), lambda name: "waits for nothing")
     return " ".join(need.says) if need else ""

@@ -1,6 +1,7 @@
 """netrev-go's help, the help of each command, and usage errors."""
 
 import pytest
+
 from netrev.system.version import VERSION
 from netrev_go import cli
 from netrev_go.cli import ExitStatus

@@ -96,9 +96,9 @@ def run(folder: Path, monkeypatch: pytest.MonkeyPatch, cleanups: ExitStack) -> R
 
 
 def test_what_can_be_written_is_written(run: Run) -> None:
-    returned, said = run.called("-o", "mine", "run", "main.go")
+    returned, output = run.called("-o", "mine", "run", "main.go")
     assert (returned, (run.folder / "mine.jsonl").read_text()) == (0, WHOLE)
-    assert "the logs are in" not in said
+    assert "the logs are in" not in output
     assert sorted(os.listdir()) == ["go", "mine.jsonl", "stored"]
 
 
@@ -119,28 +119,28 @@ def test_a_name_that_cannot_be_written_is_told_before_the_program_runs(run: Run)
         "/proc/x",
         "/dev/null",
     ):
-        returned, said = run.called("-o", name, "run", "main.go", does=f"touch {run.folder}/ran")
-        assert returned == ExitStatus.TROUBLE, said
-        assert re.search(r"netrev-go: .*(Nothing was run|can't be the name of a recording)", said), name
+        returned, output = run.called("-o", name, "run", "main.go", does=f"touch {run.folder}/ran")
+        assert returned == ExitStatus.TROUBLE, output
+        assert re.search(r"netrev-go: .*(Nothing was run|can't be the name of a recording)", output), name
         assert not (run.folder / "ran").exists(), name
 
 
 def test_a_folder_that_is_removed_meanwhile_loses_nothing(run: Run) -> None:
     (run.folder / "out").mkdir()
-    returned, said = run.called("--strict", "-o", "out/x", "run", "main.go", does=f"rmdir {run.folder}/out")
-    assert returned == ExitStatus.UNRECORDED, said
-    assert "netrev-go: out/x.jsonl: No such file or directory" in said
-    assert run.again(said) == WHOLE
+    returned, output = run.called("--strict", "-o", "out/x", "run", "main.go", does=f"rmdir {run.folder}/out")
+    assert returned == ExitStatus.UNRECORDED, output
+    assert "netrev-go: out/x.jsonl: No such file or directory" in output
+    assert run.again(output) == WHOLE
 
 
 def test_the_folder_in_which_it_is_called_may_be_removed(run: Run) -> None:
     here = run.folder / "here"
     here.mkdir()
     os.chdir(here)
-    returned, said = run.called("run", "main.go", does=f"rmdir {here}")
+    returned, output = run.called("run", "main.go", does=f"rmdir {here}")
     os.chdir(run.folder)
-    assert returned == 0, said
-    assert run.again(said) == WHOLE
+    assert returned == 0, output
+    assert run.again(output) == WHOLE
 
 
 def test_a_disk_that_is_full_leaves_what_stood_there(monkeypatch: pytest.MonkeyPatch, run: Run) -> None:
@@ -151,11 +151,11 @@ def test_a_disk_that_is_full_leaves_what_stood_there(monkeypatch: pytest.MonkeyP
 
     with monkeypatch.context() as patch:
         patch.setattr("netrev_go.steps.making.whole", failing(full))
-        returned, said = run.called("-o", "x", "run", "main.go")
-    assert returned == 0, said
-    assert "netrev-go: x.jsonl: No space left on device" in said
+        returned, output = run.called("-o", "x", "run", "main.go")
+    assert returned == 0, output
+    assert "netrev-go: x.jsonl: No space left on device" in output
     assert (run.folder / "x.jsonl").read_text() == "an earlier one"
-    assert run.again(said) == WHOLE
+    assert run.again(output) == WHOLE
     assert [name for name in os.listdir() if name.startswith(".netrev")] == []
 
 
@@ -174,38 +174,38 @@ def test_whatever_fails_the_logs_stay(monkeypatch: pytest.MonkeyPatch, run: Run)
         assert [log.read_bytes() for log in logs_in(logs)] == [run.log.read_bytes()]
         shutil.rmtree(logs)
         patch.setattr(keeping, "convert", raising(KeyboardInterrupt))
-        returned, said = run.called("run", "main.go")
-    assert returned == 130, said
-    assert run.again(said) == WHOLE
+        returned, output = run.called("run", "main.go")
+    assert returned == 130, output
+    assert run.again(output) == WHOLE
 
 
 def test_a_log_of_a_recording_that_netrev_refuses_stays(run: Run) -> None:
     netrev = run.folder / "netrev"
     netrev.write_text("#!/bin/sh\necho step 1: fault 107 reason 4\nexit 1\n")
     netrev.chmod(0o700)
-    returned, said = run.called("--strict", "run", "main.go", netrev=str(netrev))
-    assert returned == ExitStatus.UNRECORDED, said
-    assert "please keep the log and report it" in said
-    assert run.again(said) == WHOLE
+    returned, output = run.called("--strict", "run", "main.go", netrev=str(netrev))
+    assert returned == ExitStatus.UNRECORDED, output
+    assert "please keep the log and report it" in output
+    assert run.again(output) == WHOLE
 
 
 def test_processes_that_cannot_write_a_log_are_named(run: Run) -> None:
     mark = 'touch "$NETREV_LOG.unrecorded/process.{}"; '
     marks = mark.format("12.13") + mark.format("14.27") + mark.format("15.27") + mark.format("x.y")
     for command in ("run", "test"):
-        returned, said = run.called("--strict", "-o", f"of-{command}", command, ".", does=marks)
-        assert returned == ExitStatus.UNRECORDED, said
-        assert "netrev-go: process 12 couldn't write a log (Permission denied) and isn't recorded\n" in said
-        assert "2 processes couldn't write a log (`ulimit -f` limits the size of its files) and aren't" in said
-        assert "the logs are in" not in said
-    returned, said = run.called("run", ".", does=marks, leaves="true")
-    assert (returned, "nothing was recorded" in said) == (0, False), said
+        returned, output = run.called("--strict", "-o", f"of-{command}", command, ".", does=marks)
+        assert returned == ExitStatus.UNRECORDED, output
+        assert "netrev-go: process 12 couldn't write a log (Permission denied) and isn't recorded\n" in output
+        assert "2 processes couldn't write a log (`ulimit -f` limits the size of its files) and aren't" in output
+        assert "the logs are in" not in output
+    returned, output = run.called("run", ".", does=marks, leaves="true")
+    assert (returned, "nothing was recorded" in output) == (0, False), output
 
 
 def test_logs_that_are_gone_are_said_to_be(run: Run) -> None:
-    returned, said = run.called("--strict", "run", "main.go", does='rm -r "$(dirname $NETREV_LOG)"')
-    assert returned == ExitStatus.UNRECORDED, said
-    assert re.search(r"nothing was recorded: the folder of the logs, \S+, no longer exists", said)
+    returned, output = run.called("--strict", "run", "main.go", does='rm -r "$(dirname $NETREV_LOG)"')
+    assert returned == ExitStatus.UNRECORDED, output
+    assert re.search(r"nothing was recorded: the folder of the logs, \S+, no longer exists", output)
 
 
 def test_lines_of_an_earlier_recording_go(run: Run) -> None:
@@ -217,11 +217,11 @@ def test_lines_of_an_earlier_recording_go(run: Run) -> None:
 
 def test_one_log_that_cannot_be_converted_takes_nothing_from_the_others(run: Run) -> None:
     (run.folder / "x.jsonl").mkdir()
-    returned, said = run.called("-o", "x", "convert", str(run.log), str(run.log), "/dev/zero", "")
-    assert returned == ExitStatus.TROUBLE, said
-    assert "netrev-go: x.jsonl: Is a directory" in said
+    returned, output = run.called("-o", "x", "convert", str(run.log), str(run.log), "/dev/zero", "")
+    assert returned == ExitStatus.TROUBLE, output
+    assert "netrev-go: x.jsonl: Is a directory" in output
     assert (run.folder / "x-2.jsonl").read_text() == WHOLE
-    assert said.count(": not a regular file") == 2, said
+    assert output.count(": not a regular file") == 2, output
     for word in ("", "/", "."):
         assert ": not a regular file" in run.called("convert", word)[1]
 
@@ -269,9 +269,9 @@ def test_a_test_that_passes_without_a_socket_passes(run: Run) -> None:
     data = bytearray(run.log.read_bytes())
     data[8:16] = bytes(8)  # no point was logged
     log.write_bytes(data)
-    returned, said = run.called("--strict", "run", ".", leaves=f'cp {log} "$NETREV_LOG.$$"')
-    assert (returned, "no socket was opened: there is nothing to record" in said) == (0, True), said
-    assert "the logs are in" not in said
+    returned, output = run.called("--strict", "run", ".", leaves=f'cp {log} "$NETREV_LOG.$$"')
+    assert (returned, "no socket was opened: there is nothing to record" in output) == (0, True), output
+    assert "the logs are in" not in output
 
 
 def test_a_signal_is_told_as_a_shell_does(run: Run) -> None:
@@ -280,17 +280,17 @@ def test_a_signal_is_told_as_a_shell_does(run: Run) -> None:
 
 def test_other_schedules_are_not_offered_of_a_run_that_failed() -> None:
     for failed, words in ((False, "--explore a.jsonl"), (True, "a.jsonl -ex continue -ex 'info errors'")):
-        told = report.next_line(Path("a.jsonl"), [], True, failed)
-        assert told.endswith(words), told
+        output = report.next_line(Path("a.jsonl"), [], True, failed)
+        assert output.endswith(words), output
     hangs = report.next_line(Path("a.jsonl"), [], False, True)
     assert hangs.endswith("-ex 'info goroutines'"), hangs
 
 
 def test_numbers_that_no_run_can_have_are_refused(run: Run) -> None:
     for words in (["--sockets", "0"], ["--megabytes", "0"], ["-n", "nan"], ["-n", "-1"], ["--procs", "0"]):
-        returned, said = run.called(*words, "run", "main.go", does=f"touch {run.folder}/ran")
-        assert returned == ExitStatus.TROUBLE, said
-        assert f"{words[0]} must be from" in said
+        returned, output = run.called(*words, "run", "main.go", does=f"touch {run.folder}/ran")
+        assert returned == ExitStatus.TROUBLE, output
+        assert f"{words[0]} must be from" in output
     assert not (run.folder / "ran").exists()
 
 

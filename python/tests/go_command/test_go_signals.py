@@ -9,6 +9,7 @@ import subprocess
 from pathlib import Path
 
 import pytest
+
 from netrev_go.go_command.run_folders import left_runs
 from tests.support.go_stand_in import PATIENCE, WAITS, WHOLE, StandIn, reset_signals, until, wait_until
 

@@ -16,8 +16,11 @@ from typing import Any, Optional, cast
 from xml.etree import ElementTree
 
 import pytest
+
 from dev.fuzz.generators.logs import binary
-from netrev.findings.finding import Finding, Kind as FindingKind, Place, Sentence, sentences_of
+from netrev.findings.finding import Finding
+from netrev.findings.finding import Kind as FindingKind
+from netrev.findings.finding import Place, Sentence, sentences_of
 from netrev.recording.where import SourceLines
 from netrev_go import cli
 from netrev_go.cli import ExitStatus
@@ -267,8 +270,8 @@ def test_again_and_again(package: Tested) -> None:
 
 
 def test_suspects_fail_where_that_is_wanted(monkeypatch: pytest.MonkeyPatch, package: Tested) -> None:
-    said = Conversion(True, ["x.jsonl: ok"], shown=[SUSPECTED])
-    monkeypatch.setattr(converting, "report", lambda *_: said)
+    text = Conversion(True, ["x.jsonl: ok"], shown=[SUSPECTED])
+    monkeypatch.setattr(converting, "report", lambda *_: text)
     for what, wanted in (("suspects", ExitStatus.SUSPECTED), ("possible", 0)):
         assert package.told("--fail-on", what, "test", ".", status=0)[0] == wanted
     assert package.told("test", ".", status=0)[0] == 0
@@ -280,9 +283,9 @@ def test_each_form_is_read_as_its_consumer_does(monkeypatch: pytest.MonkeyPatch,
     printed = ["x: ok 9 steps", "  a/b.go:7: net.Dial waits to read", "    1. lost wake-up: 100%: step 3, so"]
     sentence = Sentence("a/b.go:7: net.Dial waits to read", Place("a/b.go", 7))
     wait = Shown(Finding(FindingKind.WAIT, (sentence,)), [sentence])
-    said = Conversion(True, printed, shown=[wait, SUSPECTED])
+    text = Conversion(True, printed, shown=[wait, SUSPECTED])
     with monkeypatch.context() as patch:
-        patch.setattr(converting, "report", lambda *_: said)
+        patch.setattr(converting, "report", lambda *_: text)
         _, out, _ = package.told("--json", "a.json", "--junit", "a.xml", "--github", "test", ".")
     lines = [json.loads(line) for line in (package.folder / "a.json").read_text().splitlines()]
     assert [sorted(line) for line in lines] == [sorted(keys_of_the_page())] * 4
@@ -300,9 +303,9 @@ def test_each_form_is_read_as_its_consumer_does(monkeypatch: pytest.MonkeyPatch,
     failure = case.find("failure")
     assert failure is not None and failure.text is not None
     assert "net.Dial waits to read" in failure.text
-    told = [as_github_reads(line) for line in out.splitlines()]
-    assert len(told) == 1
-    properties, message = told[0]
+    result = [as_github_reads(line) for line in out.splitlines()]
+    assert len(result) == 1
+    properties, message = result[0]
     assert (properties["file"], properties["line"]) == ("/else/a_test.go", "31")
     assert properties["title"] == f"{PACKAGE} TestRed/a_part"
     assert (part["file"], part["line"]) == ("/else/a_test.go", 31)
@@ -433,8 +436,8 @@ def ended(folder: Path, script: str, called: Optional[list[bool]] = None) -> tup
 def test_what_cancels_netrev_go_goes_to_go(folder: Path) -> None:
     loop = "while :; do sleep 0.05; done"
     for name, status in (("TERM", 7), ("INT", 8)):
-        said = ended(folder, f"trap 'exit {status}' {name}; kill -{name} $PPID; {loop}")
-        assert said == (status, True), name
+        text = ended(folder, f"trap 'exit {status}' {name}; kill -{name} $PPID; {loop}")
+        assert text == (status, True), name
     assert ended(folder, f"kill -TERM $PPID; {loop}") == (-signal.SIGTERM, True)
 
 

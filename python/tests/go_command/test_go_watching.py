@@ -44,7 +44,7 @@ def log_with(rows: list[bytes], queue: list[tuple[int, ...]] = [], points: list[
     begin = Header(bytes(text)).ring
     struct.pack_into("<2Q", text, 15 * 8, ROWS, QUEUE)
     tables = b"".join(rows).ljust(ROWS * 128, b"\0")
-    tables += b"".join(struct.pack("<8Q", *one, 0, 0, 0) for one in queue).ljust(QUEUE * 64, b"\0")
+    tables += b"".join(struct.pack("<8Q", *item, 0, 0, 0) for item in queue).ljust(QUEUE * 64, b"\0")
     return bytes(text[:begin]) + tables + bytes(text[begin:])
 
 
@@ -119,8 +119,8 @@ def test_what_is_said_of_it(monkeypatch: pytest.MonkeyPatch) -> None:
     watch = Watch(pathlib.Path("log.1"), io.BytesIO(text), Header(text), None)
     since = time.clock_gettime_ns(time.CLOCK_MONOTONIC) - 2 * 10**9
     monkeypatch.setattr(watch, "calls", lambda _: Calls((READ_OF_GO, OWN), None))
-    said = watch.words(SocketWait(41, READS, 1, since, WORD))
-    assert re.search(r"^main\.go:7: internal/poll\.\(\*FD\)\.Read waits to read since 2\.\d s \(goid 41\)$", said)
+    message = watch.words(SocketWait(41, READS, 1, since, WORD))
+    assert re.search(r"^main\.go:7: internal/poll\.\(\*FD\)\.Read waits to read since 2\.\d s \(goid 41\)$", message)
 
 
 def test_times() -> None:

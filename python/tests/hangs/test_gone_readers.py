@@ -34,17 +34,17 @@ def recording_of(steps: list[Any], ended: int = ENDED) -> Recording:
 
 def found(steps: list[Any], ended: int = ENDED) -> int:
     recording = recording_of(steps, ended)
-    return sum(one.write is not None for one in gone_readers(run_of(recording), recording.length))
+    return sum(reader.write is not None for reader in gone_readers(run_of(recording), recording.length))
 
 
 def test_bytes_that_come_after_its_end() -> None:
     recording = recording_of([*READS, *put(1, "6869")])
-    (said,) = [one.says for one in leftovers_of(recording) if "nobody reads" in one.says[0]]
+    (text,) = [leftover.says for leftover in leftovers_of(recording) if "nobody reads" in leftover.says[0]]
     assert (
-        said[0]
+        text[0]
         == f"Perhaps: nobody reads on socket 0 any more: goroutine 1, which alone had read there, ended after step {ENDED}."
     )
-    assert re.search(r"^Write .* came after that, in steps \d+ to \d+: nobody has read it\.$", said[2])
+    assert re.search(r"^Write .* came after that, in steps \d+ to \d+: nobody has read it\.$", text[2])
 
 
 def test_one_that_is_there_yet_or_after_which_nothing_came() -> None:
@@ -69,7 +69,7 @@ def test_it_is_said_of_a_hang_of_the_goroutine_that_wrote_there() -> None:
 def test_it_is_said_of_a_hang_also_if_nothing_came_since() -> None:
     recording = recording_of([*READS, *put(0, "6869")])
     assert len(reader_words(run_of(recording), {Name(0)}, recording.length)) == 2
-    assert [one.says for one in leftovers_of(recording) if "nobody reads" in one.says[0]] == []
+    assert [leftover.says for leftover in leftovers_of(recording) if "nobody reads" in leftover.says[0]] == []
 
 
 def test_its_number_may_be_another_s_since_then() -> None:
@@ -88,7 +88,7 @@ def test_its_number_may_be_another_s_since_then() -> None:
 def test_the_next_read_says_how_many_bytes_one_got() -> None:
     recording = stored("longer-bad")
     index, asked = run_of(recording), read_sizes_of(recording)
-    calls = [one.call for one in waiters_at(index, recording.length).values() if one.call]
+    calls = [waiter.call for waiter in waiters_at(index, recording.length).values() if waiter.call]
     (call,) = [call for call in calls if lacking(index, call, index.other_end(call.socket) or 0)]
     before, other = asked.before(call), index.other_end(call.socket) or 0
     assert before is not None

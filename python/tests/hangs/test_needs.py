@@ -18,7 +18,9 @@ from netrev.recording.call import Call
 from netrev.recording.goroutines import FOR_VALUE, PUT, TOOK, At, GoGoroutine, Object, ObjectUse, Park, Timer
 from netrev.recording.recording import Recording
 from netrev.recording.waits import Name
-from netrev.recording.where import OF_THE_PROGRAM, SourceCall as LineCall, SourceLines, Stack
+from netrev.recording.where import OF_THE_PROGRAM
+from netrev.recording.where import SourceCall as LineCall
+from netrev.recording.where import SourceLines, Stack
 from netrev.run.index import run_of
 from netrev_go.log.beside import Beside
 from netrev_go.log.points import Point, PointKind
@@ -55,7 +57,7 @@ def test_what_is_given_back_too_often_and_never() -> None:
     recording = recording_of(
         use(1, PUT, 3, 2), use(4, TOOK, 1, 3, 1), use(4, PUT, 2, 4, 2), use(5, TOOK, 1, 3, 1), use(5, PUT, 2, 1, 2)
     )
-    found = {one.name.number: one.missing for one in balances_of(recording, 1, {})}
+    found = {balance.name.number: balance.missing for balance in balances_of(recording, 1, {})}
     assert found == {4: -1, 5: 2}
     assert has_ended(recording, Name(4, True))
 
@@ -86,12 +88,12 @@ def test_one_of_three_that_passed_other_lines() -> None:
 
 def test_a_server_that_reads_on_lacks_no_request() -> None:
     index = run_of(stored("unflushed-bad"))
-    said = [
+    text = [
         unasked(index, call)
         for call in index.calls
         if call.name == "Read" and not call.last and not index.is_listening(call)
     ]
-    assert sorted(map(len, said)) == [0, 1]
+    assert sorted(map(len, text)) == [0, 1]
 
 
 def test_a_request_that_is_answered() -> None:
@@ -105,7 +107,7 @@ def test_a_request_that_is_answered() -> None:
 
 def test_what_a_read_looks_for() -> None:
     index = run_of(stored("relay-bad"))
-    waiting = [one.call for one in waiters_at(index, index.recording.length).values() if one.call]
+    waiting = [waiter.call for waiter in waiters_at(index, index.recording.length).values() if waiter.call]
     words = [says for call in waiting for says in end_says(index, call, 1, index.recording.length)]
     assert "io.Copy has met no end of the stream: nobody has closed socket 1 for writing." in words
 
@@ -139,7 +141,7 @@ def test_up_to_where_functions_read() -> None:
 
 def test_bytes_that_nobody_reads() -> None:
     index = run_of(with_lines([*TWO_ENDS, *put(0, "6869")]))
-    assert [(one.bytes, one.socket) for one in unread(index, index.recording.length)] == [(2, 1)]
+    assert [(item.bytes, item.socket) for item in unread(index, index.recording.length)] == [(2, 1)]
     index.recording.lines.bytes = 2
     assert list(unread(index, index.recording.length)) == []
 
@@ -153,7 +155,7 @@ def put(goroutine: int, text: str) -> list[Any]:
 def waiting(recording: Recording) -> Call:
     """The Read on a connection whose other end isn't known."""
     index = run_of(recording)
-    calls = [one.call for one in waiters_at(index, recording.length).values() if one.call]
+    calls = [waiter.call for waiter in waiters_at(index, recording.length).values() if waiter.call]
     (call,) = [call for call in calls if index.other_end(call.socket) is None]
     return call
 
@@ -189,9 +191,9 @@ def test_names_of_ends_are_numbered() -> None:
 
 
 def test_dials_that_fail() -> None:
-    said = [cause.says for cause in failed_dials(run_of(stored("undone-bad")))]
-    assert len(said) == 1
-    assert re.search(r"^Dial at main.go:\d+ in .* failed: socket \d+ was never connected\.$", said[0][0])
+    text = [cause.says for cause in failed_dials(run_of(stored("undone-bad")))]
+    assert len(text) == 1
+    assert re.search(r"^Dial at main.go:\d+ in .* failed: socket \d+ was never connected\.$", text[0][0])
     assert list(failed_dials(run_of(stored("uncounted-bad")))) == []
 
 
@@ -204,7 +206,7 @@ def test_a_ticker_goes_on_and_a_timer_that_is_to_go_off_later() -> None:
         lines.parks[9] = [Park(9, 1, -1, 100, -1, "a value from a channel", 2, 0, (At(4, FOR_VALUE),))]
         lines.timers[4] = [Timer(4, 9, 2, 1, 1, due)]
         found = waiters_at(run_of(recording), recording.length)
-        assert sum(one.wait is not None for one in found.values()) == waits, (function, due)
+        assert sum(item.wait is not None for item in found.values()) == waits, (function, due)
 
 
 def test_what_was() -> None:
@@ -216,7 +218,7 @@ def test_what_was() -> None:
 
 def test_bytes_that_are_cut() -> None:
     recording = with_lines([*TWO_ENDS, *GETS, *UNLOCKS])
-    call = next(one for one in run_of(recording).calls if one.name == "Read")
+    call = next(call for call in run_of(recording).calls if call.name == "Read")
     assert result_words(recording, call) == "got 2 bytes"
     recording.lines.bytes = 2
     assert result_words(recording, call) == "got at least 2 bytes"

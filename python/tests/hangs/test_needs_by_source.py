@@ -11,7 +11,8 @@ from netrev.findings.source.functions import is_same_variable, range_of
 from netrev.findings.source.locks import held_at
 from netrev.recording.goroutines import FOR_ROOM, FOR_VALUE, At
 from netrev.recording.waits import Name, ObjectWait
-from netrev.recording.where import SourceCall as LineCall, Stack
+from netrev.recording.where import SourceCall as LineCall
+from netrev.recording.where import Stack
 from tests.failed_calls.test_causes import TWO_ENDS, with_lines
 
 from .test_needs import line, use
@@ -129,8 +130,8 @@ def test_who_should_have_woken_a_goroutine(bank: Bank) -> None:
     """The text names only functions of the same type that change what the goroutine checks and don't wait
     themselves."""
     wait = bank.waiting(WAIT, "(*queue).pop")
-    (said,) = unsignalled(bank.recording, wait)
-    assert f"{bank.file}:39 in (*queue).clear should have woken it: it changes items" in said
+    (text,) = unsignalled(bank.recording, wait)
+    assert f"{bank.file}:39 in (*queue).clear should have woken it: it changes items" in text
     (alone,) = single_signal(bank.recording, wait, 3)
     assert ":35 in (*queue).close should wake all: Signal wakes only one goroutine, and 3 still wait." in alone
     assert single_signal(bank.recording, wait, 1) == []

@@ -88,10 +88,10 @@ def output_of(ended: int) -> list[str]:
 
 
 def test_others_wait_for_the_goroutine_of_a_failed_call() -> None:
-    (said,) = output_of(len(TWO_ENDS) + 5)
+    (text,) = output_of(len(TWO_ENDS) + 5)
     assert re.search(
         r"^Goroutine 1 ended after that, at step \d+; goid 5 waits .*, at which goroutine 1 was the last to put a value\.$",
-        said,
+        text,
     )
 
 

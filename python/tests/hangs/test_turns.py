@@ -85,9 +85,9 @@ def output_of(name: str, kind: str) -> list[str]:
 def test_each_bug_is_named_with_its_reason() -> None:
     assert set(REASONS) == set(NAMES[TURNS])
     for name, reasons in REASONS.items():
-        said = output_of(name, "bad")
+        text = output_of(name, "bad")
         for reason in reasons:
-            assert re.search(f"(?m){reason.replace('{}', bug_line(name))}", "\n".join(said)), (name, reason)
+            assert re.search(f"(?m){reason.replace('{}', bug_line(name))}", "\n".join(text)), (name, reason)
 
 
 def test_of_good_runs_nothing_is_said() -> None:

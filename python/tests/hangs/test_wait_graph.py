@@ -49,7 +49,7 @@ def lines_with(
     steps: Steps, stacks: dict[int, list[int]], of_steps: int, waits: list[list[Any]], file: str
 ) -> SourceLines:
     """Lines of NAME.where: stacks of source lines, the stack of all steps, and waits. Line 0 is the wait for a mutex."""
-    told: list[Any] = [
+    result: list[Any] = [
         {"where": 1, "steps": len(steps)},
         {"call": 1, "function": LOCKS, "file": "sync/mutex.go", "line": 7, "of": "go"},
     ]
@@ -57,10 +57,10 @@ def lines_with(
     for line, function in FUNCTIONS.items():
         numbers[line] = len(numbers) + 1
         function = f"main.(*hub).{function}"
-        told.append({"call": numbers[line], "function": function, "file": file, "line": line, "of": "program"})
-    told += [{"stack": number, "calls": [numbers[line] for line in calls]} for number, calls in stacks.items()]
-    told += [{"step": 1, "stacks": [of_steps] * len(steps)}, {"peers": [[0, 1]]}, {"waits": waits}]
-    lines = SourceLines("\n".join(map(json.dumps, told)), len(steps))
+        result.append({"call": numbers[line], "function": function, "file": file, "line": line, "of": "program"})
+    result += [{"stack": number, "calls": [numbers[line] for line in calls]} for number, calls in stacks.items()]
+    result += [{"step": 1, "stacks": [of_steps] * len(steps)}, {"peers": [[0, 1]]}, {"waits": waits}]
+    lines = SourceLines("\n".join(map(json.dumps, result)), len(steps))
     assert not lines.fault, lines.fault
     return lines
 
@@ -200,7 +200,7 @@ def test_a_lock_that_is_held_over_a_write() -> None:
     assert re.search(rf"^3 of 5 wait, 2 of them perhaps, for one call: Write at {line} in \(\*room\).say", first)
     assert re.search(r"^Socket \d+ has no room: its other end, socket \d+, was never read\.$", room)
     assert re.search(r"was the last, .*; it sleeps at main.go:\d+ in talk", last)
-    (lock,) = [one for one in tree if "a mutex" in one]
+    (lock,) = [item for item in tree if "a mutex" in item]
     assert re.search(
         r"- a mutex at main.go:\d+ in \(\*room\).join, .* \(goid \d+\); perhaps goroutine \d+ holds it", lock
     )
@@ -227,7 +227,7 @@ def test_an_end_that_a_relay_does_not_pass_on() -> None:
     assert re.search(r"^Goroutine \d is still waiting\.$", waits)
     assert all(line.startswith("  ") for line in hang[:3]), hang
     recording = Recording.read(str(CAUSED / "relay-bad.jsonl"))
-    rules = [one.rule for one in all_suspects_of(recording).suspects if one.is_shown]
+    rules = [suspect.rule for suspect in all_suspects_of(recording).suspects if suspect.is_shown]
     assert rules == ["end not passed on"]
 
 

@@ -108,15 +108,15 @@ def test_a_write_that_a_closewrite_overtook_stands_before_it() -> None:
     log.add(PointKind.RW_LOCK, 2, WORD, 9, 17, 0).add(PointKind.WRITE, 1, WORD, 3, 3, 0).add(
         PointKind.WRITE, 1, WORD, 3, -1, 2
     )
-    made = log.made()
-    assert [json.loads(str(line))[0] for line in made.lines[2:]] == [
+    recording = log.made()
+    assert [json.loads(str(line))[0] for line in recording.lines[2:]] == [
         "spawn",
         "syswrite",
         "closewrite",
         "rwlock",
         "syswrite",
     ]
-    assert [(number, goroutine) for number, goroutine, _ in made.made[2:]] == [(2, 1), (2, 2), (3, 2), (5, 1)]
+    assert [(number, goroutine) for number, goroutine, _ in recording.made[2:]] == [(2, 1), (2, 2), (3, 2), (5, 1)]
 
 
 def test_a_write_that_found_no_room_and_a_closewrite_overtook_stands_before_it() -> None:
@@ -134,9 +134,9 @@ def test_a_write_that_found_no_room_and_a_closewrite_overtook_stands_before_it()
 def test_the_size_of_a_write_that_a_closewrite_overtook_is_at_its_step() -> None:
     log = Points().opened().add(PointKind.CLOSE_WRITE, 2, WORD).add(PointKind.DECREF, 2, WORD, 9, 1, 0)
     log.add(PointKind.WRITE, 1, WORD, 999, 999, 0)
-    made = make(Log(log.points), all_bytes=False)
-    (place,) = (place for place, line in enumerate(made.lines, 1) if "syswrite" in str(line))
-    assert made.beside.sizes == [(place, 999)]
+    recording = make(Log(log.points), all_bytes=False)
+    (place,) = (place for place, line in enumerate(recording.lines, 1) if "syswrite" in str(line))
+    assert recording.beside.sizes == [(place, 999)]
 
 
 def test_an_output_is_full_where_go_found_it_so() -> None:
@@ -214,8 +214,8 @@ def test_a_socket_that_is_opened_again_and_is_not_goes_on() -> None:
 def test_whether_events_have_gos_tags() -> None:
     for tag in (0, 3):
         log = Points().add(PointKind.INIT, 1, WORD).add(PointKind.OPEN, 1, DESCRIPTOR, 4 | tag << 32, 1, 1)
-        made = log.add(PointKind.EVENT, 0, DESCRIPTOR, 114, 0, tag).made()
-        assert made.has_tags == bool(tag)
+        recording = log.add(PointKind.EVENT, 0, DESCRIPTOR, 114, 0, tag).made()
+        assert recording.has_tags == bool(tag)
 
 
 def test_an_event_behind_the_close_is_stale() -> None:
@@ -294,11 +294,11 @@ def sockets(count: int, closed: Optional[set[int]] = None) -> Points:
 def test_the_open_ones_come_first_and_then_the_newest() -> None:
     log = sockets(10, {0, 1, 2, 9})
     for most, openings in ((3, "6 7 8"), (6, "3 4 5 6 7 8"), (8, "2 3 4 5 6 7 8 9")):
-        made = log.made(most)
-        assert made.sockets == most
-        assert f"{most} of 10 sockets are kept: those still open first, then the newest" in made.notes
+        recording = log.made(most)
+        assert recording.sockets == most
+        assert f"{most} of 10 sockets are kept: those still open first, then the newest" in recording.notes
         gone = {0, 1, 2, 9} & {int(word) for word in openings.split()}
-        assert sum('"increfclose"' in str(line) for line in made.lines) == len(gone)
+        assert sum('"increfclose"' in str(line) for line in recording.lines) == len(gone)
 
 
 def test_a_recording_has_256_sockets_at_most() -> None:
@@ -312,8 +312,8 @@ def test_a_recording_has_4096_goroutines_at_most() -> None:
     assert log.made().goroutines == 4_092
     for g in range(10):
         log.add(PointKind.INCREF, 10_000 + g, 10_016, 0, 8, 2)
-    made = log.made()
-    assert (made.sockets, made.goroutines) == (1, 11)
+    recording = log.made()
+    assert (recording.sockets, recording.goroutines) == (1, 11)
 
 
 def test_a_recording_has_1000000_steps_at_most() -> None:

@@ -14,8 +14,32 @@ from netrev.recording.goroutines import GoGoroutine, LeftOut, Object
 from netrev.recording.where import SourceCall, SourceLines
 from netrev_go.go_command.toolchain import Go
 from netrev_go.log import lines
-
-from netrev_go.log.goroutines import BY_GO, GIVES, MUTEX, NEVER, OF_A_WAIT_GROUP, OTHER, READ_LOCK, ROOM, SELECT, SEMAPHORE, SLEEP, TAKES, UNENDED, VALUE, WAIT_GROUP, WRITE_LOCK, At, Born, Goroutines, LoggedPark, UseSpan, LoggedTimer, Used, goroutines_of  # fmt: skip
+from netrev_go.log.goroutines import (  # fmt: skip
+    BY_GO,
+    GIVES,
+    MUTEX,
+    NEVER,
+    OF_A_WAIT_GROUP,
+    OTHER,
+    READ_LOCK,
+    ROOM,
+    SELECT,
+    SEMAPHORE,
+    SLEEP,
+    TAKES,
+    UNENDED,
+    VALUE,
+    WAIT_GROUP,
+    WRITE_LOCK,
+    At,
+    Born,
+    Goroutines,
+    LoggedPark,
+    LoggedTimer,
+    Used,
+    UseSpan,
+    goroutines_of,
+)
 from netrev_go.log.lines import Calls, LineCall
 from netrev_go.log.points import Point, PointKind, PointStack
 from netrev_go.steps import converting
@@ -165,7 +189,7 @@ def test_a_timer_that_is_stopped_never_goes_off() -> None:
     points = Points().add(PointKind.TIMER, 7, CHANNEL, 90_000, stack=4).add(PointKind.STOPPED, 8, CHANNEL, stack=5)
     points.add(PointKind.TIMER, 8, CHANNEL, 95_000, stack=6)
     found = points.found().timers
-    assert [(one.goroutine, one.stack, one.due) for one in found] == [(7, 4, 90_000), (8, 5, NEVER), (8, 6, 95_000)]
+    assert [(item.goroutine, item.stack, item.due) for item in found] == [(7, 4, 90_000), (8, 5, NEVER), (8, 6, 95_000)]
 
 
 def test_those_of_a_time() -> None:
@@ -273,7 +297,7 @@ def test_a_lock_is_known_by_the_reason_or_by_the_stack() -> None:
         assert [park.reason for park in parks] == [reason for _, _, reason in wanted.values()]
         objects = [read.objects[park.objects[0].object] for park in parks]
         assert len(set(objects[:4])) == 1
-        assert [one.sort for one in objects[3:]] == ["RWMutex", "WaitGroup", "semaphore"]
+        assert [item.sort for item in objects[3:]] == ["RWMutex", "WaitGroup", "semaphore"]
     points = Points().add(PointKind.PARKS, 11, 0, OTHER, stack=1)  # as in an older log
     assert written(points.found(), stacks).parks[11][0].reason == where.A_MUTEX
 
@@ -300,7 +324,7 @@ def test_lines_of_no_such_form_are_a_fault() -> None:
 def test_those_that_wait_still_come_first_and_then_the_newest() -> None:
     waits = [True, False, True, False, False]
     for most, expected in ((12, "11111"), (8, "10111"), (4, "10101"), (2, "10100"), (1, "00100"), (0, "00000")):
-        assert "".join(str(int(one)) for one in newest(waits, most)) == expected
+        assert "".join(str(int(item)) for item in newest(waits, most)) == expected
 
 
 def test_what_is_left_out_is_counted() -> None:
@@ -353,5 +377,5 @@ def test_a_program_of_a_hundred_thousand_goroutines_has_room(
     assert max(read.parks) == count + 9
     assert all(park.last == UNENDED for parks in read.parks.values() for park in parks)
     assert len(read.goroutines) == MOST
-    left = {one.reason: (one.waiting, one.ended) for one in read.left_out}
+    left = {item.reason: (item.waiting, item.ended) for item in read.left_out}
     assert left == {where.A_VALUE: (count - MOST, 0), where.A_SLEEP: (0, sleepers)}

@@ -49,29 +49,29 @@ def test_of_two_rows_of_a_mutex_the_later_counts() -> None:
     """The memory of a mutex that was left locked may have been reused."""
     for passed, holder in (((5, 9), 8), ((9, 5), 7)):
         rows = [HolderRow(LOCK, goid, False, at) for goid, at in zip((7, 8), passed)]
-        assert [one.goroutine for one in log_of(rows).holders or ()] == [holder]
+        assert [holder.goroutine for holder in log_of(rows).holders or ()] == [holder]
 
 
 def test_each_reader_counts_and_each_time_that_one_reads() -> None:
     rows = [HolderRow(LOCK, goid, True, 5) for goid in (7, 8, 7)] + [HolderRow(OTHER_LOCK, 9, False, 6)]
-    held = [(one.address, one.goroutine, one.is_reader) for one in log_of(rows).holders or ()]
+    held = [(holder.address, holder.goroutine, holder.is_reader) for holder in log_of(rows).holders or ()]
     assert held == [(LOCK, 7, True), (LOCK, 8, True), (LOCK, 7, True), (OTHER_LOCK, 9, False)]
 
 
 def test_a_writer_and_readers_of_a_mutex_are_apart() -> None:
     rows = [HolderRow(LOCK, 7, True, 5), HolderRow(LOCK, 8, False, 6)]
-    assert [one.goroutine for one in log_of(rows).holders or ()] == [7, 8]
+    assert [holder.goroutine for holder in log_of(rows).holders or ()] == [7, 8]
 
 
 def test_a_row_that_is_being_written_is_left_out() -> None:
     rows = [HolderRow(HOLDER_BEGUN, 7, False, 5), HolderRow(LOCK, 8, False, 6)]
-    assert [one.goroutine for one in log_of(rows).holders or ()] == [8]
+    assert [holder.goroutine for holder in log_of(rows).holders or ()] == [8]
 
 
 def test_a_row_of_more_calls_than_there_is_room_for_is_left_out() -> None:
     data = bytearray(binary(opened(1), holders=[HolderRow(LOCK, 7), HolderRow(OTHER_LOCK, 8)]))
     struct.pack_into("<Q", data, HEADER_BYTES + STACKS * 256 + 3 * 8, 13)
-    assert [one.goroutine for one in read(bytes(data)).holders or ()] == [8]
+    assert [holder.goroutine for holder in read(bytes(data)).holders or ()] == [8]
 
 
 def test_a_table_without_rows_says_that_none_is_locked() -> None:
@@ -102,7 +102,7 @@ def test_a_log_that_ends_in_the_table_has_what_is_whole() -> None:
     rows = [HolderRow(LOCK, 7, False, 5, (11,)), HolderRow(OTHER_LOCK, 8, False, 6, (12,))]
     data = binary(opened(1), holders=rows)
     log = read(data[: HEADER_BYTES + STACKS * 256 + HOLDER_BYTES + 40])
-    assert ([one.goroutine for one in log.holders or ()], log.points) == ([7], [])
+    assert ([holder.goroutine for holder in log.holders or ()], log.points) == ([7], [])
 
 
 def test_a_table_that_is_too_large_is_none_of_a_log() -> None:
@@ -161,7 +161,7 @@ def test_all_readers_of_a_mutex_are_kept() -> None:
     found.held = [LoggedMutex(LOCK, goid, True, 4, 1) for goid in (7, 8, 7)]
     lines = written(found, {4: Calls((PROGRAM,), None)})
     (at,) = lines.parks[9][0].objects
-    assert [one.goid for one in (lines.held or {})[at.object]] == [7, 8, 7]
+    assert [line.goid for line in (lines.held or {})[at.object]] == [7, 8, 7]
 
 
 def test_that_none_is_held_is_said() -> None:

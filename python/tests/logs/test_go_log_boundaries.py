@@ -15,7 +15,9 @@ from xml.etree import ElementTree
 import pytest
 
 from dev.fuzz.generators.logs import binary
-from netrev.findings.finding import Finding, Kind as FindingKind, Sentence, SuspectFindings
+from netrev.findings.finding import Finding
+from netrev.findings.finding import Kind as FindingKind
+from netrev.findings.finding import Sentence, SuspectFindings
 from netrev.messages import recorder as messages
 from netrev.recording.recording import NotARecordingError
 from netrev.system.time_limits import LateError
@@ -26,7 +28,7 @@ from netrev_go.go_command.toolchain import RecorderError
 from netrev_go.log import goroutines, lines, logfile, sockets
 from netrev_go.log.answering import can_answer
 from netrev_go.log.beside import OF_UNIX, Beside
-from netrev_go.log.goroutines import NEVER, Goroutines, LoggedChannel, LoggedPark, Passing, UseSpan, Used
+from netrev_go.log.goroutines import NEVER, Goroutines, LoggedChannel, LoggedPark, Passing, Used, UseSpan
 from netrev_go.log.lines import Calls, LineCall
 from netrev_go.log.logfile import HEADER_WORDS, MOST_HOLDERS, MOST_POINTS, MOST_STACKS, UNDER_WAY, Header, NotALogError
 from netrev_go.log.notes import REFERENCES, WAITING, Note

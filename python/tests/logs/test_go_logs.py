@@ -5,7 +5,6 @@ import pathlib
 import random
 import struct
 import tempfile
-from unittest import mock
 
 import pytest
 
@@ -21,6 +20,7 @@ from netrev_go.steps.making import NothingRecordedError, UnconvertibleError, mak
 from netrev_go.steps.report import Conversion, next_line, wait_of
 from netrev_go.steps.where import own_line, write_where
 from tests.session.test_strange import OBEYED, unseen
+from tests.support.stubs import stub
 
 REAL = pathlib.Path(__file__).resolve().parents[3] / "examples/real"
 NAMES = ("half", "hijacked", "hung", "leak", "lost", "older", "past")
@@ -176,13 +176,13 @@ def test_a_call_of_another_goroutine_too() -> None:
 
 def test_what_is_no_log_is_said() -> None:
     whole = binary(opened(3))
-    for data, said in (
+    for data, text in (
         (b"", "too short"),
         (b"\0" * 5000, "not a log"),
         (b"NR 3 1 7 4 0 0\n" * 400, "not a log"),
         (whole[:16] + b"\xff" * 8 + whole[24:], "header is damaged"),
     ):
-        with pytest.raises(NotALogError, match=said):
+        with pytest.raises(NotALogError, match=text):
             read(data)
     with pytest.raises(NotALogError, match="can't be read"):
         read_log(pathlib.Path("/nowhere/log.1"))
@@ -318,11 +318,11 @@ def test_nrdb_reads_the_lines_that_were_written(folder: pathlib.Path) -> None:
     made = LineCall("main.main", "main.go", 18, "program")
     name = folder / "a.where"
     write_where(name, [7, 0, 9, 7] * 600, {7: Calls(CALLS, made), 9: Calls((), None)})
-    told = SourceLines.beside(str(name.with_suffix(".jsonl")), 2_400)
+    result = SourceLines.beside(str(name.with_suffix(".jsonl")), 2_400)
     assert not SourceLines.beside(str(name.with_suffix(".jsonl")), 2_399)
-    assert told.words(1) == "main.go:14 ext.Read"
-    assert (told.words(2), told.words(3), told.words(2_400)) == ("", "", "main.go:14 ext.Read")
-    made_at = told.of(1).made
+    assert result.words(1) == "main.go:14 ext.Read"
+    assert (result.words(2), result.words(3), result.words(2_400)) == ("", "", "main.go:14 ext.Read")
+    made_at = result.of(1).made
     assert (made_at and made_at.place()) == "main.go:18"
 
 
@@ -368,8 +368,8 @@ def test_the_next_line_has_the_commands_of_the_first_suspect() -> None:
 
 
 def test_addresses_become_lines(monkeypatch: pytest.MonkeyPatch) -> None:
-    told = "main.f\n/p/main.go:14\n?\n?:0\n"
-    monkeypatch.setattr(lines.subprocess, "run", lambda *_, **__: mock.Mock(stdout=told))
+    result = "main.f\n/p/main.go:14\n?\n?:0\n"
+    monkeypatch.setattr(lines.subprocess, "run", lambda *_, **__: stub(stdout=result))
     assert looked_up(pathlib.Path("p"), ["go"], [5, 4], 0) == {4: ("main.f", "/p/main.go", 14)}
 
 

@@ -11,24 +11,27 @@ import pytest
 from netrev.recording import goroutines as where
 from netrev.recording.where import SourceLines
 from netrev_go.log.beside import OF_IPV4
-
-from netrev_go.log.goroutines import GENERATION, GIVES, ROOM, UNENDED, VALUE, At, LoggedDial, Goroutines, LoggedChannel, LoggedTimer  # fmt: skip
+from netrev_go.log.goroutines import (  # fmt: skip
+    GENERATION,
+    GIVES,
+    ROOM,
+    UNENDED,
+    VALUE,
+    At,
+    Goroutines,
+    LoggedChannel,
+    LoggedDial,
+    LoggedTimer,
+)
 from netrev_go.log.lines import OF_GO, OF_THE_PROGRAM, Calls, LineCall, is_ours, outside_the_runtime
 from netrev_go.log.points import PointKind
 from netrev_go.log.ran import Ran
 from netrev_go.steps.cutting import goroutines_of
 from netrev_go.steps.goroutine_lines import CANCELLED, TIMED_OUT
 
-from .test_go_goroutines import (
-    CHANNEL,
-    GO_STATEMENT,
-    OF_GO as CALL_OF_GO,
-    OTHER_CHANNEL,
-    PROGRAM,
-    Points,
-    cases,
-    written,
-)
+from .test_go_goroutines import CHANNEL, GO_STATEMENT
+from .test_go_goroutines import OF_GO as CALL_OF_GO
+from .test_go_goroutines import OTHER_CHANNEL, PROGRAM, Points, cases, written
 
 SECOND, THIRD = CHANNEL + (1 << GENERATION), CHANNEL + (2 << GENERATION)
 CALLS = {4: Calls((PROGRAM,), None), 5: Calls((GO_STATEMENT,), None)}

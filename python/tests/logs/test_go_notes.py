@@ -12,8 +12,24 @@ from netrev.machine.in_place import Machine
 from netrev.text.contents import Limits
 from netrev.text.reading import read_text
 from netrev_go.log.answering import UnconvertibleError
-
-from netrev_go.log.notes import ARMED, CHECKING, CLOSING, ENTERING, EVENT_ERROR, GOROUTINE, NIL, PARKED, PARKING, READ_RUNS, READY, SHUT, SWAPPING, UNQUEUED, WAIT, WRITE_RUNS  # fmt: skip
+from netrev_go.log.notes import (  # fmt: skip
+    ARMED,
+    CHECKING,
+    CLOSING,
+    ENTERING,
+    EVENT_ERROR,
+    GOROUTINE,
+    NIL,
+    PARKED,
+    PARKING,
+    READ_RUNS,
+    READY,
+    SHUT,
+    SWAPPING,
+    UNQUEUED,
+    WAIT,
+    WRITE_RUNS,
+)
 from netrev_go.log.points import AT_A_SOCKET, AT_A_WORD, Log, Point, PointKind
 from netrev_go.log.prelude import NOBODY
 from netrev_go.steps.making import NewRecording, NothingRecordedError, make
@@ -62,8 +78,8 @@ class Noted:
 
     def replayed(self) -> tuple[NewRecording, Machine]:
         """The recording, and the machine after it; checks that the machine gives each recorded answer."""
-        made = self.made()
-        return made, replayed(made)
+        recording = self.made()
+        return recording, replayed(recording)
 
 
 def replayed(made: NewRecording) -> Machine:
@@ -79,9 +95,9 @@ def left_out(log: Noted) -> str:
     """The reason why the only socket in the notes is left out. The log has another socket, so that it has a
     recording."""
     log.note(word=OTHER_WORD, descriptor=OTHER_DESCRIPTOR)
-    made = log.end().made()
-    assert made.sockets == 1, made.lines
-    return next(note.partition("left out: ")[2] for note in made.notes if "left out" in note)
+    recording = log.end().made()
+    assert recording.sockets == 1, recording.lines
+    return next(note.partition("left out: ")[2] for note in recording.notes if "left out" in note)
 
 
 # a noted socket: its lock word, its flags, the descriptor's words, its deadlines, and the goroutines inside waits
@@ -141,8 +157,8 @@ WAITS: dict[str, dict[str, Any]] = {
 
 @pytest.mark.parametrize("name, what", WAITS.items())
 def test_it_leads_to_what_was_noted(name: Any, what: Any) -> None:
-    made, machine = Noted().note(**what).end().replayed()
-    assert (made.sockets, made.prelude) == (1, len(made.lines))
+    recording, machine = Noted().note(**what).end().replayed()
+    assert (recording.sockets, recording.prelude) == (1, len(recording.lines))
     socket, descriptor = machine.sockets[0], machine.descs[0]
     flags, places = what.get("flags", 0), {place for _, _, place in what.get("inside", ())}
     assert socket.lock.number == what.get("lock", 0)
@@ -157,12 +173,12 @@ def test_it_leads_to_what_was_noted(name: Any, what: Any) -> None:
 
 
 def test_its_goroutines_have_their_names_and_stacks() -> None:
-    made, _ = Noted().note(**WAITS["a read that is parked"]).end().replayed()
-    assert (made.numbers, made.goroutines) == ({READER: 1}, 1)
-    steps = [json.loads(str(line)) for line in made.lines]
+    recording, _ = Noted().note(**WAITS["a read that is parked"]).end().replayed()
+    assert (recording.numbers, recording.goroutines) == ({READER: 1}, 1)
+    steps = [json.loads(str(line)) for line in recording.lines]
     of_reader = [number for number, step in enumerate(steps) if step[0] == "parkcommit"]
-    assert [made.stacks[number] for number in of_reader] == [5]
-    assert made.last_steps[1] == len(steps)
+    assert [recording.stacks[number] for number in of_reader] == [5]
+    assert recording.last_steps[1] == len(steps)
 
 
 def test_the_clock_is_that_of_the_notes() -> None:
@@ -181,15 +197,15 @@ def test_goroutines_are_queued_in_their_order() -> None:
         READ_LOCKED + 2 * A_READER_WAITS, words=(GOROUTINE, NIL), inside=((READ, READER, PARKED),),
         queued=((READ, SECOND), (READ, WRITER)),
     )  # fmt: skip
-    made, machine = log.end().replayed()
-    assert machine.sockets[0].queues[0] == (made.numbers[SECOND], made.numbers[WRITER])
+    recording, machine = log.end().replayed()
+    assert machine.sockets[0].queues[0] == (recording.numbers[SECOND], recording.numbers[WRITER])
 
 
 def test_a_lock_is_that_of_who_gives_it_up() -> None:
     log = Noted().note(READ_LOCKED).end().add(PointKind.RW_UNLOCK, SECOND, WORD, READ_LOCKED, 0, 1)
-    made, machine = log.replayed()
-    assert ["rwlock", made.numbers[SECOND], 0, "r", "yes"] in [json.loads(str(line)) for line in made.lines]
-    assert (machine.sockets[0].lock.number, made.prelude) == (0, len(made.lines) - 1)
+    recording, machine = log.replayed()
+    assert ["rwlock", recording.numbers[SECOND], 0, "r", "yes"] in [json.loads(str(line)) for line in recording.lines]
+    assert (machine.sockets[0].lock.number, recording.prelude) == (0, len(recording.lines) - 1)
 
 
 def test_a_reference_is_that_of_who_gives_it_up() -> None:
@@ -200,8 +216,8 @@ def test_a_reference_is_that_of_who_gives_it_up() -> None:
         .add(PointKind.DECREF, READER, WORD, 16, 8, 0)
         .add(PointKind.DECREF, SECOND, WORD, 8, 0, 0)
     )
-    made, machine = log.replayed()
-    assert (set(made.numbers), machine.sockets[0].lock.number) == ({READER, SECOND}, 0)
+    recording, machine = log.replayed()
+    assert (set(recording.numbers), machine.sockets[0].lock.number) == ({READER, SECOND}, 0)
 
 
 def test_one_that_is_closed_while_a_read_is_under_way() -> None:
@@ -209,9 +225,9 @@ def test_one_that_is_closed_while_a_read_is_under_way() -> None:
     log.note(word=OTHER_WORD, descriptor=OTHER_DESCRIPTOR).end()
     log.add(PointKind.SWAP, READER, DESCRIPTOR, READ, 0).add(PointKind.WAIT_CHECK, READER, DESCRIPTOR, READ, 1)
     log.add(PointKind.DECREF, SECOND, WORD, 19, 11, 0).add(PointKind.RW_UNLOCK, READER, WORD, 11, 1, 3)
-    made, machine = log.add(PointKind.CLOSE, READER, DESCRIPTOR).replayed()
+    recording, machine = log.add(PointKind.CLOSE, READER, DESCRIPTOR).replayed()
     assert (machine.sockets[0].lock.number, machine.free) == (1, (0,))
-    assert made.sockets == 2
+    assert recording.sockets == 2
 
 
 def test_a_writes_output_is_full() -> None:
@@ -224,8 +240,8 @@ def test_a_writes_output_is_full() -> None:
 def test_an_output_that_is_found_full_later_was_full() -> None:
     log = Noted().note(WRITE_LOCKED).end().add(PointKind.WRITE, WRITER, WORD, 3, 2, 0)
     log.add(PointKind.WRITE, WRITER, WORD, 3, 0, 1).add(PointKind.RW_UNLOCK, WRITER, WORD, WRITE_LOCKED, 0, 0)
-    made, machine = log.replayed()
-    answers = [json.loads(str(line))[-1] for line in made.lines if "syswrite" in str(line)]
+    recording, machine = log.replayed()
+    answers = [json.loads(str(line))[-1] for line in recording.lines if "syswrite" in str(line)]
     assert answers == [["put", 4_096], ["put", 2], "again"]
     assert len(machine.sockets[0].buffers[1]) == 4_096
 
@@ -235,10 +251,10 @@ def test_gos_sequences_and_tags_are_counted_from_there() -> None:
     log.add(PointKind.FIRE, 0, DESCRIPTOR, SEQUENCES[0] - 1, 1 | 4)  # of a timer that was stopped before
     log.add(PointKind.FIRE, 0, DESCRIPTOR, SEQUENCES[0], 1).add(PointKind.EVENT, 0, DESCRIPTOR, READ, 0, TAG)
     log.add(PointKind.EVENT, 0, DESCRIPTOR, READ, 2, TAG - 1)
-    made, machine = log.replayed()
-    assert [str(line) for line in made.lines if "fire" in str(line)] == ['["fire",0,"done"]']
+    recording, machine = log.replayed()
+    assert [str(line) for line in recording.lines if "fire" in str(line)] == ['["fire",0,"done"]']
     assert (machine.descs[0].deadlines[0], machine.descs[0].words[0]) == (-1, "ready")
-    events = [json.loads(str(line)) for line in made.lines[made.prelude :] if "pollevent" in str(line)]
+    events = [json.loads(str(line)) for line in recording.lines[recording.prelude :] if "pollevent" in str(line)]
     assert events == [["pollevent", 0, 1, "r", 0, "done"]]
 
 
@@ -251,21 +267,21 @@ def test_a_socket_of_the_window_is_not_noted_again() -> None:
         .add(PointKind.OPEN, 1, OTHER_DESCRIPTOR, 5 | 9 << 32, 1, 1)
     )
     log.note(word=OTHER_WORD, descriptor=OTHER_DESCRIPTOR, lock=8).note(lock=8).end()
-    made, machine = log.replayed()
-    assert (made.sockets, [socket.lock.number for socket in machine.sockets]) == (2, [0, 0])
+    recording, machine = log.replayed()
+    assert (recording.sockets, [socket.lock.number for socket in machine.sockets]) == (2, [0, 0])
 
 
 def test_the_socket_that_is_asked_for_comes_first() -> None:
     log = Noted().note().note(word=OTHER_WORD, descriptor=OTHER_DESCRIPTOR, lock=0, flags=SHUT).end()
     for first, is_shut in ((0, True), (WORD, False), (OTHER_WORD, True)):
-        made = make(Log(log.points, begin=BEGIN, from_the_start=False), 1, first=first)
-        assert [socket.shut for socket in replayed(made).sockets] == [is_shut]
+        recording = make(Log(log.points, begin=BEGIN, from_the_start=False), 1, first=first)
+        assert [socket.shut for socket in replayed(recording).sockets] == [is_shut]
 
 
 def test_points_before_its_note_are_not_its() -> None:
     log = Noted().add(PointKind.INCREF, READER, WORD, 0, 8, 2).add(PointKind.DECREF, READER, WORD, 8, 0, 0).note().end()
-    made, _ = log.replayed()
-    assert sum("incref" in str(line) for line in made.lines) == 0
+    recording, _ = log.replayed()
+    assert sum("incref" in str(line) for line in recording.lines) == 0
 
 
 def test_why() -> None:
@@ -360,10 +376,10 @@ def crowd(ends: bool) -> Noted:
 
 
 def test_one_that_has_ended_hands_its_number_on() -> None:
-    made, machine = crowd(True).replayed()
-    assert (made.goroutines, len(machine.goroutines)) == (5_000, 2)
-    assert (made.numbers, len(made.taken)) == ({5_000: 1}, 5_000)
-    assert made.taken[:2] == [(1, 0, 1), (1, made.prelude + 3, 2)]
+    recording, machine = crowd(True).replayed()
+    assert (recording.goroutines, len(machine.goroutines)) == (5_000, 2)
+    assert (recording.numbers, len(recording.taken)) == ({5_000: 1}, 5_000)
+    assert recording.taken[:2] == [(1, 0, 1), (1, recording.prelude + 3, 2)]
 
 
 def test_one_that_has_not_keeps_it() -> None:
@@ -375,10 +391,10 @@ def test_where_all_fit_each_has_its_own() -> None:
     log = Noted().note().end()
     for g in (1, 2):
         log.add(PointKind.INCREF, g, WORD, 0, 8, 2).add(PointKind.DECREF, g, WORD, 8, 0, 0).add(PointKind.ENDS, g, 0)
-    made, _ = log.replayed()
-    assert (made.numbers, made.taken) == ({1: 1, 2: 2}, [])
+    recording, _ = log.replayed()
+    assert (recording.numbers, recording.taken) == ({1: 1, 2: 2}, [])
 
 
 def test_nobody_is_no_goroutine_of_gos() -> None:
-    made = Noted().note().end().made()
-    assert (made.goroutines, NOBODY in made.numbers) == (0, False)
+    recording = Noted().note().end().made()
+    assert (recording.goroutines, NOBODY in recording.numbers) == (0, False)

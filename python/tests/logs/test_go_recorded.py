@@ -16,6 +16,7 @@ from itertools import groupby
 from pathlib import Path
 
 import pytest
+
 from dev.recorder.fetching import is_here
 from netrev_go.go_command.running import logs_in
 from netrev_go.go_command.toolchain import Go, overlay, quiet_go

@@ -6,7 +6,22 @@ from typing import Optional
 
 import pytest
 
-from netrev_go.log.goroutines import BY_GO, CONDITION, MUTEX, NEVER, ROOM, SLEEP, UNENDED, VALUE, At, Born, Goroutines, LoggedPark, LoggedTimer, goroutines_of  # fmt: skip
+from netrev_go.log.goroutines import (  # fmt: skip
+    BY_GO,
+    CONDITION,
+    MUTEX,
+    NEVER,
+    ROOM,
+    SLEEP,
+    UNENDED,
+    VALUE,
+    At,
+    Born,
+    Goroutines,
+    LoggedPark,
+    LoggedTimer,
+    goroutines_of,
+)
 from netrev_go.log.orders import orders_of
 from netrev_go.log.points import Point, PointKind
 from netrev_go.log.waits import WAITED_FOR, LoggedWait, waits_of

@@ -16,6 +16,7 @@ from dataclasses import dataclass, replace
 from pathlib import Path
 
 import pytest
+
 from dev.fuzz.generators.random_logs import log_of, program_of
 from netrev_go.go_command.toolchain import Go
 from netrev_go.log.lines import SourceRoots, lines_of
@@ -86,7 +87,7 @@ def drawn(log: Log, number: int) -> Drawn:
         from_the_start=bool(points) and points[0].number == 0,
         has_orders=number % 9 > 0 and PointKind.PARKS in kinds,
     )
-    part.holders = None if number % 4 == 3 else [one for one in log.holders or () if dice.random() < 0.8]
+    part.holders = None if number % 4 == 3 else [holder for holder in log.holders or () if dice.random() < 0.8]
     sockets, megabytes = dice.choice((1, 2, 3, 5, 9, 256)), dice.choice((1, 1_024))
     wish = RecordingOptions(
         sockets,
@@ -136,30 +137,38 @@ def made_of(drawn_part: Drawn, symbols: Symbols) -> str:
         go = Go("go", SOURCES.parent, "go1.27.3", "linux/amd64", "") if one.has_lines else None
         outcome = converted(ReadLog(Path("log.1"), one.log, one.tests), folder / "made.jsonl", go, one.wish, one.test)
         files = "".join(f"{path.name}:\n{path.read_text()}" for path in sorted(folder.iterdir()))
-        said = "\n".join(outcome.lines).replace(f"{folder}/", "")
-    return f"taken {outcome.taken}, empty {outcome.is_empty}\n{said}\n{files}"
+        text = "\n".join(outcome.lines).replace(f"{folder}/", "")
+    return f"taken {outcome.taken}, empty {outcome.is_empty}\n{text}\n{files}"
 
 
 def of_program(number: int) -> str:
     """The files made from a random program's log, except the answers: other tests compare these."""
     try:
-        made = make(log_of(program_of(str(number))), most=2 + number % 3, all_bytes=number % 2 == 0)
+        recording = make(log_of(program_of(str(number))), most=2 + number % 3, all_bytes=number % 2 == 0)
     except NothingRecordedError as fault:
         return str(fault)
-    beside, everybody = made.beside, made.everybody
+    beside, everybody = recording.beside, recording.everybody
     parts = (
-        made.lines,
-        made.stacks,
-        made.notes,
-        made.times,
-        made.made,
-        made.ended,
-        made.words,
-        made.olds,
-        made.numbers,
-        made.taken,
+        recording.lines,
+        recording.stacks,
+        recording.notes,
+        recording.times,
+        recording.made,
+        recording.ended,
+        recording.words,
+        recording.olds,
+        recording.numbers,
+        recording.taken,
     )
-    more = made.header, made.goroutines, made.sockets, made.bytes, made.prelude, made.has_tags, made.last_steps
+    more = (
+        recording.header,
+        recording.goroutines,
+        recording.sockets,
+        recording.bytes,
+        recording.prelude,
+        recording.has_tags,
+        recording.last_steps,
+    )
     return "\n".join(map(str, (*more, *parts, beside.sizes, beside.errors, everybody.parks, everybody.held)))
 
 

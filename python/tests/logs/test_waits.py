@@ -61,7 +61,7 @@ def test_a_goroutine_that_the_recording_has_not_is_left_out() -> None:
 def hung(extra: list[dict[str, Any]], steps: Steps) -> str:
     """The output of `info hangs` at the end of these steps, with further lines of NAME.where."""
     recording = with_lines(steps)
-    told = [
+    result = [
         {"where": 1, "steps": len(steps)},
         {"call": 1, "function": "main.main", "file": "a.go", "line": 1, "of": "program"},
         {"call": 2, "function": "sync.(*Mutex).lockSlow", "file": "sync/mutex.go", "line": 7, "of": "go"},
@@ -73,7 +73,7 @@ def hung(extra: list[dict[str, Any]], steps: Steps) -> str:
         {"peers": [[0, 1]]},
         *extra,
     ]
-    recording.lines = SourceLines("\n".join(map(json.dumps, told)), len(steps))
+    recording.lines = SourceLines("\n".join(map(json.dumps, result)), len(steps))
     assert not recording.lines.fault, recording.lines.fault
     return "\n".join(row.text for row in hangs_table(recording, recording.length).rows)
 
@@ -83,12 +83,12 @@ WAKES: Steps = [*TWO_ENDS, *READ, ["rwunlock", 1, 1, "r"], *writes(0)]
 
 
 def test_who_could_wake_a_call_and_waits_for_a_channel() -> None:
-    told = hung([{"waits": [[9, 0, 1, "a value from a channel", 2, -1]]}], WAKES)
+    text = hung([{"waits": [[9, 0, 1, "a value from a channel", 2, -1]]}], WAKES)
     assert (
         "Goroutine 0 waits for goroutine 1, which waits at a.go:44 in (*pool).take for a value from a channel since step 9."
-        in told
+        in text
     )
-    assert "- Write at a.go:1 in main (goroutine 0) on socket 0; goroutine 1 read at the other end last" in told
+    assert "- Write at a.go:1 in main (goroutine 0) on socket 0; goroutine 1 read at the other end last" in text
 
 
 def test_a_mutex_is_known_by_the_stack() -> None:
@@ -96,9 +96,9 @@ def test_a_mutex_is_known_by_the_stack() -> None:
 
 
 def test_without_it_nothing_is_said_of_that() -> None:
-    told = hung([], WAKES)
-    assert "since step 10 it is in no call of a socket" in told
-    assert "wait for" not in told
+    text = hung([], WAKES)
+    assert "since step 10 it is in no call of a socket" in text
+    assert "wait for" not in text
 
 
 def test_a_wait_that_is_over_is_not_told() -> None:

@@ -4,6 +4,7 @@ import random
 from typing import Iterator
 
 import pytest
+
 from dev.fuzz.generators.random_steps import Author
 from netrev.machine.machine import IDLE, StepRefusedError, World
 from netrev.machine.steps import apply

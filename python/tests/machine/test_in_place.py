@@ -53,7 +53,7 @@ def made(machine: Machine, world: World, step: tuple[Any, ...]) -> World:
 
 
 def test_steps_refusals_and_ways_back_are_the_models() -> None:
-    met, refused = set(), set()
+    coverage, refused = set(), set()
     for seed in SEEDS:
         author = Author(random.Random(f"in place {seed}"), wild=MOST_WILD if seed % 2 else 0.03)
         world, machine = World(author.limits), Machine(author.limits, None)
@@ -64,7 +64,7 @@ def test_steps_refusals_and_ways_back_are_the_models() -> None:
             if after is world and len(machine.steps) == len(way):
                 refused.add(step[0])
                 continue
-            met.add(step[0])
+            coverage.add(step[0])
             way.append(world)
             steps.append(step)
             world = after
@@ -76,15 +76,15 @@ def test_steps_refusals_and_ways_back_are_the_models() -> None:
             assert machine.world() == before
             machine.step(step)
         assert machine.world() == world
-    assert met == set(KINDS)
+    assert coverage == set(KINDS)
     assert len(refused) > len(KINDS) - 2
 
 
 def test_the_changed_cells_are_those_that_show_something_else() -> None:
     for seed in SEEDS:
-        made, worlds = Author(random.Random(f"changed {seed}")).recording(STEPS)
-        machine = Machine(made.limits)
-        for step, old, new in zip(made.steps, worlds, worlds[1:]):
+        recording, worlds = Author(random.Random(f"changed {seed}")).recording(STEPS)
+        machine = Machine(recording.limits)
+        for step, old, new in zip(recording.steps, worlds, worlds[1:]):
             machine.step(step)
             was, now = shown(old), shown(new)
             changed = in_order({cell for cell in now if was.get(cell) != now[cell]})

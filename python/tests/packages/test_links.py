@@ -7,6 +7,7 @@ import sys
 from pathlib import Path
 
 import pytest
+
 from netrev.text.files import written_whole
 from netrev_go.go_command.outputs import look
 from netrev_go.go_command.toolchain import RecorderError

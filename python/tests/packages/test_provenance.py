@@ -7,6 +7,7 @@ import subprocess
 from pathlib import Path
 
 import pytest
+
 from netrev.system import provenance
 from netrev.system.version import VERSION
 from nrdb.cli import main

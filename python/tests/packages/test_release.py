@@ -9,6 +9,7 @@ import sys
 from pathlib import Path
 
 import pytest
+
 from netrev.system.version import VERSION
 
 ROOT = Path(__file__).resolve().parents[3]

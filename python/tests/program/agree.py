@@ -21,6 +21,7 @@ from pathlib import Path
 from typing import Sequence
 
 import pytest
+
 from dev.fuzz.cases import SORTS, Made, large_buffers
 from dev.fuzz.generators.lines import Speaker, every_cell
 from netrev.text.contents import Step

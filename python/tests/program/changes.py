@@ -13,6 +13,7 @@ import random
 from pathlib import Path
 
 import pytest
+
 from dev.fuzz.generators.random_steps import Author
 from netrev.machine.observer import Observer
 from netrev.model.program import printed

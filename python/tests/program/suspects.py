@@ -18,12 +18,14 @@ import random
 from pathlib import Path
 
 import pytest
+
 from dev.fuzz.generators.injections import Bug, Traffic
 from netrev.machine.observer import Observer
 from netrev.model.program import printed
 from netrev.model.suspects import HUNTS
 from netrev.text.writing import write_plain
-from tests.machine.test_suspect_lines import ALL as ROWS, random_recording, random_waits, text_of
+from tests.machine.test_suspect_lines import ALL as ROWS
+from tests.machine.test_suspect_lines import random_recording, random_waits, text_of
 
 from .agree import bad_texts
 from .support.sharing import ROOT, expect

@@ -28,6 +28,7 @@ from functools import partial
 from pathlib import Path
 
 import pytest
+
 from netrev.machine.debugger import DebuggedRecording
 
 from .address_spaces import LOOKS, MEGABYTE, NO_MEMORY, ended, limit_memory, loads_in, play_memory, play_memory_of_serve

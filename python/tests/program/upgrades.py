@@ -13,6 +13,7 @@ from pathlib import Path
 from typing import Union
 
 import pytest
+
 from tests.support import examples
 
 from .support.given import upgrade_of

@@ -4,6 +4,7 @@ marks and with breaks at places of the program, and use a model of netrev."""
 from pathlib import Path
 
 import pytest
+
 from netrev.session.conditions import Condition
 from nrdb.web.shared import OF_THE_PAGE
 

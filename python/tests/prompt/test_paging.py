@@ -27,12 +27,12 @@ def paged(keys: list[str], lengths: list[int], rows: int = ROWS, is_on: bool = T
 @pytest.mark.parametrize("length", [1, 9, 10, 11, 20, 21, 30])
 def test_it_asks_when_the_screen_is_full(length: int) -> None:
     """A line counts as the number of rows that its letters fill."""
-    rows, told = 0, list[str]()
+    rows, result = 0, list[str]()
     for number in range(9):
         if rows >= ROWS - 1:
-            rows, told = 0, [*told, "?"]
-        rows, told = rows + -(-length // COLUMNS), [*told, chr(ord("a") + number)]
-    assert paged([""] * 9, [length] * 9) == told
+            rows, result = 0, [*result, "?"]
+        rows, result = rows + -(-length // COLUMNS), [*result, chr(ord("a") + number)]
+    assert paged([""] * 9, [length] * 9) == result
 
 
 def test_keys_leave_out_the_rest_or_go_on_without_stopping() -> None:

@@ -72,11 +72,11 @@ def prompt() -> Prompt:
 
 def test_a_break_at_a_line_stops_both_ways(prompt: Prompt) -> None:
     assert f"break p1 at {READS}: {len(prompt.positions)} of" in prompt.reply(f"break {READS}")
-    came = []
+    result = []
     for line in ["continue"] * len(prompt.positions) + ["reverse-continue"] * (len(prompt.positions) - 1):
         assert f"break p1: {READS}" in prompt.reply(line)
-        came.append(prompt.session.stood)
-    assert came == [*prompt.positions, *reversed(prompt.positions[:-1])]
+        result.append(prompt.session.stood)
+    assert result == [*prompt.positions, *reversed(prompt.positions[:-1])]
     assert READS in prompt.reply("where")
     assert f"p1 at {READS}" in prompt.reply("info breakpoints")
     prompt.reply("delete p1")
@@ -129,9 +129,9 @@ def test_where_no_step_comes_from_the_nearest_lines_are_told(prompt: Prompt) -> 
 
 def test_the_history_of_a_place(prompt: Prompt) -> None:
     prompt.reply(f"goto {prompt.positions[1]}")
-    told = prompt.reply(f"history {READS}")
-    assert told.count("goroutine 2, before step") == 2
-    assert f"{len(prompt.positions) - 2} later" in told
+    output = prompt.reply(f"history {READS}")
+    assert output.count("goroutine 2, before step") == 2
+    assert f"{len(prompt.positions) - 2} later" in output
 
 
 def test_frames_and_the_source_round_them(prompt: Prompt) -> None:
@@ -187,8 +187,8 @@ def test_breakpoints_at_a_line_and_at_a_function(editor: Editor) -> None:
     assert editor.lines.nearest(10_000, False) == positions[-1]
     assert list(editor.lines.at(positions[0])) == [body["id"]]
     editor.lines.clear(str(SOURCE))
-    made = editor.lines.set_function("main.ask", wish_of("", {}))
-    assert made and made["verified"]
+    mark = editor.lines.set_function("main.ask", wish_of("", {}))
+    assert mark and mark["verified"]
     assert editor.lines.set_function("main.nobody", wish_of("", {})) is None
 
 
@@ -206,9 +206,9 @@ def test_another_file_has_no_lines(editor: Editor) -> None:
 
 def test_a_line_without_a_step_is_refused_as_the_prompt_does(editor: Editor) -> None:
     for line in (45, 47, 9999):
-        said = io.StringIO()
-        session_of(said).run(f"break main.go:{line}")
-        refusal = said.getvalue().splitlines()[-1]
+        output = io.StringIO()
+        session_of(output).run(f"break main.go:{line}")
+        refusal = output.getvalue().splitlines()[-1]
         assert f"no step of the recording comes from main.go:{line}; from main.go:" in refusal
         body = editor.lines.set_line(str(SOURCE), line, wish_of("", {}))
         assert (body["verified"], f"| {body['message']}") == (False, refusal)

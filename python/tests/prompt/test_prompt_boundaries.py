@@ -8,10 +8,10 @@ from typing import Any, cast
 
 import pytest
 
+from netrev.connection.output import Table
 from netrev.messages import searches
 from netrev.recording.recording import Recording
 from netrev.session.session import Session, UsageError
-from netrev.connection.output import Table
 from netrev.text.vocabulary import Of
 from netrev.timeline import page, story
 from netrev.timeline.cell_runs import Window

@@ -4,6 +4,7 @@ places with Tab. A model takes netrev's part."""
 import io
 
 import pytest
+
 from netrev.recording.where import SourceCall
 from netrev.session.line_hints import hint
 from netrev.session.line_index import is_function

@@ -99,9 +99,9 @@ def paging(monkeypatch: pytest.MonkeyPatch) -> Paging:
 
 def test_a_longer_answer_waits(paging: Paging) -> None:
     text = "".join(f"line {number}\n" for number in range(25))
-    told = paging.shown(text, "\n", "\n")
-    assert told.replace(MORE, "") == text
-    assert [part.count("\n") for part in told.split(MORE)] == [9, 9, 7]
+    output = paging.shown(text, "\n", "\n")
+    assert output.replace(MORE, "") == text
+    assert [part.count("\n") for part in output.split(MORE)] == [9, 9, 7]
 
 
 def test_the_rest_may_be_left_out_or_come_at_once(paging: Paging) -> None:
@@ -121,8 +121,8 @@ def test_the_next_answer_is_shown(paging: Paging) -> None:
 
 
 def test_a_long_line_takes_several(paging: Paging) -> None:
-    told = paging.shown(("x" * 100 + "\n") * 5, "")
-    assert told.split(MORE)[0].count("\n") == 3
+    output = paging.shown(("x" * 100 + "\n") * 5, "")
+    assert output.split(MORE)[0].count("\n") == 3
 
 
 def test_ctrl_c_leaves_the_rest_out(paging: Paging) -> None:
@@ -209,9 +209,9 @@ def test_a_word_turns_the_pager_off(prompt: Prompt) -> None:
 
 
 def test_help_has_all_that_a_word_means() -> None:
-    told = list(help_of(["info"]))
-    assert "info goroutines [all|G]: what each goroutine does, without those that are idle or have ended" in told
-    assert told[-1].startswith("cell info: ")
+    result = list(help_of(["info"]))
+    assert "info goroutines [all|G]: what each goroutine does, without those that are idle or have ended" in result
+    assert result[-1].startswith("cell info: ")
     for word in (*KINDS, *CELLS, *COMMANDS):
         assert list(help_of([word])), word
     assert list(help_of(["nonsense"])) == []
@@ -236,7 +236,7 @@ def test_words_of_other_debuggers_for_goroutines_and_stacks_are_taken() -> None:
 
 def test_each_advice_names_what_there_is() -> None:
     for word, advice in FOREIGN.items():
-        named = {one.strip(":;,") for one in advice.split()} & set(COMMANDS)
+        named = {item.strip(":;,") for item in advice.split()} & set(COMMANDS)
         assert named or "nrdb" in advice or "netrev-go" in advice, (word, advice)
 
 

@@ -117,35 +117,35 @@ def trial(folder: Path, monkeypatch: pytest.MonkeyPatch) -> Real:
 
 
 def test_each_is_recorded_on_one_processor_and_on_four_and_compared(trial: Real) -> None:
-    status, said = trial.ran("--go", "1.27")
-    assert status == 1, said
+    status, text = trial.ran("--go", "1.27")
+    assert status == 1, text
     words = (trial.folder / "ran").read_text().splitlines()
     flags = "-test.short -test.timeout=40s"
     tests = [f"-test.run ^{name}$ {flags} {on} 0" for on in (1, 4) for name in ("TestGood", "TestRed", "TestSkip")]
     assert words == ["serve 1 1 0", "serve 1 4 0", *tests]
     found = read_results(trial.folder / "out/1.27")
     assert len(found) == 16
-    assert [one.went for one in found if one.processors == 4] == ["passed"] * 4 + ["failed"] * 2 + ["skipped"] * 2
-    assert [(one.suspects, one.differ) for one in found[:2]] == [(["1. late", "2. twice"], 0)] * 2
-    red = next(one for one in found if one.test == "TestRed")
+    assert [item.went for item in found if item.processors == 4] == ["passed"] * 4 + ["failed"] * 2 + ["skipped"] * 2
+    assert [(item.suspects, item.differ) for item in found[:2]] == [(["1. late", "2. twice"], 0)] * 2
+    red = next(item for item in found if item.test == "TestRed")
     assert (red.said, red.differ, red.suspects) == ("ok 25 steps; step 7: other", 1, [])
-    assert {one.steps for one in found} == {len((ROOT / "examples/real/half.jsonl").read_text().splitlines()) - 1}
+    assert {item.steps for item in found} == {len((ROOT / "examples/real/half.jsonl").read_text().splitlines()) - 1}
     assert red.words > 5
-    assert all(Path(one.recording).exists() for one in found)
-    assert "(tested before): correct: 952 steps" in said
-    assert "| 1.27 | 88 of 90 | yes | 952, 952 | 4 | 12 |" in said
-    assert "Tests that failed themselves: 1.27 net TestRed (4)" in said
+    assert all(Path(item.recording).exists() for item in found)
+    assert "(tested before): correct: 952 steps" in text
+    assert "| 1.27 | 88 of 90 | yes | 952, 952 | 4 | 12 |" in text
+    assert "Tests that failed themselves: 1.27 net TestRed (4)" in text
 
 
 def test_recordings_are_compared_again_with_check(trial: Real) -> None:
     assert trial.ran("--go", "1.27", "--record", "--only", "samples")[0] == 0
-    assert {one.said for one in read_results(trial.folder / "out/1.27")} == {""}
+    assert {result.said for result in read_results(trial.folder / "out/1.27")} == {""}
     trial.patch(real, Analysis=Suspects())
     assert trial.ran("--go", "1.27", "--check")[0] == 0
     trial.checked = lambda *_: (False, "step 3: no")
-    status, said = trial.ran("--go", "1.27", "--check")
+    status, text = trial.ran("--go", "1.27", "--check")
     assert status == 1
-    assert "1.27 samples/served serve-1 on 1 (passed): step 3: no" in said
+    assert "1.27 samples/served serve-1 on 1 (passed): step 3: no" in text
 
     def fails(*_: object) -> tuple[bool, str]:
         raise OSError(13, "Permission denied")
@@ -169,22 +169,22 @@ def test_what_is_recorded_by_the_options(monkeypatch: pytest.MonkeyPatch, trial:
 
 def test_without_what_it_needs_nothing_is_recorded(trial: Real) -> None:
     trial.stands = Readiness("go1.27.3", 90, 88, True, "a lock word differs", False)
-    status, said = trial.ran("--go", "1.27")
-    assert (status, "a lock word differs" in said) == (3, True)
+    status, text = trial.ran("--go", "1.27")
+    assert (status, "a lock word differs" in text) == (3, True)
     trial.patch(real, netrev_program=lambda: None)
     assert trial.ran("--go", "1.27") == (3, "netrev is missing: run `make netrev`, or set NETREV\n")
     assert trial.ran("--go", "1.27", "--record", "--only", "nothing")[0] == 3
     trial.patch(real, names_for=lambda _: [], netrev_program=lambda: "netrev")
-    status, said = trial.ran()
-    assert (status, said.startswith("no Go is on this machine")) == (0, True)
+    status, text = trial.ran()
+    assert (status, text.startswith("no Go is on this machine")) == (0, True)
     assert not (trial.folder / "ran").exists()
 
 
 def test_a_log_that_cannot_be_converted_is_no_recording(trial: Real) -> None:
     (trial.folder / "stored").write_bytes(b"NR 3 1 7 4 0 0\n" * 400)
-    status, said = trial.ran("--go", "1.27", "--only", "samples")
+    status, text = trial.ran("--go", "1.27", "--only", "samples")
     assert status == 1
-    assert "serve-1 on 1 (passed): not made: not a log of netrev-go" in said
+    assert "serve-1 on 1 (passed): not made: not a log of netrev-go" in text
     (trial.folder / "stored").write_bytes(bytes(5_000))
     assert trial.ran("--go", "1.27", "--only", "samples")[0] == 0
 
@@ -252,7 +252,7 @@ def test_another_recorder_is_measured_beside_this_one(measurement: Costs) -> Non
         costs.measured_by(measurement.folder, "it", measurement.go, measurement.folder / name, 9, name == "before")
         for name in ("before", "now")
     ]
-    assert [list(one.ways) for one in served if isinstance(one, costs.Served)] == [
+    assert [list(item.ways) for item in served if isinstance(item, costs.Served)] == [
         ["without the overlay", "with it, no log", "recording", "recording, no orders"], list(costs.SERVED)
     ]  # fmt: skip
 
@@ -299,11 +299,11 @@ def test_it_prints_where_the_commands_are(monkeypatch: pytest.MonkeyPatch) -> No
         ([], 2, usage),
         (["1.27", "1.19"], 2, usage),
     ]
-    for words, status, said in cases:
+    for words, status, text in cases:
         with printed() as out, monkeypatch.context() as patch:
             patch.setattr(fetching, "commands_of", lambda _: "/there")
             assert fetching.main(words) == status
-        assert out.getvalue().startswith(said)
+        assert out.getvalue().startswith(text)
     monkeypatch.setattr(fetching, "commands_of", raising(RecorderError("none")))
     with printed() as out:
         assert (fetching.main(["1.27"]), out.getvalue()) == (3, "none\n")

@@ -14,6 +14,7 @@ from contextlib import contextmanager
 from pathlib import Path
 
 import pytest
+
 from dev.recorder.fetching import is_here
 from netrev_go.go_command.toolchain import SOURCES, points_program
 from tests.trials.go_untouched import go_of

@@ -3,8 +3,8 @@
 import re
 from pathlib import Path
 
-from netrev.text.vocabulary import NUMBERS
 import netrev_go
+from netrev.text.vocabulary import NUMBERS
 from netrev_go.log.points import PointKind
 
 GO = Path(netrev_go.__file__).parent / "go"

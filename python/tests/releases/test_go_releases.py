@@ -6,12 +6,13 @@ import json
 import tempfile
 from dataclasses import replace
 from pathlib import Path
-from unittest import mock
 
 import pytest
 
 from dev.fuzz.generators.logs import from_text
-from dev.recorder import fetching, readiness as standing, real, results
+from dev.recorder import fetching
+from dev.recorder import readiness as standing
+from dev.recorder import real, results
 from dev.recorder.readiness import Readiness, read_standing, standing_of
 from dev.recorder.results import Result
 from dev.recorder.suites import OF_OTHERS, OF_SAMPLES, SAMPLES, Suite
@@ -143,17 +144,17 @@ def test_each_release_that_was_tried_has_a_row(page: Page) -> None:
 def test_a_row_adds_up_and_has_as_many_recordings_as_are_wanted(page: Page) -> None:
     for release in page.rows:
         made = page.number(release, "of samples") + page.number(release, "of tests")
-        came = [page.number(release, name) for name in ("accepted", "refused", "not made")]
-        assert made == sum(came), release
-        assert came[0] >= (200 if release in ("1.19", "1.24", "1.27") else 60), release
-        assert (came[1], page.number(release, "differ")) == (0, 0), release
+        result = [page.number(release, name) for name in ("accepted", "refused", "not made")]
+        assert made == sum(result), release
+        assert result[0] >= (200 if release in ("1.19", "1.24", "1.27") else 60), release
+        assert (result[1], page.number(release, "differ")) == (0, 0), release
 
 
 def test_the_last_row_is_the_sum(page: Page) -> None:
-    for name, told in page.sums.items():
+    for name, result in page.sums.items():
         if name in results.OF_RELEASES[3:] and name not in ("events, stale", "suspects"):
             total = sum(page.number(release, name) for release in page.rows)
-            assert f"{total:,}" == told, name
+            assert f"{total:,}" == result, name
 
 
 def used_twice() -> Points:
@@ -197,32 +198,32 @@ def test_a_descriptor_that_could_not_be_opened_is_freed_by_nobody() -> None:
 
 def test_the_model_takes_what_go_answered() -> None:
     for name in ("hijacked", "half"):
-        made = stored(name)
-        assert said_of(made) == (True, f"ok {len(made.lines)} steps")
+        recording = stored(name)
+        assert said_of(recording) == (True, f"ok {len(recording.lines)} steps")
 
 
 def test_the_model_says_which_answer_or_lock_word_differs() -> None:
-    made = stored("half")
-    at = next(at for at, line in enumerate(made.lines) if str(line).startswith('["rwlock"'))
-    made.lines[at] = str(made.lines[at]).replace('"yes"', '"no"')
-    assert said_of(made) == (False, f"{REFUSES}: step {at + 1}: fault 109 answer")
-    made = stored("half")
-    step, socket, word = made.words[4]
-    made.words[4] = step, socket, word + 8
-    assert said_of(made) == (
+    recording = stored("half")
+    at = next(at for at, line in enumerate(recording.lines) if str(line).startswith('["rwlock"'))
+    recording.lines[at] = str(recording.lines[at]).replace('"yes"', '"no"')
+    assert said_of(recording) == (False, f"{REFUSES}: step {at + 1}: fault 109 answer")
+    recording = stored("half")
+    step, socket, word = recording.words[4]
+    recording.words[4] = step, socket, word + 8
+    assert said_of(recording) == (
         False,
         f"{DIFFERS}: step {step}: Go had lock {socket} = {word + 8}, netrev says lock {socket} = {word}",
     )
 
 
 def test_a_lock_word_that_is_changed_elsewhere_is_found() -> None:
-    made = stored("half")
-    assert unchained(made) == ""
-    step, socket, new = made.words[5]
-    del made.words[4], made.olds[4]
-    found, last = made.olds[4], next(word for _, at, word in reversed(made.words[:4]) if at == socket)
+    recording = stored("half")
+    assert unchained(recording) == ""
+    step, socket, new = recording.words[5]
+    del recording.words[4], recording.olds[4]
+    found, last = recording.olds[4], next(word for _, at, word in reversed(recording.words[:4]) if at == socket)
     assert found != last
-    assert unchained(made) == f"step {step} found {found} in the lock word of socket {socket}, instead of {last}"
+    assert unchained(recording) == f"step {step} found {found} in the lock word of socket {socket}, instead of {last}"
 
 
 def test_bytes_that_go_by_are_missed() -> None:
@@ -254,10 +255,10 @@ def message_about(version: str, trial: Trial, without: list[str]) -> tuple[str, 
 def test_a_go_is_tried_once_and_an_unknown_one_is_named() -> None:
     good = Trial(True, "5 steps")
     assert message_about("go1.27.3", good, [])[0] == ""
-    said, times = message_about("go1.28.0", good, ["without what SendFile writes: no such file"])
+    text, times = message_about("go1.28.0", good, ["without what SendFile writes: no such file"])
     assert times == 1
-    assert "go1.28.0 (not tested with netrev-go; 1.19, " in said
-    assert " can be recorded: 5 steps\nwithout what SendFile writes: no such file\n" in said
+    assert "go1.28.0 (not tested with netrev-go; 1.19, " in text
+    assert " can be recorded: 5 steps\nwithout what SendFile writes: no such file\n" in text
 
 
 def test_a_go_whose_trial_fails_is_not_recorded() -> None:
@@ -343,26 +344,25 @@ def test_tests_may_be_named(monkeypatch: pytest.MonkeyPatch, recorder: real.Reco
 
 
 def test_those_that_are_not_here_are_named(monkeypatch: pytest.MonkeyPatch, recorder: real.Recorder) -> None:
-    said = io.StringIO()
+    output = io.StringIO()
     with monkeypatch.context() as patch:
         patch.setattr(real, "source_folder", lambda *_, **__: Path("/nowhere"))
-        with contextlib.redirect_stdout(said):
+        with contextlib.redirect_stdout(output):
             recorder.all()
     names = ", ".join(suite.package for suite in WANTED)
-    assert f"1.27: not here: {names} (apt-get install golang-golang-x-net-dev " in said.getvalue()
+    assert f"1.27: not here: {names} (apt-get install golang-golang-x-net-dev " in output.getvalue()
 
 
 def test_those_that_the_time_was_not_enough_for_are_named_and_not_built(
     monkeypatch: pytest.MonkeyPatch, recorder: real.Recorder
 ) -> None:
     recorder.end = 0.0
-    said, names = io.StringIO(), ", ".join(suite.package for suite in WANTED)
-    with mock.patch.object(real, "built") as built, monkeypatch.context() as patch:
-        patch.setattr(real, "source_folder", lambda *_, **__: ROOT)
-        with contextlib.redirect_stdout(said):
-            recorder.all()
-    built.assert_not_called()
-    assert f"1.27: the time was over before {names}\n" in said.getvalue()
+    output, names = io.StringIO(), ", ".join(suite.package for suite in WANTED)
+    monkeypatch.setattr(real, "built", raising(AssertionError("it is built")))
+    monkeypatch.setattr(real, "source_folder", lambda *_: ROOT)
+    with contextlib.redirect_stdout(output):
+        recorder.all()
+    assert f"1.27: the time was over before {names}\n" in output.getvalue()
 
 
 def result(release: str) -> Result:
@@ -385,21 +385,21 @@ def test_an_events_answer_is_gos_where_it_has_tags() -> None:
 
 
 def table_of(*rows: Result) -> tuple[bool, list[str]]:
-    said = io.StringIO()
-    with contextlib.redirect_stdout(said):
+    output = io.StringIO()
+    with contextlib.redirect_stdout(output):
         good = results.table(list(rows))
         results.summary(
             list(rows), {"1.27": Readiness("go1.27.3", 60, 59, True, "7 steps, 3 lock words, 8 steps", True)}
         )
-    return good, said.getvalue().splitlines()
+    return good, output.getvalue().splitlines()
 
 
 def test_what_is_wrong_is_named() -> None:
     one = replace(result("1.27"), steps=4, words=1)
-    good, said = table_of(one)
+    good, text = table_of(one)
     assert good
-    assert "| 1.27 | net | 4 | 1 | 1 | 0 | 0 | 4 | 2 | 1 | 1, 1 | 0 | - |" in said
-    for bad, told in (
+    assert "| 1.27 | net | 4 | 1 | 1 | 0 | 0 | 4 | 2 | 1 | 1, 1 | 0 | - |" in text
+    for bad, found in (
         (replace(one, said="step 3: fault 109 answer"), "1.27 net TestX on 4 (passed): step 3: fault 109 answer"),
         (replace(one, said="not made: no", recording=""), "1.27 net TestX on 4 (passed): not made: no"),
         (replace(one, differ=1, said="ok 4 steps; step 2"), "1.27 net TestX on 4 (passed): ok 4 steps; step 2"),
@@ -408,16 +408,16 @@ def test_what_is_wrong_is_named() -> None:
             "1.27 net TestX on 4 (passed): ok 4 steps; suspected: 1. lost wake-up",
         ),
     ):
-        good, said = table_of(one, bad)
+        good, text = table_of(one, bad)
         assert not good
-        assert told in said
+        assert found in text
 
 
 def test_a_release_has_a_row_with_how_it_stands() -> None:
     one, sample = replace(result("1.27"), steps=4), replace(result("1.27"), suite="samples/small")
-    _, said = table_of(one, one, sample, result("1.19"))
-    assert "| 1.27 | 59 of 60 | yes | 7, 8 | 1 | 2 | 3 | 0 | 0 | 8 | 6 | 0 | 3, 3 | 0 | - |" in said
-    assert "| 1.19 | ? | ? | ? | 0 | 1 | 1 | 0 | 0 | 0 | 1 | 0 | 1, 1 | 0 | - |" in said
+    _, output = table_of(one, one, sample, result("1.19"))
+    assert "| 1.27 | 59 of 60 | yes | 7, 8 | 1 | 2 | 3 | 0 | 0 | 8 | 6 | 0 | 3, 3 | 0 | - |" in output
+    assert "| 1.19 | ? | ? | ? | 0 | 1 | 1 | 0 | 0 | 0 | 1 | 0 | 1, 1 | 0 | - |" in output
 
 
 def test_results_are_kept_and_read(folder: Path) -> None:

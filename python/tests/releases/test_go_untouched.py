@@ -5,6 +5,7 @@ import os
 import re
 
 import pytest
+
 from dev.recorder.fetching import is_here
 from netrev_go.go_command.run_folders import unrecorded
 from netrev_go.go_command.running import logs_in

@@ -2,8 +2,9 @@
 
 from pathlib import Path
 
-import bounds
 import pytest
+
+import bounds
 
 SOURCE = """/// The most.
 pub const MOST: usize = 1_024;

@@ -53,9 +53,9 @@ def test_all_that_have_commands_are_played(folder: Path) -> None:
     )
     program.chmod(0o755)
     command = ["sh", str(EXAMPLES / "play_all.sh"), "--alone"]
-    said = subprocess.run(
+    text = subprocess.run(
         command, env={**os.environ, "NETREV": str(program)}, capture_output=True, text=True, check=True
     )
-    played = [line.removeprefix("== ") for line in said.stdout.splitlines() if line.startswith("== ")]
+    played = [line.removeprefix("== ") for line in text.stdout.splitlines() if line.startswith("== ")]
     assert played == [example.name for example in ALL if example.beside("script").exists()]
     assert sorted([*played, SHARED]) == there("**/*.script")

@@ -6,11 +6,9 @@ import shutil
 import subprocess
 import sys
 import tempfile
-import unittest
 from pathlib import Path
 
 import pytest
-
 
 ROOT = Path(__file__).resolve().parents[3]
 TESTS = """
@@ -89,12 +87,12 @@ def played(top: Path, **settings: str) -> tuple[int, str, str]:
 
 
 def test_each_that_fails_is_counted_and_each_left_out_is_named(top: Path) -> None:
-    status, said, left_out = played(top)
-    assert (status, left_out) == (3, LEFT_OUT), said
+    status, output, left_out = played(top)
+    assert (status, left_out) == (3, LEFT_OUT), output
     for name in ("test_fails", "test_row[2]", "test_alone_fails"):
-        assert f"FAILED python/tests/test_few.py::{name}" in said
-    assert "2 failed, 3 passed, 1 skipped" in said
-    assert "1 failed, 1 passed" in said
+        assert f"FAILED python/tests/test_few.py::{name}" in output
+    assert "2 failed, 3 passed, 1 skipped" in output
+    assert "1 failed, 1 passed" in output
 
 
 def test_what_has_no_tests_fails(top: Path) -> None:
@@ -103,8 +101,8 @@ def test_what_has_no_tests_fails(top: Path) -> None:
 
 
 def test_what_is_not_built_fails(top: Path) -> None:
-    status, said, _ = played(top, NR_REFUSED="/no/such/program")
-    assert (status, said) == (1, "/no/such/program isn't built\n")
+    status, output, _ = played(top, NR_REFUSED="/no/such/program")
+    assert (status, output) == (1, "/no/such/program isn't built\n")
 
 
 def test_without_pytest_all_is_left_out(top: Path) -> None:

@@ -29,7 +29,7 @@ def said(begins: int) -> str:
     """nrdb's text about a Read that still waits when the recording ends. No goroutine has written to its other end."""
     recording = begun(begins, [*TWO_ENDS, *READS_ON])
     index = run_of(recording)
-    (call,) = [one.call for one in waiters_at(index, recording.length).values() if one.call]
+    (call,) = [waiter.call for waiter in waiters_at(index, recording.length).values() if waiter.call]
     (says,) = end_says(index, call, 0, recording.length)
     return says
 

@@ -134,8 +134,8 @@ def test_errors_are_the_calls_that_failed() -> None:
         table = errors_table(recording, at, None)
         failed = {made.first for made in traffic.told if made.last and made.outcome in ENDS.values()}
         rows = [row for row in table.rows if row.values]  # (rows without values give reasons)
-        told = {row.values["first"] for row in rows}
-        assert failed <= told
+        result = {row.values["first"] for row in rows}
+        assert failed <= result
         assert all(row.values["outcome"] for row in rows)
         assert [row.values["last"] > at for row in rows] == [row.values.get("later", False) for row in rows]
         assert [row.text.endswith("(later)") for row in rows] == [row.values["last"] > at for row in rows]
@@ -155,7 +155,7 @@ def test_of_many_errors_the_nearest_are_shown() -> None:
 
 
 def test_leads_to_the_ends_of_calls() -> None:
-    dice, met = random.Random("going"), 0
+    dice, coverage = random.Random("going"), 0
     for seed in SEEDS[:6]:
         traffic = Telling(seed)
         traffic.run()
@@ -167,8 +167,8 @@ def test_leads_to_the_ends_of_calls() -> None:
             if inside:
                 assert GOALS["finish"](recording, g, at).position == inside[-1].last
                 assert GOALS["reverse-finish"](recording, g, at).position == inside[-1].first - 1
-                met += 1
-    assert met > 100
+                coverage += 1
+    assert coverage > 100
 
 
 def test_next_and_its_reverse_pass_whole_calls() -> None:

@@ -5,7 +5,8 @@ import argparse
 import os
 import sys
 from collections import defaultdict
-from types import ModuleType, SimpleNamespace as Made
+from types import ModuleType
+from types import SimpleNamespace as Made
 from typing import Any, cast
 
 import pytest

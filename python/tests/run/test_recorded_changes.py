@@ -80,7 +80,7 @@ def test_what_is_told_between_two_positions_is_what_their_steps_changed(path: Pa
     changes = RecordedChanges.read(in_pieces(said(path), 40))
     each = [(step, changes.at(step)) for step in range(1, changes.length + 1)]
     for first, last in ((0, changes.length), (0, 0), (changes.length // 3, changes.length // 2)):
-        assert list(changes.between(first, last)) == [one for one in each[first:last] if one[1]]
+        assert list(changes.between(first, last)) == [item for item in each[first:last] if item[1]]
 
 
 @pytest.mark.parametrize("window", [1, 60, 10**6])
@@ -136,19 +136,19 @@ def arriving(netrev: Path, script: str, interrupts: "Interrupts | None" = None) 
     """The changes that this shell script prints, and the messages that nrdb prints while it waits for them."""
     netrev.write_text(f"#!/bin/sh\n{script}\n")
     netrev.chmod(0o755)
-    told: list[str] = []
-    return ArrivingChanges(str(netrev), "some.jsonl", interrupts or Interrupts(), told.append), told
+    result: list[str] = []
+    return ArrivingChanges(str(netrev), "some.jsonl", interrupts or Interrupts(), result.append), result
 
 
 def test_what_has_come_is_there_before_the_end(netrev: Path) -> None:
-    changes, told = arriving(netrev, "echo 1 gor 1 = idle; echo 3 lock 0 = 0; exec sleep 60")
-    assert changes.value("gor 1", 2) == "idle" and changes.at(1) == [("gor 1", "idle")] and not told
+    changes, result = arriving(netrev, "echo 1 gor 1 = idle; echo 3 lock 0 = 0; exec sleep 60")
+    assert changes.value("gor 1", 2) == "idle" and changes.at(1) == [("gor 1", "idle")] and not result
     changes.drop()
 
 
 def test_who_waits_long_is_told_so_once(netrev: Path) -> None:
-    changes, told = arriving(netrev, "sleep 1.3; echo 3 lock 0 = 0; echo ok 3 steps")
-    assert list(changes.steps_of("lock 0")) == [3] and told == [COMPUTING_CHANGES]
+    changes, result = arriving(netrev, "sleep 1.3; echo 3 lock 0 = 0; echo ok 3 steps")
+    assert list(changes.steps_of("lock 0")) == [3] and result == [COMPUTING_CHANGES]
     changes.drop()
 
 

@@ -1,6 +1,7 @@
 """`finish` and step out between two calls: they continue until the goroutine has left the program's function."""
 
 import pytest
+
 from netrev.recording.recording import Recording
 from netrev.run.index import run_of
 from netrev.views.calls import Goal, NoDestinationError, finish_goal

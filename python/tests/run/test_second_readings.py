@@ -18,11 +18,13 @@ from netrev.run.index import run_of
 from netrev.run.notes import Notes
 from netrev.run.searches import holders_of
 from netrev.run.timers import timers_of
-from netrev.text.contents import Contents as Text, Limits
+from netrev.text.contents import Contents as Text
+from netrev.text.contents import Limits
 from netrev.text.reading import read_text
 from netrev.text.vocabulary import KINDS, OF_A_GOROUTINE
 from netrev.text.writing import write_plain
-from netrev_go.steps.making import NewRecording as Made, NothingRecordedError, make
+from netrev_go.steps.making import NewRecording as Made
+from netrev_go.steps.making import NothingRecordedError, make
 from tests.support.modelled import changes_in
 from tests.suspects.test_suspects import OPEN, recording_of
 

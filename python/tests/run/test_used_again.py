@@ -12,7 +12,10 @@ LATE: Steps = [["setdeadline", 0, 0, "r", 3], ["tick", 9], ["pop"]]
 def test_a_timer_that_is_run_late_is_of_the_socket_that_set_it() -> None:
     recording = recording_of(OPEN + LATE + USED_AGAIN + [["fire", 0]])
     timers = timers_of(recording)
-    assert [(one.socket, one.descriptor, one.is_stale) for one in timers.values()] == [(0, 0, False), (0, 0, True)]
+    assert [(timer.socket, timer.descriptor, timer.is_stale) for timer in timers.values()] == [
+        (0, 0, False),
+        (0, 0, True),
+    ]
     book = run_of(recording).owners
     assert (book.sockets[-1], book.descriptors[-1]) == (0, 0)
 

@@ -116,21 +116,21 @@ def test_a_number_that_several_goroutines_had_is_the_one_s_that_has_it_at_the_st
 
 
 def test_one_that_is_not_is_not_used_and_that_is_said(files: Files) -> None:
-    for place, value, said in WRONG:
+    for place, value, text in WRONG:
         lines = list(GOOD)
         lines[place] = value
         fault = files.fault(text_of(lines))
-        assert said in fault, value
+        assert text in fault, value
         assert fault.isprintable(), value
-        assert said != SAID or fault.startswith(f"line {place + 1} "), fault
+        assert text != SAID or fault.startswith(f"line {place + 1} "), fault
     for data in NO_JSON:
         assert SAID in files.fault(text_of(GOOD[:3]) + data + b"\n"), data[:20]
     for beginning in (b"", text_of(GOOD)):
         assert files.fault(beginning + b"\xff") == "it isn't text"
-    said = files.lines().why_unused(str(files.recording))
-    assert said.startswith(
+    text = files.lines().why_unused(str(files.recording))
+    assert text.startswith(
         "x.where isn't used: it isn't text. The recording works without it; docs/reference/RECORDING.md"
-    ), said
+    ), text
 
 
 def test_what_is_no_file_is_not_waited_for(files: Files) -> None:

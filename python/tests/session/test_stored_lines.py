@@ -17,7 +17,7 @@ from pathlib import Path
 import pytest
 
 from netrev.machine.cells import CELLS_OF_ALL, CELLS_OF_ONE
-from netrev.session.commands import ALL_SPELLINGS, COMMANDS, OF_FILES, TABLES_OF_OTHERS, TOPICS, TOPIC_SPELLINGS
+from netrev.session.commands import ALL_SPELLINGS, COMMANDS, OF_FILES, TABLES_OF_OTHERS, TOPIC_SPELLINGS, TOPICS
 from netrev.text.vocabulary import DUMPS, KINDS
 from tests.failed_calls.test_causes import in_the_folder_of_the_source
 from tests.failed_calls.test_stored_sentences import PROGRAMS

@@ -15,10 +15,10 @@ from typing import Callable, Iterator
 
 import pytest
 
+from netrev.connection.output import TextPrinter
 from netrev.messages.session import NO_REPLY_YET
 from netrev.text.plain import plain
 from nrdb.cli import main
-from netrev.connection.output import TextPrinter
 
 ROOT = Path(__file__).resolve().parents[3]
 FIRST = ROOT / "examples/first.jsonl"
@@ -57,13 +57,13 @@ def unseen(text: str) -> list[str]:
 
 def nrdb(*words: object) -> tuple[int, str]:
     """The exit status of nrdb with these arguments, and its output on both streams."""
-    said = io.StringIO()
-    with contextlib.redirect_stdout(said), contextlib.redirect_stderr(said):
+    output = io.StringIO()
+    with contextlib.redirect_stdout(output), contextlib.redirect_stderr(output):
         try:
             status = main([str(word) for word in words])
         except SystemExit as ended:
             status = int(ended.code or 0)
-    return status, said.getvalue()
+    return status, output.getvalue()
 
 
 @contextlib.contextmanager
@@ -123,26 +123,26 @@ ANSWERS = {
 def test_each_stranger_is_told_in_a_sentence() -> None:
     for name, answer in ANSWERS.items():
         for asked in (ASKED, *((line,) for line in ASKED)):
-            status, said = joined(behind_position(answer), asked=asked)
+            status, text = joined(behind_position(answer), asked=asked)
             assert status in (0, 3), (name, asked)
-            assert "Traceback" not in said, (name, asked)
-            assert unseen(said) == [], (name, asked)
+            assert "Traceback" not in text, (name, asked)
+            assert unseen(text) == [], (name, asked)
 
 
 def test_who_isnt_netrev_is_called_so() -> None:
     for answer in (b"220 mail.example ESMTP\n", b"\n", b"at 5\n", b"at 5 of 10 sideways\n", b"x" * 70 + b"\n"):
-        status, said = joined(lambda _: answer)
+        status, text = joined(lambda _: answer)
         shown = answer.decode().rstrip()
         shown = shown if len(shown) <= 60 else f"{shown[:58]}.."
-        assert (status, said) == (3, f'| the other program isn\'t netrev: it answered "info position" with "{shown}"\n')
+        assert (status, text) == (3, f'| the other program isn\'t netrev: it answered "info position" with "{shown}"\n')
 
 
 def test_a_reply_without_an_end_is_cut(monkeypatch: pytest.MonkeyPatch) -> None:
     with monkeypatch.context() as patch:
         patch.setattr("netrev.connection.netrev.LONGEST", 100_000)
-        status, said = joined(lambda _: b"a" * 1_000_000)
+        status, text = joined(lambda _: b"a" * 1_000_000)
     right = f'| the other program isn\'t netrev: it answered "info position" with "{"a" * 58}.."\n'
-    assert (status, said) == (3, right)
+    assert (status, text) == (3, right)
 
 
 def test_a_front_in_use_is_waited_for_aloud(monkeypatch: pytest.MonkeyPatch) -> None:
@@ -192,11 +192,11 @@ def test_each_file_that_is_no_recording_is_told_in_a_sentence(folder: Path) -> N
         for text in (b"\n".join([header, *[line] * 10]), b"\n".join([line, *[b'["spawn"]'] * 10])):
             file.write_bytes(text + b"\n")
             with server(behind_position(b"at 5\n")) as address:
-                status, said = nrdb("--netrev", "/nowhere", "--join", address, file, "--batch", *asked)
+                status, output = nrdb("--netrev", "/nowhere", "--join", address, file, "--batch", *asked)
                 if text.startswith(header):
-                    assert "the file isn't a recording: " in said.splitlines()[-1], text[:60]
+                    assert "the file isn't a recording: " in output.splitlines()[-1], text[:60]
                     assert status == 3, text[:60]
-                assert unseen(said) == [], text[:60]
+                assert unseen(output) == [], text[:60]
 
 
 def test_what_can_be_seen_stays() -> None:
@@ -218,10 +218,10 @@ def test_replies_and_values_of_a_server() -> None:
         raw = text.encode()
         for answer in (raw, b"at 5" + raw, b"lock 0 = " + raw, b"marks 1\n1 watch " + raw, b"fault 202 " + raw):
             for form in ((), ("--json",)):
-                _, said = joined(behind_position(answer + b"\n"), *form, asked=("continue", "print lock 0"))
-                assert unseen(said) == [], (text, answer, form)
-                _, said = joined(lambda _: answer + b"\n", *form)
-                assert unseen(said) == [], (text, answer, form)
+                _, message = joined(behind_position(answer + b"\n"), *form, asked=("continue", "print lock 0"))
+                assert unseen(message) == [], (text, answer, form)
+                _, message = joined(lambda _: answer + b"\n", *form)
+                assert unseen(message) == [], (text, answer, form)
 
 
 def test_the_text_of_a_recording_that_a_server_has_another_of() -> None:
@@ -235,15 +235,15 @@ def test_the_text_of_a_recording_that_a_server_has_another_of() -> None:
             answers = behind_position(b"at 5\n")
             with server(answers) as address:
                 asked = ("--batch", "-ex", "list", "-ex", "where", "-ex", "stepi")
-                _, said = nrdb("--netrev", "/nowhere", "--join", address, file, *asked)
-        assert unseen(said) == []
-        assert "next step 6" in said
+                _, output = nrdb("--netrev", "/nowhere", "--join", address, file, *asked)
+        assert unseen(output) == []
+        assert "next step 6" in output
 
 
 def test_words_of_the_command_line() -> None:
     for text in OBEYED:
         named: tuple[object, ...] = ("--netrev", text, FIRST)
         for words in (("--join", text), (f"--{text}",), named, (f"no{text}", "--batch")):
-            status, said = nrdb(*words)
+            status, output = nrdb(*words)
             assert status in (2, 3)
-            assert unseen(said) == []
+            assert unseen(output) == []

@@ -108,8 +108,8 @@ class Waiting:
             patch.setattr(Recording, "found_back", counted)
             session.run("info goroutines")
         rows = json.loads(out.getvalue().splitlines()[-1])["rows"]
-        told = [goroutine for row in rows for goroutine in row.get("goroutines", [row.get("goroutine")])]
-        assert (len(told), len(set(told))) == (count * sockets + 1, count * sockets + 1)
+        result = [goroutine for row in rows for goroutine in row.get("goroutines", [row.get("goroutine")])]
+        assert (len(result), len(set(result))) == (count * sockets + 1, count * sockets + 1)
         assert {"at" in row for row in rows if "goroutine" in row} == {with_lines}
         questions = sum(times for line, times in asked.items() if not line.startswith("print gor "))
         return questions, work["searches"], work["pieces"]
@@ -158,7 +158,7 @@ def test_a_lock_is_asked_for_once_however_many_wait(waiting: Waiting) -> None:
         is_group = f"queued for socket 0's read lock, which goroutine 0 has since step {count + 5}" in shown
         assert is_group == (count == 60)
     few, many = (
-        {line: times for line, times in one.items() if not line.startswith("print gor ")} for one in asked.values()
+        {line: times for line, times in item.items() if not line.startswith("print gor ")} for item in asked.values()
     )
     assert few == many
     assert "dump rq 0" in many
@@ -190,26 +190,26 @@ def worlds() -> Iterator[PositionValues]:
 
 
 def test_takings_are_those_of_all_steps() -> None:
-    met: Counter[bool] = Counter()
+    coverage: Counter[bool] = Counter()
     for world in worlds():
         changes = changes_in(world.recording.data)
         right = {}
         for socket in range(4):
             held = holders_of(world.recording, changes, socket, world.position)
             for side in "rw":
-                found = [one.step for one in held if one.side == [side]][-1:]
+                found = [item.step for item in held if item.side == [side]][-1:]
                 # (a `decref` by a goroutine that only has a lock counts as releasing the lock's reference)
                 if found:
                     right[socket, side] = found[0]
-                met[bool(found)] += 1
+                coverage[bool(found)] += 1
         assert takings(world.recording, world.position, list(right)) == right, world.position
         for lock in right:
             assert takings(world.recording, world.position, [lock]) == {lock: right[lock]}
-    assert min(met.values()) > 50, met
+    assert min(coverage.values()) > 50, coverage
 
 
 def test_last_steps_are_those_of_all_steps() -> None:
-    met: Counter[bool] = Counter()
+    coverage: Counter[bool] = Counter()
     for world in worlds():
         right = dict.fromkeys(range(5), 0)
         for number in range(1, world.position + 1):
@@ -217,5 +217,5 @@ def test_last_steps_are_those_of_all_steps() -> None:
             if step.kind in OF_A_GOROUTINE and step.argument("g") in right:
                 right[step.argument("g")] = number
         assert last_steps(world.recording, world.position, range(5)) == right
-        met.update(number > 0 for number in right.values())
-    assert min(met.values()) > 50, met
+        coverage.update(number > 0 for number in right.values())
+    assert min(coverage.values()) > 50, coverage

@@ -4,7 +4,6 @@ import re
 from pathlib import Path
 from typing import NamedTuple, Optional
 
-
 EXAMPLES = Path(__file__).resolve().parents[3] / "examples"
 LIST = EXAMPLES / "README.md"
 ROW = re.compile(r"\| `([\w/-]+)` \| (.+) \| (.+) \| \[.+\]\(.+\) \|")

@@ -11,7 +11,6 @@ import time
 from collections.abc import Callable
 from pathlib import Path
 
-
 from dev.fuzz.generators.logs import from_text
 from netrev_go import cli
 from netrev_go.go_command.toolchain import Go

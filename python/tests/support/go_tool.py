@@ -31,7 +31,6 @@ from netrev_go.go_command.toolchain import (
 )
 from netrev_go.log.logfile import Header
 
-
 ROOT = Path(__file__).resolve().parents[3]
 SAMPLES = ROOT / "tools/go/samples"
 TOOL = ROOT / "tools/go/netrev-go"

@@ -32,7 +32,6 @@ from nrdb.dap.moving import Moves
 from nrdb.dap.view.looking import NETWORK, thread_of
 from nrdb.prompt.answers import answer_display
 
-
 # sockets and goroutines at the end
 
 

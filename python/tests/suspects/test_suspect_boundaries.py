@@ -22,7 +22,23 @@ from tests.failed_calls.test_causes import (
     with_lines,
 )
 
-from .test_suspects import BACK, BOTH, COMES, LOOKS, OPEN, PAIRS, PARK, PASSES, PAST, QUEUED, READ, USED_AGAIN, Steps, recording_of, shown  # fmt: skip
+from .test_suspects import (  # fmt: skip
+    BACK,
+    BOTH,
+    COMES,
+    LOOKS,
+    OPEN,
+    PAIRS,
+    PARK,
+    PASSES,
+    PAST,
+    QUEUED,
+    READ,
+    USED_AGAIN,
+    Steps,
+    recording_of,
+    shown,
+)
 
 SECOND: Steps = [["sockopen", 16, 16], ["pollopen", 0, 1]]
 READS: Steps = [["sysread", 1, 0, 1]]

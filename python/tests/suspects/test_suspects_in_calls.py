@@ -23,21 +23,21 @@ def found(steps: Steps, functions: Optional[list[str]], others: str = "main.main
     recording = recording_of(OPEN + steps + WHILE)
     if functions is not None:
         recording.lines = lines_of(OPEN + steps + WHILE, functions, others)
-    return [one.rule for one in suspects_of(recording).suspects if one.is_shown]
+    return [suspect.rule for suspect in suspects_of(recording).suspects if suspect.is_shown]
 
 
 def lines_of(steps: Steps, functions: list[str], others: str) -> SourceLines:
     names = [others, *(POLL + name for name in functions)]
-    told: list[Any] = [{"where": 1, "steps": len(steps)}]
+    result: list[Any] = [{"where": 1, "steps": len(steps)}]
     for number, name in enumerate(names, 1):
-        told.append({"call": number, "function": name, "file": "a.go", "line": number, "of": "go"})
-        told.append({"stack": number, "calls": [number]})
+        result.append({"call": number, "function": name, "file": "a.go", "line": number, "of": "go"})
+        result.append({"stack": number, "calls": [number]})
     own = [at for at, step in enumerate(steps) if at >= len(OPEN) and step[0] not in ("tick", "spawn") and step[1] == 1]
     stacks = [1] * len(steps)
     for place, at in enumerate(own):
         stacks[at] = 2 + min(place, len(functions) - 1)
-    told.append({"step": 1, "stacks": stacks})
-    lines = SourceLines("\n".join(map(json.dumps, told)), len(steps))
+    result.append({"step": 1, "stacks": stacks})
+    lines = SourceLines("\n".join(map(json.dumps, result)), len(steps))
     assert lines and not lines.fault, lines.fault
     return lines
 

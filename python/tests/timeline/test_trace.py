@@ -75,9 +75,9 @@ def faults_of(events: list[Event]) -> list[str]:
         if event["ph"] in "sf":
             flows.setdefault(event["id"], []).append(event)
             around = threads.get((event["pid"], event["tid"]), ())
-            if not any(one["ts"] <= event["ts"] < one["ts"] + one["dur"] for one in around):
+            if not any(item["ts"] <= event["ts"] < item["ts"] + item["dur"] for item in around):
                 faults.append(f"in no slice: {event}")
-    faults += [f"no pair: {pair}" for pair in flows.values() if [one["ph"] for one in pair] != ["s", "f"]]
+    faults += [f"no pair: {pair}" for pair in flows.values() if [item["ph"] for item in pair] != ["s", "f"]]
     faults += [f"goes back: {pair}" for pair in flows.values() if pair[0]["ts"] > pair[-1]["ts"]]
     return faults
 
@@ -85,11 +85,11 @@ def faults_of(events: list[Event]) -> list[str]:
 def traced(recording: Recording) -> list[Event]:
     """The events of the trace of a recording, parsed from JSON."""
     changes = changes_in(recording.data)
-    told = chain(
+    events = chain(
         Tracing(recording, changes).events("run.jsonl", lambda: None),
         beside(recording, changes, Looking(changes)),
     )
-    return [json.loads(event) for event in told]
+    return [json.loads(event) for event in events]
 
 
 class Looking(Scout):
@@ -115,10 +115,10 @@ def statuses_of(events: list[Event], length: int) -> list[dict[int, str]]:
 
 def test_has_the_form_and_the_statuses_of_the_model() -> None:
     for seed in range(8):
-        made, worlds = Author(random.Random(f"trace-{seed}")).recording(200)
-        events = traced(Recording(write_plain(made)))
+        recording, worlds = Author(random.Random(f"trace-{seed}")).recording(200)
+        events = traced(Recording(write_plain(recording)))
         assert faults_of(events) == []
-        told = statuses_of(events, len(made.steps))
+        told = statuses_of(events, len(recording.steps))
         for position, world in enumerate(worlds):
             busy = {g: status for g, status in enumerate(world.goroutines) if status[0] not in ("idle", "gone")}
             assert told[position] == {g: " ".join(map(str, status)) for g, status in busy.items()}
@@ -184,13 +184,13 @@ def test_calls_deadlines_the_clock_and_suspects_are_there() -> None:
         recording = Recording.read(str(path))
         events = traced(recording)
         changes = changes_in(recording.data)
-        calls = [(one["tid"], one["ts"] + 1, one["dur"]) for one in events if one.get("cat") == "call"]
-        book = [one for one in run_of(recording).calls if one.last != one.first]
+        calls = [(event["tid"], event["ts"] + 1, event["dur"]) for event in events if event.get("cat") == "call"]
+        book = [call for call in run_of(recording).calls if call.last != call.first]
         end = recording.length + 1
-        assert calls == [(one.goroutine, one.first, (one.last or end) - one.first + 1) for one in book]
-        clock = [(one["ts"], str(one["args"]["ns"])) for one in events if one["ph"] == "C"]
+        assert calls == [(item.goroutine, item.first, (item.last or end) - item.first + 1) for item in book]
+        clock = [(event["ts"], str(event["args"]["ns"])) for event in events if event["ph"] == "C"]
         assert clock == changes.changes_of("clock")
-        for one in (one for one in events if one.get("cat") == "deadline"):
+        for one in (event for event in events if event.get("cat") == "deadline"):
             (title,) = [
                 name["args"]["name"]
                 for name in events
@@ -202,10 +202,10 @@ def test_calls_deadlines_the_clock_and_suspects_are_there() -> None:
             }
             assert len(values) == 1
             assert (one["name"] == "has passed") == values.pop().startswith("-")
-        told = [one for one in events if one["ph"] == "i"]
-        found = [one for one in all_suspects_of(recording).suspects if one.is_shown]
+        told = [event for event in events if event["ph"] == "i"]
+        found = [suspect for suspect in all_suspects_of(recording).suspects if suspect.is_shown]
         for suspect in found:
-            names = {one["ts"]: one["name"] for one in told if one["args"]["says"] == suspect.sentence()}
+            names = {item["ts"]: item["name"] for item in told if item["args"]["says"] == suspect.sentence()}
             assert sorted({suspect.step, *suspect.steps}) == sorted(names)
         assert told, path.stem
 

@@ -19,7 +19,8 @@ from netrev.session.session import Session
 from netrev.system.interrupts import Interrupts
 from netrev.timeline.picture import MOST, STAGES
 from nrdb.prompt.answers import ANSWERS
-from nrdb.web.painting import MOST_WAITING as MOST_PICTURES, Painter
+from nrdb.web.painting import MOST_WAITING as MOST_PICTURES
+from nrdb.web.painting import Painter
 from nrdb.web.running import MOST_WAITING, Running
 from nrdb.web.serving import UnavailableError
 from nrdb.web.shared import OutputSender, Shared
@@ -265,8 +266,8 @@ def test_another_recording_is_served_there(web: Page) -> None:
     web.netrev.has_ended = True
     web.look()
     web.opened = lambda _: Modelled(OTHER_MODEL, web.interrupts, lambda _: None)
-    (told,) = web.look()
-    assert "the recording has 10 steps, but the session's has 22" in told["says"]
+    (result,) = web.look()
+    assert "the recording has 10 steps, but the session's has 22" in result["says"]
     with pytest.raises(UnavailableError):
         web.running.post("browser 1", "stepi")
 
@@ -277,8 +278,8 @@ def test_what_answers_there_isnt_netrev(monkeypatch: pytest.MonkeyPatch, web: Pa
     web.look()
     monkeypatch.setattr(Modelled, "_next", lambda *_: "220 mail.example ESMTP")
     web.opened = lambda _: strange
-    (told,) = web.look()
-    assert "the other program isn't netrev" in told["says"]
+    (result,) = web.look()
+    assert "the other program isn't netrev" in result["says"]
     assert strange.has_ended
 
 

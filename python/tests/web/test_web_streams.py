@@ -85,8 +85,8 @@ def test_all_are_told_the_same_and_who_is_here(served: Served) -> None:
         with Listener(served.address) as other:
             assert [one.you["number"], other.you["number"], one.you["recording"]] == [1, 2, "first.jsonl"]
             assert other.named("browsers")["here"] == ["browser 1", "browser 2"]
-            told = [event["event"] for event in other.events]
-            assert told == ["you", "said", "stands", "browsers"]  # only the last state
+            events = [event["event"] for event in other.events]
+            assert events == ["you", "said", "stands", "browsers"]  # only the last state
             assert other.events[2]["position"] == 2
             served.streams.tell("moved", who="browser 1")
             assert one.named("moved") == other.named("moved")
@@ -96,8 +96,8 @@ def test_all_are_told_the_same_and_who_is_here(served: Served) -> None:
 def test_texts_of_others_are_written_out(served: Served) -> None:
     with Listener(served.address) as listener:
         served.streams.tell("said", lines=["\x1b[2J", "\u202e", "a\ndata: b\n\n", "</script>", "\udc9b"])
-        said = listener.named("said")["lines"]
-        assert said == [r"\x1b[2J", r"\u202e", r"a\ndata: b\n\n", "</script>", r"\x9b"]
+        text = listener.named("said")["lines"]
+        assert text == [r"\x1b[2J", r"\u202e", r"a\ndata: b\n\n", "</script>", r"\x9b"]
 
 
 def test_who_doesnt_read_is_ended_and_holds_nobody(monkeypatch: pytest.MonkeyPatch, served: Served) -> None:

@@ -4,7 +4,6 @@ tests/program/tools/test_readme_commands.py runs README.md."""
 import os
 import re
 import tempfile
-import unittest
 
 from netrev.session.commands import OF_NRDB, TOPICS, Origin
 
@@ -43,50 +42,49 @@ def as_shown(lines):
     return re.sub(r"\d+\\\.\d\\ s\b", r"\\d+\\.\\d s", shown)
 
 
-class Documents(unittest.TestCase):
-    def test_calls_with_options_print_what_is_shown(self):
-        count, here = 0, os.getcwd()
-        self.addCleanup(os.chdir, here)
-        for page in sorted((ROOT / "docs").rglob("*.md")):
-            for words, lines in calls(page.read_text(encoding="utf-8")):
-                with self.subTest(page.name, words=words), tempfile.TemporaryDirectory() as folder:
-                    os.chdir(folder)
-                    status = 4 if "--explore" in words else 0
-                    said = nrdb(*words[:-1], ROOT / words[-1], status=status)
-                    os.chdir(here)
-                    self.assertRegex(said, f"\\A{as_shown(lines)}\\Z")
-                count += 1
-        self.assertGreaterEqual(count, 2)
+def test_calls_with_options_print_what_is_shown(cleanups):
+    count, here = 0, os.getcwd()
+    cleanups.callback(os.chdir, here)
+    for page in sorted((ROOT / "docs").rglob("*.md")):
+        for words, lines in calls(page.read_text(encoding="utf-8")):
+            with tempfile.TemporaryDirectory() as folder:
+                os.chdir(folder)
+                status = 4 if "--explore" in words else 0
+                output = nrdb(*words[:-1], ROOT / words[-1], status=status)
+                os.chdir(here)
+                assert re.search(f"\\A{as_shown(lines)}\\Z", output), (page.name, words)
+            count += 1
+    assert count >= 2
 
-    def test_sessions_are_what_is_printed(self):
-        count = 0
-        for page in sorted((ROOT / "docs").rglob("*.md")):
-            for recording, lines in sessions(page.read_text(encoding="utf-8")):
-                asked = [line[len(PROMPT) :] for line in lines if line.startswith(PROMPT)]
-                words = [word for line in asked for word in ("-ex", line)]
-                with self.subTest(page.name, recording=recording):
-                    said = nrdb("--batch", *words, ROOT / recording).splitlines()
-                    self.assertEqual(said[2:], lines)
-                count += 1
-        self.assertGreaterEqual(count, 12)
 
-    def test_each_command_and_topic_has_its_row(self):
-        page = (ROOT / "docs/reference/NRDB.md").read_text(encoding="utf-8")
-        for name in (
-            *OF_NRDB,
-            *(f"info {topic.usage.split()[0]}" for topic in TOPICS.values() if topic.origin is Origin.NRDB),
-        ):
-            with self.subTest(name):
-                self.assertRegex(page, rf"`{name}[ `]")
+def test_sessions_are_what_is_printed():
+    count = 0
+    for page in sorted((ROOT / "docs").rglob("*.md")):
+        for recording, lines in sessions(page.read_text(encoding="utf-8")):
+            asked = [line[len(PROMPT) :] for line in lines if line.startswith(PROMPT)]
+            words = [word for line in asked for word in ("-ex", line)]
+            output = nrdb("--batch", *words, ROOT / recording).splitlines()
+            assert output[2:] == lines, (page.name, recording)
+            count += 1
+    assert count >= 12
 
-    def test_refused_recordings_are_explained_as_is_shown(self):
-        count = 0
-        for page in sorted((ROOT / "docs").rglob("*.md")):
-            for recording, lines in refusals(page.read_text(encoding="utf-8")):
-                with self.subTest(page.name, recording=recording):
-                    said = nrdb("--batch", ROOT / recording, status=1).splitlines()
-                    shown = lines[:-1] if lines[-1] == "..." else lines
-                    self.assertEqual(said[: len(shown)], shown)
-                    self.assertEqual(len(said) == len(shown), lines[-1] != "...")
-                count += 1
-        self.assertGreaterEqual(count, 1)
+
+def test_each_command_and_topic_has_its_row():
+    page = (ROOT / "docs/reference/NRDB.md").read_text(encoding="utf-8")
+    for name in (
+        *OF_NRDB,
+        *(f"info {topic.usage.split()[0]}" for topic in TOPICS.values() if topic.origin is Origin.NRDB),
+    ):
+        assert re.search(rf"`{name}[ `]", page), name
+
+
+def test_refused_recordings_are_explained_as_is_shown():
+    count = 0
+    for page in sorted((ROOT / "docs").rglob("*.md")):
+        for recording, lines in refusals(page.read_text(encoding="utf-8")):
+            output = nrdb("--batch", ROOT / recording, status=1).splitlines()
+            shown = lines[:-1] if lines[-1] == "..." else lines
+            assert output[: len(shown)] == shown, (page.name, recording)
+            assert (len(output) == len(shown)) == (lines[-1] != "..."), (page.name, recording)
+            count += 1
+    assert count >= 1

@@ -7,10 +7,10 @@ import resource
 import subprocess
 import sys
 from pathlib import Path
-from typing import Any
-from unittest import mock
+from typing import Any, cast
 
 import pytest
+
 from netrev.session.commands import COMMANDS, parts_of
 from nrdb.dap import looks
 from nrdb.dap.adapter import Adapter
@@ -19,8 +19,10 @@ from nrdb.dap.view.messages import EditorStreams
 from nrdb.prompt.answers import ANSWERS
 from nrdb.web.running import Running
 from tests.program.support.sharing import NETREV, ROOT
+from tests.support.stubs import stub
 
-from .common.dap_client import Adapter as Editor, RefusalError
+from .common.dap_client import Adapter as Editor
+from .common.dap_client import RefusalError
 from .common.support import EXAMPLES, nrdb
 from .editors.test_dap_port import asked, framed
 
@@ -72,7 +74,8 @@ def test_an_unexpected_error_is_one_line_and_the_session_goes_on(
     capsys: pytest.CaptureFixture[str], monkeypatch: pytest.MonkeyPatch
 ) -> None:
     monkeypatch.delenv("NRDB_TRACEBACK", raising=False)
-    with mock.patch.dict(ANSWERS, {"where": boom}):
+    with monkeypatch.context() as patch:
+        patch.setitem(cast(Any, ANSWERS), "where", boom)
         output = nrdb(FIRST, lines=["where", "goto 3"], status=3)
         assert capsys.readouterr().err == ""
         monkeypatch.setenv("NRDB_TRACEBACK", "1")
@@ -86,19 +89,20 @@ def test_an_unexpected_error_is_one_line_and_the_session_goes_on(
 
 def test_an_unexpected_error_before_the_session_is_one_line(monkeypatch: pytest.MonkeyPatch) -> None:
     monkeypatch.delenv("NRDB_TRACEBACK", raising=False)
-    with mock.patch("nrdb.cli.Recording.read", boom):
-        assert nrdb(FIRST, status=3).splitlines() == [
-            "| error in nrdb, not in the recording: ValueError: boom and more (set NRDB_TRACEBACK=1 to see its traceback)"
-        ]
+    monkeypatch.setattr("nrdb.cli.Recording.read", boom)
+    assert nrdb(FIRST, status=3).splitlines() == [
+        "| error in nrdb, not in the recording: ValueError: boom and more (set NRDB_TRACEBACK=1 to see its traceback)"
+    ]
 
 
-def test_an_unexpected_error_refuses_one_request() -> None:
+def test_an_unexpected_error_refuses_one_request(monkeypatch: pytest.MonkeyPatch) -> None:
     requests = (
         asked(1, "initialize"), asked(2, "launch", program=str(FIRST)), asked(3, "threads"), asked(4, "disconnect")
     )  # fmt: skip
     written = io.BytesIO()
     wire = EditorStreams(io.BytesIO(framed(*requests)), written)
-    with mock.patch.object(looks, "threads", boom):
+    with monkeypatch.context() as patch:
+        patch.setattr(looks, "threads", boom)
         Adapter(wire, Reading(wire), NETREV).serve()
     output = written.getvalue().decode()
     assert (
@@ -108,7 +112,7 @@ def test_an_unexpected_error_refuses_one_request() -> None:
     assert '"command": "disconnect", "success": true' in output
 
 
-def test_an_error_behind_the_response_is_told_in_the_console() -> None:
+def test_an_error_behind_the_response_is_told_in_the_console(monkeypatch: pytest.MonkeyPatch) -> None:
     requests = (
         asked(1, "initialize"),
         asked(2, "launch", program=str(FIRST)),
@@ -117,7 +121,8 @@ def test_an_error_behind_the_response_is_told_in_the_console() -> None:
     )
     written = io.BytesIO()
     wire = EditorStreams(io.BytesIO(framed(*requests)), written)
-    with mock.patch("nrdb.dap.adapter.thread_of", boom):
+    with monkeypatch.context() as patch:
+        patch.setattr("nrdb.dap.adapter.thread_of", boom)
         Adapter(wire, Reading(wire), NETREV).serve()
     output = written.getvalue().decode()
     assert '"category": "console", "output": "| error in nrdb' in output
@@ -125,9 +130,9 @@ def test_an_error_behind_the_response_is_told_in_the_console() -> None:
 
 
 def test_an_unexpected_error_ends_no_page() -> None:
-    running = mock.Mock()
-    Running._guarded(running, boom)
-    (note,) = running.session.printer.note.call_args.args
+    notes: list[str] = []
+    Running._guarded(stub(session=stub(printer=stub(note=notes.append))), boom)
+    (note,) = notes
     assert note.startswith("error in nrdb, not in the recording: ValueError: boom and more (")
 
 

@@ -1,8 +1,7 @@
 """nrdb's texts about refused recordings and faulty lines: they equal stored texts, which name what to correct."""
 
 import json
-import tempfile
-import unittest
+import re
 from pathlib import Path
 
 from netrev.recording.answers import answer_text
@@ -18,49 +17,44 @@ def kept(name):
     return json.loads((HERE / name).read_text(encoding="utf-8"))
 
 
-class BadRecordings(unittest.TestCase):
-    def test_each_is_explained(self):
-        rows = kept("bad_recordings.json")
-        self.assertEqual(len(rows), 76)
-        with tempfile.TemporaryDirectory() as folder:
-            file = Path(folder) / "bad.jsonl"
-            for row in rows:
-                with self.subTest(row["name"]):
-                    file.write_bytes(bytes.fromhex(row["hex"]) if "hex" in row else row["text"].encode())
-                    said = nrdb("--batch", file, status=row["status"]).splitlines()
-                    self.assertEqual(said, row["said"])
-                    if row["status"]:
-                        self.assertRegex(said[0], r"^(line|step) \d+: fault 10\d ")
-                        self.assertTrue(all(line.startswith("| ") for line in said[1:]) and len(said) > 1)
-
-    def test_files_that_cannot_be_read(self):
-        with tempfile.TemporaryDirectory() as folder:
-            for file, said in ((folder, "Is a directory"), (f"{folder}/none", "No such file or directory")):
-                self.assertEqual(nrdb("--batch", file, status=3), f"| {file}: {said}\n")
-
-    def test_without_netrev(self):
-        said = nrdb("--batch", "--netrev", f"{NETREV}.none", EXAMPLES / "first.jsonl", status=3)
-        self.assertRegex(
-            said, r"nrdb needs netrev.s program: `make .*netrev` builds it; NETREV or --netrev names another one"
-        )
-        self.assertRegex(said, r"; `make .*look FILE=\S+/first.jsonl` opens the recording without proofs\n")
+def test_each_bad_recording_is_explained(folder):
+    rows = kept("bad_recordings.json")
+    assert len(rows) == 76
+    file = folder / "bad.jsonl"
+    for row in rows:
+        file.write_bytes(bytes.fromhex(row["hex"]) if "hex" in row else row["text"].encode())
+        output = nrdb("--batch", file, status=row["status"]).splitlines()
+        assert output == row["said"], row["name"]
+        if row["status"]:
+            assert re.search(r"^(line|step) \d+: fault 10\d ", output[0]), row["name"]
+            assert all(line.startswith("| ") for line in output[1:]) and len(output) > 1, row["name"]
 
 
-class Answers(unittest.TestCase):
-    def test_the_machines_answer_is_told(self):
-        kinds = set()
-        with tempfile.TemporaryDirectory() as folder:
-            file = Path(folder) / "other.jsonl"
-            for recording, step in answered_steps():
-                kinds.add(step.kind)
-                values = [step.kind, *step.arguments, "eof" if step.answer != "eof" else "done"]
-                file.write_bytes(recording.before_line(step.line) + json.dumps(values).encode())
-                with self.subTest(step):
-                    said = nrdb("--batch", file, status=1).splitlines()
-                    self.assertEqual(said[0], f"step {step.number}: fault 109 answer")
-                    told = [line.split("   ")[0] for line in said[2:4]]
-                    self.assertEqual(told, [f"| recorded: {values[-1]}", f"| machine:  {answer_text(step.answer)}"])
-        self.assertGreaterEqual(len(kinds), 25)
+def test_files_that_cannot_be_read(folder):
+    for file, text in ((folder, "Is a directory"), (f"{folder}/none", "No such file or directory")):
+        assert nrdb("--batch", file, status=3) == f"| {file}: {text}\n"
+
+
+def test_without_netrev():
+    output = nrdb("--batch", "--netrev", f"{NETREV}.none", EXAMPLES / "first.jsonl", status=3)
+    assert re.search(
+        r"nrdb needs netrev.s program: `make .*netrev` builds it; NETREV or --netrev names another one", output
+    )
+    assert re.search(r"; `make .*look FILE=\S+/first.jsonl` opens the recording without proofs\n", output)
+
+
+def test_the_machines_answer_is_told(folder):
+    kinds = set()
+    file = folder / "other.jsonl"
+    for recording, step in answered_steps():
+        kinds.add(step.kind)
+        values = [step.kind, *step.arguments, "eof" if step.answer != "eof" else "done"]
+        file.write_bytes(recording.before_line(step.line) + json.dumps(values).encode())
+        output = nrdb("--batch", file, status=1).splitlines()
+        assert output[0] == f"step {step.number}: fault 109 answer", step
+        reply = [line.split("   ")[0] for line in output[2:4]]
+        assert reply == [f"| recorded: {values[-1]}", f"| machine:  {answer_text(step.answer)}"], step
+    assert len(kinds) >= 25
 
 
 def answered_steps():
@@ -78,23 +72,21 @@ def answered_steps():
                     yield recording, last
 
 
-class BadLines(unittest.TestCase):
-    def test_each_is_explained(self):
-        rows = kept("bad_lines.json")
-        self.assertGreaterEqual(len(rows), 104)
-        ending = [row for row in rows if row["said"] == ["bye"]]
-        others = [row for row in rows if row not in ending]
-        lines = [line for row in others for line in ("undisplay", "goto 3", row["line"])]
-        told = answered(nrdb(EXAMPLES / "first.jsonl", lines=lines))[2::3]
-        for row, (line, said) in zip(others, told, strict=True):
-            with self.subTest(row["line"]):
-                self.assertEqual(line, row["line"].rstrip())
-                is_begun = row["said"][-1:] == [".."]
-                self.assertEqual([*said[: len(row["said"]) - 1], ".."] if is_begun else said, row["said"])
-                if said and said[0].startswith("fault"):
-                    self.assertRegex("".join(said[1:]), r"^\| \S")
-        for row in ending:
-            self.assertEqual(answered(nrdb(EXAMPLES / "first.jsonl", lines=[row["line"]])), [(row["line"], ["bye"])])
+def test_each_bad_line_is_explained():
+    rows = kept("bad_lines.json")
+    assert len(rows) >= 104
+    ending = [row for row in rows if row["said"] == ["bye"]]
+    others = [row for row in rows if row not in ending]
+    lines = [line for row in others for line in ("undisplay", "goto 3", row["line"])]
+    output = answered(nrdb(EXAMPLES / "first.jsonl", lines=lines))[2::3]
+    for row, (line, text) in zip(others, output, strict=True):
+        assert line == row["line"].rstrip(), row["line"]
+        is_begun = row["said"][-1:] == [".."]
+        assert ([*text[: len(row["said"]) - 1], ".."] if is_begun else text) == row["said"], row["line"]
+        if text and text[0].startswith("fault"):
+            assert re.search(r"^\| \S", "".join(text[1:])), row["line"]
+    for row in ending:
+        assert answered(nrdb(EXAMPLES / "first.jsonl", lines=[row["line"]])) == [(row["line"], ["bye"])]
 
 
 def answered(text):

@@ -6,11 +6,10 @@ import re
 import shutil
 import subprocess
 import sys
-import unittest
 from pathlib import Path
 from typing import Optional
 
-from tests.support.folders import folder_of
+import pytest
 
 from .common.support import EXAMPLES, NETREV, PATIENCE, ROOT, nrdb
 
@@ -54,76 +53,69 @@ def contents(folder: Path) -> dict[str, bytes]:
     }
 
 
-class Install(unittest.TestCase):
-    def setUp(self) -> None:
-        self.folder = folder_of(self)
+def test_what_is_installed_needs_nothing_that_is_not() -> None:
+    assert len(INCLUDED) == 1
+    assert {"nrdb", "netrev_go"} <= set(INSTALLED)
+    every = {path.name for path in (ROOT / "python").iterdir() if (path / "__init__.py").exists()}
+    assert set(INSTALLED) < every
+    named = re.compile(r"^\s*(?:from|import) (\w+)", re.MULTILINE)
+    for name in INSTALLED:
+        for path in (ROOT / "python" / name).rglob("*.py"):
+            imported = set(named.findall(path.read_text(encoding="utf-8")))
+            assert imported & every - set(INSTALLED) == set(), path
 
-    def test_what_is_installed_needs_nothing_that_is_not(self) -> None:
-        self.assertEqual(len(INCLUDED), 1)
-        self.assertLessEqual({"nrdb", "netrev_go"}, set(INSTALLED))
-        every = {path.name for path in (ROOT / "python").iterdir() if (path / "__init__.py").exists()}
-        self.assertLess(set(INSTALLED), every)
-        named = re.compile(r"^\s*(?:from|import) (\w+)", re.MULTILINE)
-        for name in INSTALLED:
-            for path in (ROOT / "python" / name).rglob("*.py"):
-                imported = set(named.findall(path.read_text(encoding="utf-8")))
-                self.assertEqual(imported & every - set(INSTALLED), set(), path)
 
-    def test_what_make_installs_runs_by_itself(self) -> None:
-        for prefix, settings in ((self.folder / "p", ()), (self.folder / "d/usr", (f"DESTDIR={self.folder}/d",))):
-            given = "/usr" if settings else prefix
-            printed(
-                "make", "-s", "-C", ROOT, "-o", "netrev", "install", f"PROGRAM={NETREV}", f"PREFIX={given}", *settings
-            )
-            lib = prefix / "lib/netrev"
-            self.assertEqual({file.parent.name for file in lib.glob("*/__init__.py")}, set(INSTALLED))
-            self.assertEqual(contents(lib), contents(ROOT / "python"))
-            self.assertEqual(printed(prefix / "bin/nrdb", *ASKED), nrdb(*ASKED))
-            self.assertIn("netrev-go records Go programs.", printed(prefix / "bin/netrev-go", "--help"))
-            found = "import sys; from netrev.system import built; print(built.netrev_program())"
-            self.assertEqual(
-                printed("python3", "-c", found, PYTHONPATH=str(prefix / "lib/netrev"), PATH=os.defpath).strip(),
-                str((prefix / "bin/netrev").resolve()),
-            )
-            self.assertTrue((prefix / "share/man/man1/netrev.1").read_text().startswith(".TH NETREV 1"))
-
-    def test_what_make_installs_is_compiled_and_goes_by_the_source(self) -> None:
-        printed("make", "-s", "-C", ROOT, "-o", "netrev", "install", f"PROGRAM={NETREV}", f"PREFIX={self.folder}")
-        lib = self.folder / "lib/netrev"
-        modules = {path.relative_to(lib) for path in lib.rglob("*.py")}
-        compiled = list(lib.rglob("__pycache__/*.pyc"))
-        of = {path.relative_to(lib).parents[1] / f"{path.name.partition('.')[0]}.py" for path in compiled}
-        self.assertEqual(of, modules)
-        flags = {int.from_bytes(path.read_bytes()[4:8], "little") for path in compiled}
-        self.assertEqual(flags, {0b11})  # (PEP 552: Python reads the source and compares its hash with the .pyc file's)
-        times = {path: path.stat().st_mtime_ns for path in compiled}
-        self.assertEqual(printed(self.folder / "bin/nrdb", *ASKED), nrdb(*ASKED))
-        self.assertEqual({path: path.stat().st_mtime_ns for path in lib.rglob("*.pyc")}, times)
-        source = lib / "netrev/system/version.py"
-        before = source.stat()
-        text = source.read_text(encoding="utf-8")
-        source.write_text(re.sub(r"\d(?=\"$)", "9", text, flags=re.MULTILINE), encoding="utf-8")
-        os.utime(source, ns=(before.st_atime_ns, before.st_mtime_ns))
-        self.assertEqual(source.stat().st_size, before.st_size)
-        self.assertIn(".9", printed(self.folder / "bin/nrdb", "--version"))
-
-    def test_pip_installs_the_same(self) -> None:
-        python = builder()
-        if python is None:
-            self.skipTest("no Python here has pip, setuptools and wheel")
-        project, there = self.folder / "project", self.folder / "there"
-        project.mkdir()
-        for name in PROJECT:  # (setuptools leaves files beside those that it builds)
-            if (ROOT / name).is_dir():
-                shutil.copytree(ROOT / name, project / name)
-            else:
-                shutil.copy(ROOT / name, project / name)
-        words = ("install", "--quiet", "--no-index", "--no-build-isolation", "--no-deps", "--target", there, project)
-        printed(python, "-m", "pip", *words, PIP_DISABLE_PIP_VERSION_CHECK="1", PIP_ROOT_USER_ACTION="ignore")
-        self.assertEqual({file.parent.name for file in there.glob("*/__init__.py")}, set(INSTALLED))
-        self.assertEqual(contents(there), contents(ROOT / "python"))
-        self.assertEqual(printed(there / "bin/nrdb", *ASKED, NETREV=NETREV, PYTHONPATH=str(there)), nrdb(*ASKED))
-        self.assertIn(
-            "netrev-go records Go programs.",
-            printed(there / "bin/netrev-go", "--help", PYTHONPATH=str(there)),
+def test_what_make_installs_runs_by_itself(folder: Path) -> None:
+    for prefix, settings in ((folder / "p", ()), (folder / "d/usr", (f"DESTDIR={folder}/d",))):
+        given = "/usr" if settings else prefix
+        printed("make", "-s", "-C", ROOT, "-o", "netrev", "install", f"PROGRAM={NETREV}", f"PREFIX={given}", *settings)
+        lib = prefix / "lib/netrev"
+        assert {file.parent.name for file in lib.glob("*/__init__.py")} == set(INSTALLED)
+        assert contents(lib) == contents(ROOT / "python")
+        assert printed(prefix / "bin/nrdb", *ASKED) == nrdb(*ASKED)
+        assert "netrev-go records Go programs." in printed(prefix / "bin/netrev-go", "--help")
+        found = "import sys; from netrev.system import built; print(built.netrev_program())"
+        assert printed("python3", "-c", found, PYTHONPATH=str(prefix / "lib/netrev"), PATH=os.defpath).strip() == str(
+            (prefix / "bin/netrev").resolve()
         )
+        assert (prefix / "share/man/man1/netrev.1").read_text().startswith(".TH NETREV 1")
+
+
+def test_what_make_installs_is_compiled_and_goes_by_the_source(folder: Path) -> None:
+    printed("make", "-s", "-C", ROOT, "-o", "netrev", "install", f"PROGRAM={NETREV}", f"PREFIX={folder}")
+    lib = folder / "lib/netrev"
+    modules = {path.relative_to(lib) for path in lib.rglob("*.py")}
+    compiled = list(lib.rglob("__pycache__/*.pyc"))
+    of = {path.relative_to(lib).parents[1] / f"{path.name.partition('.')[0]}.py" for path in compiled}
+    assert of == modules
+    flags = {int.from_bytes(path.read_bytes()[4:8], "little") for path in compiled}
+    assert flags == {0b11}  # (PEP 552: Python reads the source and compares its hash with the .pyc file's)
+    times = {path: path.stat().st_mtime_ns for path in compiled}
+    assert printed(folder / "bin/nrdb", *ASKED) == nrdb(*ASKED)
+    assert {path: path.stat().st_mtime_ns for path in lib.rglob("*.pyc")} == times
+    source = lib / "netrev/system/version.py"
+    before = source.stat()
+    text = source.read_text(encoding="utf-8")
+    source.write_text(re.sub(r"\d(?=\"$)", "9", text, flags=re.MULTILINE), encoding="utf-8")
+    os.utime(source, ns=(before.st_atime_ns, before.st_mtime_ns))
+    assert source.stat().st_size == before.st_size
+    assert ".9" in printed(folder / "bin/nrdb", "--version")
+
+
+def test_pip_installs_the_same(folder: Path) -> None:
+    python = builder()
+    if python is None:
+        pytest.skip("no Python here has pip, setuptools and wheel")
+    project, there = folder / "project", folder / "there"
+    project.mkdir()
+    for name in PROJECT:  # (setuptools leaves files beside those that it builds)
+        if (ROOT / name).is_dir():
+            shutil.copytree(ROOT / name, project / name)
+        else:
+            shutil.copy(ROOT / name, project / name)
+    words = ("install", "--quiet", "--no-index", "--no-build-isolation", "--no-deps", "--target", there, project)
+    printed(python, "-m", "pip", *words, PIP_DISABLE_PIP_VERSION_CHECK="1", PIP_ROOT_USER_ACTION="ignore")
+    assert {file.parent.name for file in there.glob("*/__init__.py")} == set(INSTALLED)
+    assert contents(there) == contents(ROOT / "python")
+    assert printed(there / "bin/nrdb", *ASKED, NETREV=NETREV, PYTHONPATH=str(there)) == nrdb(*ASKED)
+    assert "netrev-go records Go programs." in printed(there / "bin/netrev-go", "--help", PYTHONPATH=str(there))

@@ -2,12 +2,13 @@
 recording, in its header, or in the source lines beside a recording."""
 
 import json
-import unittest
+import re
 from pathlib import Path
 from typing import Any, Iterator
 
+import pytest
+
 from tests.session.test_strange import OBEYED, unseen
-from tests.support.folders import folder_of
 
 from .common.support import EXAMPLES, nrdb
 
@@ -63,38 +64,39 @@ def where_with(text: str, steps: int) -> str:
     return "\n".join(map(json.dumps, [*lines, {"step": 1, "stacks": [1] * steps}])) + "\n"
 
 
-class Obeyed(unittest.TestCase):
-    def setUp(self) -> None:
-        self.file = folder_of(self) / "x.jsonl"
+@pytest.fixture
+def file(folder: Path) -> Path:
+    return folder / "x.jsonl"
 
-    def test_recordings_that_are_refused(self) -> None:
-        for text in OBEYED:
-            for data in refused_with(text):
-                self.file.write_bytes(data)
-                with self.subTest(data=data):
-                    said = nrdb("--batch", self.file, status=1)
-                    self.assertRegex(said, r"\A(line|step) \d+: fault 10\d")
-                    self.assertEqual(unseen(said), [])
 
-    def test_lines_of_source(self) -> None:
-        self.file.write_bytes(FIRST.read_bytes())
-        asked = [word for line in SHOWN for word in ("-ex", line)]
-        for text in OBEYED:
-            self.file.with_suffix(".where").write_text(where_with(text, 10))
-            page = self.file.with_suffix(".html")
-            with self.subTest(text):
-                for form in FORMS:
-                    said = nrdb("--batch", *form, *asked, self.file)
-                    self.assertIn("main.", said)
-                    self.assertEqual(unseen(said), [])
-                nrdb("--timeline", page, self.file)
-                self.assertEqual(unseen(page.read_text().replace("\t", "")), [])
+def test_recordings_that_are_refused(file: Path) -> None:
+    for text in OBEYED:
+        for data in refused_with(text):
+            file.write_bytes(data)
+            output = nrdb("--batch", file, status=1)
+            assert re.search(r"\A(line|step) \d+: fault 10\d", output), data
+            assert unseen(output) == [], data
 
-    def test_names_of_files(self) -> None:
-        for text in OBEYED:
-            file = self.file.with_name(f"a{text}.jsonl")
-            file.write_bytes(b"nothing\n")
-            for named, status in ((file, 1), (file.with_suffix(".none"), 3)):
-                self.assertEqual(unseen(nrdb("--batch", named, status=status)), [])
-            said = nrdb("--batch", "-ex", f"source {file}", "-x", FIRST, FIRST)
-            self.assertEqual(unseen(said), [])
+
+def test_lines_of_source(file: Path) -> None:
+    file.write_bytes(FIRST.read_bytes())
+    asked = [word for line in SHOWN for word in ("-ex", line)]
+    for text in OBEYED:
+        file.with_suffix(".where").write_text(where_with(text, 10))
+        page = file.with_suffix(".html")
+        for form in FORMS:
+            output = nrdb("--batch", *form, *asked, file)
+            assert "main." in output, text
+            assert unseen(output) == [], text
+        nrdb("--timeline", page, file)
+        assert unseen(page.read_text().replace("\t", "")) == [], text
+
+
+def test_names_of_files(file: Path) -> None:
+    for text in OBEYED:
+        strange = file.with_name(f"a{text}.jsonl")
+        strange.write_bytes(b"nothing\n")
+        for named, status in ((strange, 1), (strange.with_suffix(".none"), 3)):
+            assert unseen(nrdb("--batch", named, status=status)) == []
+        output = nrdb("--batch", "-ex", f"source {strange}", "-x", FIRST, FIRST)
+        assert unseen(output) == []

@@ -2,10 +2,14 @@
 
 import random
 import re
-import unittest
 from collections import Counter
+from pathlib import Path
+
+import pytest
 
 from .common.support import events, recordings, shown
+
+pytestmark = pytest.mark.together
 
 AT = 4  # the number of positions of each recording that are tested besides its ends
 CELLS = 8  # the number of cells of each recording that are tested
@@ -59,148 +63,151 @@ def balance(recording, words, position):
     return +held
 
 
-class Views(unittest.TestCase):
-    def setUp(self):
-        self.random = random.Random(SEED)
+@pytest.fixture
+def dice() -> random.Random:
+    return random.Random(SEED)
 
-    def places(self, path):
-        """Random positions of a recording, and its first and last position."""
-        length = shown(path).length
-        return sorted({0, length, *(self.random.randint(0, length) for _ in range(AT))})
 
-    def test_tables_show_what_print_shows(self):
-        topics = ["goroutines all", "sockets all", "descriptors all", "timers"]
-        for path in recordings():
-            world = shown(path)
-            places = self.places(path)
-            lines = [line for at in places for line in (f"goto {at}", *(f"info {topic}" for topic in topics))]
-            tables = [event for event in events(path, lines) if event["event"] == "table"]
-            self.assertEqual(len(tables), len(places) * len(topics))
-            for number, at in enumerate(places):
-                with self.subTest(path.stem, position=at):
-                    self.compare(world, at, *(table["rows"] for table in tables[4 * number : 4 * number + 4]))
+def places_of(dice: random.Random, path: Path) -> list[int]:
+    """Random positions of a recording, and its first and last position."""
+    length = shown(path).length
+    return sorted({0, length, *(dice.randint(0, length) for _ in range(AT))})
 
-    def compare(self, world, at, goroutines, sockets, descriptors, timers):
-        """Compares the tables with the cells at the position."""
-        values = world.at(at)
-        told = {row["goroutine"]: row["status"] for row in goroutines}
-        self.assertEqual(told, {number: values[f"gor {number}"] for number in world.made("gor", at)})
-        self.assertEqual([row["socket"] for row in sockets], world.made("lock", at))
-        for row in sockets:
-            for cell in ("lock", "rsem", "wsem", "in", "out"):
-                self.assertEqual(row[cell], values[f"{cell} {row['socket']}"])
-            for queue in ("rq", "wq"):
-                self.assertEqual(" ".join(map(str, row[queue])) or "-", values[f"{queue} {row['socket']}"])
-        self.assertEqual([row["descriptor"] for row in descriptors], world.made("fdseq", at))
-        opened = open_descriptors(world.recording, at)
-        for row in descriptors:
-            self.assertEqual(row["socket"], opened.get(row["descriptor"]))
-            self.assertEqual(row["open"], row["descriptor"] in opened)
-            for cell in ("info", "rg", "wg", "rd", "wd", "fdseq"):
-                self.assertEqual(row[cell], values[f"{cell} {row['descriptor']}"])
-        for cell in ("clock", "timers", "least", "firings"):
-            self.assertEqual(timers[0][cell], values[cell])
-        due = [(row["deadline"], row["descriptor"]) for row in timers[1:]]
-        wanted = [(int(values[f"{cell} {number}"]), number) for number in opened for cell in ("rd", "wd")]
-        self.assertEqual(due, sorted(pair for pair in wanted if pair[0] > 0))
 
-    def test_what_is_left_out_is_idle_gone_or_at_rest(self):
-        for path in recordings():
-            world, places = shown(path), self.places(path)
-            lines = [line for at in places for line in (f"goto {at}", "info goroutines", "info sockets")]
-            tables = [event["rows"] for event in events(path, lines) if event["event"] == "table"]
-            for at, goroutines, sockets in zip(places, tables[::2], tables[1::2], strict=True):
-                with self.subTest(path.stem, position=at):
-                    values = world.at(at)
-                    told = [number for row in goroutines for number in row.get("goroutines", [row.get("goroutine")])]
-                    left = set(world.made("gor", at)) - set(told)
-                    self.assertLessEqual({values[f"gor {number}"] for number in left}, {"idle", "gone"})
-                    for row in goroutines:
-                        self.assertNotIn(row["status"], ("idle", "gone"))
-                    for number in set(world.made("lock", at)) - {row["socket"] for row in sockets}:
-                        self.assertEqual((values[f"rq {number}"], values[f"wq {number}"]), ("-", "-"))
-                        self.assertEqual(lock_fields(values[f"lock {number}"])[3], 0)
+def test_tables_show_what_print_shows(dice: random.Random) -> None:
+    topics = ["goroutines all", "sockets all", "descriptors all", "timers"]
+    for path in recordings():
+        world = shown(path)
+        places = places_of(dice, path)
+        lines = [line for at in places for line in (f"goto {at}", *(f"info {topic}" for topic in topics))]
+        tables = [event for event in events(path, lines) if event["event"] == "table"]
+        assert len(tables) == len(places) * len(topics)
+        for number, at in enumerate(places):
+            compare(world, at, *(table["rows"] for table in tables[4 * number : 4 * number + 4]))
 
-    def test_history_shows_each_change(self):
-        for path in recordings():
-            world = shown(path)
-            cells = self.random.sample(world.made_cells(), CELLS)
-            series = world.series(cells)
-            at = self.random.randint(world.length // 2, world.length)
-            lines = [f"goto {at}", *(f"history {cell} {most}" for cell in cells for most in ("all", 3))]
-            tables = [event["rows"] for event in events(path, lines) if event["event"] == "table"]
-            for cell, every, last in zip(cells, tables[::2], tables[1::2], strict=True):
-                values = series[cell]
-                wanted = [(p, values[p - 1], values[p]) for p in range(1, at + 1) if values[p - 1] != values[p]]
-                with self.subTest(path.stem, cell=cell, position=at):
-                    for rows, some in ((every, wanted), (last, wanted[-3:])):
-                        self.assertEqual([(row["step"], row["old"], row["new"]) for row in rows], some)
-                        for row in rows:
-                            self.assertEqual(row["does"], str(world.recording.step(row["step"])))
 
-    def test_until_goes_to_the_nearest_change_to_the_value(self):
-        for path in recordings():
-            world = shown(path)
-            cells = self.random.sample(world.made_cells(), CELLS)
-            places, lines = [], []
-            for cell, values in world.series(cells).items():
-                at, value = self.random.randint(0, world.length), self.random.choice(values)
-                changes = [p for p in range(1, world.length + 1) if values[p - 1] != values[p] == value]
-                places += [at, *[p for p in changes if p > at][:1], at, *[p for p in changes if p < at][-1:]]
-                lines += [f"goto {at}", f"until {cell} {value}", f"goto {at}", f"reverse-until {cell} {value}"]
-            with self.subTest(path.stem, lines=lines):
-                stops = [event["position"] for event in events(path, lines) if event["event"] == "place"]
-                self.assertEqual(stops, places)
+def compare(world, at, goroutines, sockets, descriptors, timers):
+    """Compares the tables with the cells at the position."""
+    values = world.at(at)
+    result = {row["goroutine"]: row["status"] for row in goroutines}
+    assert result == {number: values[f"gor {number}"] for number in world.made("gor", at)}
+    assert [row["socket"] for row in sockets] == world.made("lock", at)
+    for row in sockets:
+        for cell in ("lock", "rsem", "wsem", "in", "out"):
+            assert row[cell] == values[f"{cell} {row['socket']}"]
+        for queue in ("rq", "wq"):
+            assert (" ".join(map(str, row[queue])) or "-") == values[f"{queue} {row['socket']}"]
+    assert [row["descriptor"] for row in descriptors] == world.made("fdseq", at)
+    opened = open_descriptors(world.recording, at)
+    for row in descriptors:
+        assert row["socket"] == opened.get(row["descriptor"])
+        assert row["open"] == (row["descriptor"] in opened)
+        for cell in ("info", "rg", "wg", "rd", "wd", "fdseq"):
+            assert row[cell] == values[f"{cell} {row['descriptor']}"]
+    for cell in ("clock", "timers", "least", "firings"):
+        assert timers[0][cell] == values[cell]
+    due = [(row["deadline"], row["descriptor"]) for row in timers[1:]]
+    wanted = [(int(values[f"{cell} {number}"]), number) for number in opened for cell in ("rd", "wd")]
+    assert due == sorted(pair for pair in wanted if pair[0] > 0)
 
-    def test_holders_are_as_many_as_the_references(self):
-        for path in recordings():
-            world = shown(path)
-            asked = [(at, socket) for at in self.places(path) for socket in world.made("lock", at)]
-            lines = [line for at, socket in asked for line in (f"goto {at}", f"info holders {socket}")]
-            tables = [event for event in events(path, lines) if event["event"] == "table"]
-            for (at, socket), table in zip(asked, tables, strict=True):
-                with self.subTest(path.stem, position=at, socket=socket):
-                    self.compare_holders(world, at, socket, table)
 
-    def compare_holders(self, world, at, socket, table):
-        """Compares the holders with the lock word, and each holder with the step that it names."""
-        value = world.at(at)[f"lock {socket}"]
-        _, read, write, references, *_ = lock_fields(value)
-        self.assertIn(f"lock {socket} = {value}: ", table["rest"])
-        self.assertEqual(len(table["rows"]), references)
-        took = [row["took"].split() for row in table["rows"]]
-        for locked, side in ((read, "r"), (write, "w")):
-            self.assertEqual(locked, sum(step[0] == "rwlock" and step[3] == side for step in took))
-        for row, step in zip(table["rows"], took):
-            self.assertEqual((int(step[1]), int(step[2])), (row["goroutine"], socket))
-            self.assertEqual(str(world.recording.step(row["step"])), row["took"])
-            self.assertEqual(row["status"], world.at(at)[f"gor {row['goroutine']}"])
+def test_what_is_left_out_is_idle_gone_or_at_rest(dice: random.Random) -> None:
+    for path in recordings():
+        world, places = shown(path), places_of(dice, path)
+        lines = [line for at in places for line in (f"goto {at}", "info goroutines", "info sockets")]
+        tables = [event["rows"] for event in events(path, lines) if event["event"] == "table"]
+        for at, goroutines, sockets in zip(places, tables[::2], tables[1::2], strict=True):
+            values = world.at(at)
+            result = [number for row in goroutines for number in row.get("goroutines", [row.get("goroutine")])]
+            left = set(world.made("gor", at)) - set(result)
+            assert {values[f"gor {number}"] for number in left} <= {"idle", "gone"}, (path.stem, at)
+            for row in goroutines:
+                assert row["status"] not in ("idle", "gone"), (path.stem, at)
+            for number in set(world.made("lock", at)) - {row["socket"] for row in sockets}:
+                assert (values[f"rq {number}"], values[f"wq {number}"]) == ("-", "-"), (path.stem, at)
+                assert lock_fields(values[f"lock {number}"])[3] == 0, (path.stem, at)
 
-    def test_holders_are_those_whose_steps_took_more_than_they_gave(self):
-        count = 0
-        for path in recordings():
-            world = shown(path)
-            held = [(at, socket) for at in self.places(path) for socket in world.made("lock", at)]
-            held = [(at, socket) for at, socket in held if lock_fields(world.at(at)[f"lock {socket}"])[3]]
-            asked = self.random.sample(held, min(3, len(held)))
-            lines = [line for at, socket in asked for line in (f"goto {at}", f"info holders {socket}")]
-            tables = [event["rows"] for event in events(path, lines) if event["event"] == "table"]
-            series = world.series([f"lock {socket}" for _, socket in asked])
-            for (at, socket), rows in zip(asked, tables, strict=True):
-                with self.subTest(path.stem, position=at, socket=socket):
-                    told = Counter(row["goroutine"] for row in rows)
-                    self.assertEqual(told, balance(world.recording, series[f"lock {socket}"], at))
-                count += 1
-        self.assertGreater(count, 9)
 
-    def test_words_behind_lock_words(self):
-        for path in recordings():
-            world = shown(path)
-            asked = [(at, socket) for at in self.places(path) for socket in world.made("lock", at)]
-            lines = [line for at, socket in asked for line in (f"goto {at}", f"print lock {socket}")]
-            told = [event for event in events(path, lines) if event.get("line", "").startswith("print")]
-            for (at, socket), event in zip(asked, told, strict=True):
-                value = world.at(at)[f"lock {socket}"]
-                with self.subTest(path.stem, position=at, socket=socket):
-                    self.assertEqual(event["reply"], [f"lock {socket} = {value}"])
-                    self.assertEqual(told_fields(event["words"]), lock_fields(value))
+def test_history_shows_each_change(dice: random.Random) -> None:
+    for path in recordings():
+        world = shown(path)
+        cells = dice.sample(world.made_cells(), CELLS)
+        series = world.series(cells)
+        at = dice.randint(world.length // 2, world.length)
+        lines = [f"goto {at}", *(f"history {cell} {most}" for cell in cells for most in ("all", 3))]
+        tables = [event["rows"] for event in events(path, lines) if event["event"] == "table"]
+        for cell, every, last in zip(cells, tables[::2], tables[1::2], strict=True):
+            values = series[cell]
+            wanted = [(p, values[p - 1], values[p]) for p in range(1, at + 1) if values[p - 1] != values[p]]
+            for rows, some in ((every, wanted), (last, wanted[-3:])):
+                assert [(row["step"], row["old"], row["new"]) for row in rows] == some, (path.stem, cell, at)
+                for row in rows:
+                    assert row["does"] == str(world.recording.step(row["step"])), (path.stem, cell, at)
+
+
+def test_until_goes_to_the_nearest_change_to_the_value(dice: random.Random) -> None:
+    for path in recordings():
+        world = shown(path)
+        cells = dice.sample(world.made_cells(), CELLS)
+        places, lines = [], []
+        for cell, values in world.series(cells).items():
+            at, value = dice.randint(0, world.length), dice.choice(values)
+            changes = [p for p in range(1, world.length + 1) if values[p - 1] != values[p] == value]
+            places += [at, *[p for p in changes if p > at][:1], at, *[p for p in changes if p < at][-1:]]
+            lines += [f"goto {at}", f"until {cell} {value}", f"goto {at}", f"reverse-until {cell} {value}"]
+        stops = [event["position"] for event in events(path, lines) if event["event"] == "place"]
+        assert stops == places, (path.stem, lines)
+
+
+def test_holders_are_as_many_as_the_references(dice: random.Random) -> None:
+    for path in recordings():
+        world = shown(path)
+        asked = [(at, socket) for at in places_of(dice, path) for socket in world.made("lock", at)]
+        lines = [line for at, socket in asked for line in (f"goto {at}", f"info holders {socket}")]
+        tables = [event for event in events(path, lines) if event["event"] == "table"]
+        for (at, socket), table in zip(asked, tables, strict=True):
+            compare_holders(world, at, socket, table)
+
+
+def compare_holders(world, at, socket, table):
+    """Compares the holders with the lock word, and each holder with the step that it names."""
+    value = world.at(at)[f"lock {socket}"]
+    _, read, write, references, *_ = lock_fields(value)
+    assert f"lock {socket} = {value}: " in table["rest"]
+    assert len(table["rows"]) == references
+    took = [row["took"].split() for row in table["rows"]]
+    for locked, side in ((read, "r"), (write, "w")):
+        assert locked == sum(step[0] == "rwlock" and step[3] == side for step in took)
+    for row, step in zip(table["rows"], took):
+        assert (int(step[1]), int(step[2])) == (row["goroutine"], socket)
+        assert str(world.recording.step(row["step"])) == row["took"]
+        assert row["status"] == world.at(at)[f"gor {row['goroutine']}"]
+
+
+def test_holders_are_those_whose_steps_took_more_than_they_gave(dice: random.Random) -> None:
+    count = 0
+    for path in recordings():
+        world = shown(path)
+        held = [(at, socket) for at in places_of(dice, path) for socket in world.made("lock", at)]
+        held = [(at, socket) for at, socket in held if lock_fields(world.at(at)[f"lock {socket}"])[3]]
+        asked = dice.sample(held, min(3, len(held)))
+        lines = [line for at, socket in asked for line in (f"goto {at}", f"info holders {socket}")]
+        tables = [event["rows"] for event in events(path, lines) if event["event"] == "table"]
+        series = world.series([f"lock {socket}" for _, socket in asked])
+        for (at, socket), rows in zip(asked, tables, strict=True):
+            result = Counter(row["goroutine"] for row in rows)
+            assert result == balance(world.recording, series[f"lock {socket}"], at), (path.stem, at, socket)
+            count += 1
+    assert count > 9
+
+
+def test_words_behind_lock_words(dice: random.Random) -> None:
+    for path in recordings():
+        world = shown(path)
+        asked = [(at, socket) for at in places_of(dice, path) for socket in world.made("lock", at)]
+        lines = [line for at, socket in asked for line in (f"goto {at}", f"print lock {socket}")]
+        told = [event for event in events(path, lines) if event.get("line", "").startswith("print")]
+        for (at, socket), event in zip(asked, told, strict=True):
+            value = world.at(at)[f"lock {socket}"]
+            assert event["reply"] == [f"lock {socket} = {value}"], (path.stem, at, socket)
+            assert told_fields(event["words"]) == lock_fields(value), (path.stem, at, socket)

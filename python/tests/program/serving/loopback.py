@@ -28,6 +28,7 @@ from dataclasses import replace
 from pathlib import Path
 
 import pytest
+
 from netrev.machine.debugger import FULL, DebuggedRecording, is_command, read_line  # (Python needs this to find nrdb)
 from netrev.text.vocabulary import CELLS, DUMPS, KINDS, MOST, Of
 from tests.program.support.history import Search, SearchLimitError

@@ -24,6 +24,7 @@ from dataclasses import dataclass
 from typing import NamedTuple
 
 import pytest
+
 from netrev.machine.debugger import is_command, read_line
 from tests.program.support.sharing import Server, WrongResultError, expect, library_of
 

@@ -3,7 +3,9 @@ in one write."""
 
 import socket
 import subprocess
-import unittest
+from typing import Callable, Iterator
+
+import pytest
 
 from tests.program.support.sharing import NETREV, PATIENCE
 from tests.support.examples import EXAMPLES
@@ -11,45 +13,48 @@ from tests.support.examples import EXAMPLES
 WORDS: list[str] = [NETREV, "run", str(EXAMPLES / "first.jsonl")]
 
 
-class TestWrites(unittest.TestCase):
-    """Standard output is a socket that keeps each write separate."""
+@pytest.fixture
+def written_for() -> Iterator[Callable[[bytes], bytes]]:
+    """A function that sends bytes to a process, and returns the process's next write. Standard output is a socket that
+    keeps each write separate."""
+    output, theirs = socket.socketpair(socket.AF_UNIX, socket.SOCK_SEQPACKET)
+    output.settimeout(PATIENCE)
+    with theirs:
+        process = subprocess.Popen(WORDS, stdin=subprocess.PIPE, stdout=theirs.fileno(), bufsize=0)
 
-    def setUp(self) -> None:
-        self.output, theirs = socket.socketpair(socket.AF_UNIX, socket.SOCK_SEQPACKET)
-        self.output.settimeout(PATIENCE)
-        with theirs:
-            self.program = subprocess.Popen(WORDS, stdin=subprocess.PIPE, stdout=theirs.fileno(), bufsize=0)
+    def written(lines: bytes) -> bytes:
+        assert process.stdin is not None
+        process.stdin.write(lines)
+        return output.recv(1 << 20)
 
-    def tearDown(self) -> None:
-        self.program.kill()
-        self.program.communicate()
-        self.output.close()
-
-    def written_for(self, lines: bytes) -> bytes:
-        """The next write after these bytes have been sent."""
-        assert self.program.stdin is not None
-        self.program.stdin.write(lines)
-        return self.output.recv(1 << 20)
-
-    def test_a_caller_that_waits_for_each_reply_gets_it(self) -> None:
-        self.assertEqual(self.written_for(b"stepi\n"), b"at 1\n")
-        self.assertEqual(self.written_for(b"stepi\n"), b"at 2\n")
-
-    def test_a_reply_is_not_held_for_the_rest_of_the_next_line(self) -> None:
-        self.assertEqual(self.written_for(b"stepi\nst"), b"at 1\n")
-        self.assertEqual(self.written_for(b"epi\n"), b"at 2\n")
-
-    def test_replies_to_lines_that_came_together_are_one_write(self) -> None:
-        self.assertEqual(self.written_for(b"stepi\nstepi\nwh\nstepi"), b"at 1\nat 2\nfault 201 unknown command\n")
+    with output:
+        yield written
+        process.kill()
+        process.communicate()
 
 
-class TestEnds(unittest.TestCase):
-    def replies_to(self, lines: bytes) -> bytes:
-        return subprocess.run(WORDS, input=lines, stdout=subprocess.PIPE, timeout=PATIENCE, check=True).stdout
+def test_a_caller_that_waits_for_each_reply_gets_it(written_for: Callable[[bytes], bytes]) -> None:
+    assert written_for(b"stepi\n") == b"at 1\n"
+    assert written_for(b"stepi\n") == b"at 2\n"
 
-    def test_nothing_that_is_held_is_lost_at_the_end(self) -> None:
-        replies = self.replies_to(b"stepi\nreverse-stepi\n" * 2_000 + b"stepi")
-        self.assertEqual(replies, b"at 1\nat 0\n" * 2_000 + b"at 1\n")
 
-    def test_nothing_that_is_held_is_lost_behind_quit(self) -> None:
-        self.assertEqual(self.replies_to(b"stepi\nstepi\nquit\nstepi\n"), b"at 1\nat 2\nbye\n")
+def test_a_reply_is_not_held_for_the_rest_of_the_next_line(written_for: Callable[[bytes], bytes]) -> None:
+    assert written_for(b"stepi\nst") == b"at 1\n"
+    assert written_for(b"epi\n") == b"at 2\n"
+
+
+def test_replies_to_lines_that_came_together_are_one_write(written_for: Callable[[bytes], bytes]) -> None:
+    assert written_for(b"stepi\nstepi\nwh\nstepi") == b"at 1\nat 2\nfault 201 unknown command\n"
+
+
+def replies_to(lines: bytes) -> bytes:
+    return subprocess.run(WORDS, input=lines, stdout=subprocess.PIPE, timeout=PATIENCE, check=True).stdout
+
+
+def test_nothing_that_is_held_is_lost_at_the_end() -> None:
+    replies = replies_to(b"stepi\nreverse-stepi\n" * 2_000 + b"stepi")
+    assert replies == b"at 1\nat 0\n" * 2_000 + b"at 1\n"
+
+
+def test_nothing_that_is_held_is_lost_behind_quit() -> None:
+    assert replies_to(b"stepi\nstepi\nquit\nstepi\n") == b"at 1\nat 2\nbye\n"

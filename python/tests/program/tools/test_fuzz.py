@@ -4,11 +4,11 @@ import io
 import signal
 import tempfile
 import threading
-import unittest
-from contextlib import contextmanager, redirect_stdout
+from contextlib import ExitStack, contextmanager, redirect_stdout
 from pathlib import Path
-from typing import Callable, ContextManager
-from unittest import mock
+from typing import Any, Callable, cast
+
+import pytest
 
 from dev.fuzz.__main__ import main, play, seeds
 from dev.fuzz.cases import make
@@ -18,7 +18,9 @@ from dev.fuzz.kept_cases import kept
 from dev.fuzz.runs import difference
 from dev.fuzz.sessions.interrupts import confined, heard, nothing, pressed
 from dev.fuzz.sessions.slow import Slow
-from netrev.machine import polling, replay as replaying, steps
+from netrev.machine import polling
+from netrev.machine import replay as replaying
+from netrev.machine import steps
 from netrev.machine.machine import StepRefusedError
 from netrev.recording.changes import RecordedChanges
 from netrev.system.interrupts import Interrupts, SessionAbandonedError
@@ -60,16 +62,22 @@ def shut_for_nothing(world, g, s, data):
 EVENT, WRITE = polling.event, steps.syswrite
 # the fault that is planted in the model, and a seed whose first cases show it (if cases are generated differently, find
 # other seeds)
-PLANTED: dict[str, tuple[str, Callable[[], ContextManager[object]]]] = {
-    "a decref with another reason": ("86", lambda: mock.patch.dict(steps.OF_KIND, decref=decref_with_another_reason)),
-    "a mark that stays": ("17", lambda: mock.patch.object(polling, "event", error_stays)),
-    "a command line shorter by one": ("4", lambda: mock.patch("netrev.machine.debugger.MOST_LINE", 255)),
+PLANTED: dict[str, tuple[str, Callable[[pytest.MonkeyPatch], None]]] = {
+    "a decref with another reason": (
+        "86",
+        lambda patch: patch.setitem(cast(Any, steps.OF_KIND), "decref", decref_with_another_reason),
+    ),
+    "a mark that stays": ("17", lambda patch: patch.setattr(polling, "event", error_stays)),
+    "a command line shorter by one": ("4", lambda patch: patch.setattr("netrev.machine.debugger.MOST_LINE", 255)),
     "a temporary break that stays": (
         "127",
-        lambda: mock.patch("netrev.machine.debugger.left_standing", lambda marks, hitting: marks),
+        lambda patch: patch.setattr("netrev.machine.debugger.left_standing", lambda marks, hitting: marks),
     ),
-    "answers compared by their sort": ("100", lambda: mock.patch.object(replaying, "differs", sorts_compared)),
-    "a shut socket that takes bytes": ("98", lambda: mock.patch.dict(steps.OF_KIND, syswrite=shut_for_nothing)),
+    "answers compared by their sort": ("100", lambda patch: patch.setattr(replaying, "differs", sorts_compared)),
+    "a shut socket that takes bytes": (
+        "98",
+        lambda patch: patch.setitem(cast(Any, steps.OF_KIND), "syswrite", shut_for_nothing),
+    ),
 }
 WITHIN = 15
 REFUSED = b"step 11: fault 109 answer\n"
@@ -80,80 +88,77 @@ def planted(name, out):
     """Plants a fault in the model within this context, and yields the folder of the only case that differs, which is
     kept."""
     seed, plant = PLANTED[name]
-    with plant(), mock.patch("dev.fuzz.__main__.MOST_DIFFERENCES", 1):
+    with pytest.MonkeyPatch.context() as patch:
+        plant(patch)
+        patch.setattr("dev.fuzz.__main__.MOST_DIFFERENCES", 1)
         found, printed = quietly(play, NETREV, seed, Met(), cases=WITHIN, out=out)
         assert found == 1 and "the model's" in printed, f"{name}: {found} found, {printed}"
         (folder,) = out.iterdir()
         yield folder
 
 
-class Finding(unittest.TestCase):
-    def setUp(self):
-        self.folder = tempfile.TemporaryDirectory()
-        self.addCleanup(self.folder.cleanup)
-        self.out = Path(self.folder.name)
-
-    def test_twenty_seeds_show_no_difference(self):
-        met = Met()
-        found, printed = quietly(play, NETREV, "twenty", met, cases=20, out=self.out)
-        self.assertEqual((found, printed, sum(met.cases.values())), (0, "", 20))
-        self.assertGreater(len(met.answers), 10)
-
-    def test_what_is_planted_is_found(self):
-        for name in PLANTED:
-            with self.subTest(name), planted(name, self.out / name) as folder:
-                self.assertNotEqual((folder / "told").read_bytes(), (folder / "wanted").read_bytes())
-
-    def test_what_is_kept_can_be_played_again(self):
-        with planted("a decref with another reason", self.out) as folder:
-            again, said = quietly(main, ["--again", str(folder)])
-        self.assertIn("reason 7', the model's", said)
-        self.assertEqual((again, quietly(main, ["--again", str(folder)])[0]), (1, 0))
-        self.assertEqual((folder / "whole-recording.jsonl").read_bytes(), make(kept(folder).seed).recording)
-
-    def test_what_is_kept_has_no_line_too_many(self):
-        with planted("a decref with another reason", self.out) as folder:
-            small = kept(folder)
-            lines = small.recording.split(b"\n")
-            for at in range(len(lines)):
-                fewer = small._replace(recording=b"\n".join(lines[:at] + lines[at + 1 :]))
-                self.assertIsNone(difference(NETREV, fewer, self.out, Met()), lines[at])
-
-    def test_a_seed_makes_one_case(self):
-        for seed in seeds("same", 30):
-            self.assertEqual(make(seed), make(seed))
+def test_twenty_seeds_show_no_difference(folder: Path) -> None:
+    coverage = Met()
+    found, printed = quietly(play, NETREV, "twenty", coverage, cases=20, out=folder)
+    assert (found, printed, sum(coverage.cases.values())) == (0, "", 20)
+    assert len(coverage.answers) > 10
 
 
-class Companion(unittest.TestCase):
-    """Sessions of nrdb in which Ctrl-C is pressed, or netrev is slow or killed."""
-
-    def played(self, count):
-        """The faults of this many sessions, and the events in them."""
-        met = Met()
-        with tempfile.TemporaryDirectory() as folder:
-            cases = map(visit, seeds("tested-nrdb", count))
-            return [wrong for case in cases if (wrong := played(NETREV, case, Path(folder), met))], met.nrdb
-
-    def test_sessions_show_no_difference(self):
-        wrong, met = self.played(12)
-        self.assertEqual(wrong, [])
-        self.assertGreater(met["events"], 100)
-        self.assertGreater(met["ctrl-c"] + met["slow ctrl-c"], 3)
-
-    def test_a_value_of_the_position_before_is_found(self):
-        value = RecordedChanges.value
-        with mock.patch.object(
-            RecordedChanges, "value", lambda changes, cell, at: value(changes, cell, max(at - 1, 0))
-        ):
-            self.assertNotEqual(self.played(12)[0], [])
+@pytest.mark.parametrize("name", PLANTED)
+def test_what_is_planted_is_found(folder: Path, name: str) -> None:
+    with planted(name, folder / "out") as case:
+        assert (case / "told").read_bytes() != (case / "wanted").read_bytes()
 
 
-class Pressing(unittest.TestCase):
+def test_what_is_kept_can_be_played_again(folder: Path) -> None:
+    with planted("a decref with another reason", folder) as case:
+        again, text = quietly(main, ["--again", str(case)])
+    assert "reason 7', the model's" in text
+    assert (again, quietly(main, ["--again", str(case)])[0]) == (1, 0)
+    assert (case / "whole-recording.jsonl").read_bytes() == make(kept(case).seed).recording
+
+
+def test_what_is_kept_has_no_line_too_many(folder: Path) -> None:
+    with planted("a decref with another reason", folder) as case:
+        small = kept(case)
+        lines = small.recording.split(b"\n")
+        for at in range(len(lines)):
+            fewer = small._replace(recording=b"\n".join(lines[:at] + lines[at + 1 :]))
+            assert difference(NETREV, fewer, folder, Met()) is None, lines[at]
+
+
+def test_a_seed_makes_one_case():
+    for seed in seeds("same", 30):
+        assert make(seed) == make(seed)
+
+
+def session_of_seed(count):
+    """The faults of this many sessions, and the events in them."""
+    coverage = Met()
+    with tempfile.TemporaryDirectory() as folder:
+        cases = map(visit, seeds("tested-nrdb", count))
+        return [wrong for case in cases if (wrong := played(NETREV, case, Path(folder), coverage))], coverage.nrdb
+
+
+def test_sessions_show_no_difference():
+    wrong, coverage = session_of_seed(12)
+    assert wrong == []
+    assert coverage["events"] > 100
+    assert coverage["ctrl-c"] + coverage["slow ctrl-c"] > 3
+
+
+def test_a_value_of_the_position_before_is_found(monkeypatch):
+    value = RecordedChanges.value
+    monkeypatch.setattr(RecordedChanges, "value", lambda changes, cell, at: value(changes, cell, max(at - 1, 0)))
+    assert session_of_seed(12)[0] != []
+
+
+class Pressing:
     """The Ctrl-C that the fuzzer presses for a session reaches only that session."""
 
-    def setUp(self):
+    def __init__(self, cleanups: ExitStack) -> None:
         self.came = 0
-        self.addCleanup(signal.signal, signal.SIGINT, signal.signal(signal.SIGINT, self.comes))
+        cleanups.callback(signal.signal, signal.SIGINT, signal.signal(signal.SIGINT, self.comes))
 
     def comes(self, *_):
         """Records a Ctrl-C that no session and no case handled."""
@@ -169,45 +174,55 @@ class Pressing(unittest.TestCase):
                 with interrupts.held():
                     netrev.ask("info position")
 
-            self.assertRaises(SessionAbandonedError, heard, ask)
+            with pytest.raises(SessionAbandonedError):
+                heard(ask)
             netrev.drop()
 
-    def test_a_session_that_is_given_up_while_it_closes_leaves_no_ctrl_c_behind(self):
-        is_over, is_pressed = threading.Event(), threading.Event()
 
-        def late():
-            is_over.wait(0.3)
-            pressed()
-            is_pressed.set()
+@pytest.fixture
+def presses(cleanups: ExitStack) -> Pressing:
+    return Pressing(cleanups)
 
-        def closes(netrev):
-            netrev.while_stopped(pressed, pressed, late)
-            netrev.close()
 
-        self.give_up(closes)
-        is_over.set()
-        self.assertTrue(is_pressed.wait(10))
-        self.assertEqual(self.came, 0)
+def test_a_session_that_is_given_up_while_it_closes_leaves_no_ctrl_c_behind(presses):
+    is_over, is_pressed = threading.Event(), threading.Event()
 
-    def test_a_session_that_is_given_up_while_a_thread_begins_can_be_closed(self):
-        begin, begun = threading.Thread.start, []
-
-        def begins(thread):
-            pressed()
-            begin(thread)
-            begun.append(thread)
-
-        def stops(netrev):
-            pressed()
-            with mock.patch.object(threading.Thread, "start", begins):
-                netrev.while_stopped(nothing)
-
-        self.give_up(stops)
-        self.assertEqual([thread.is_alive() for thread in begun], [False])
-
-    def test_what_is_pressed_within_a_case_is_gone_behind_it(self):
-        with confined():
-            pressed()
-        self.assertEqual(self.came, 0)
+    def late():
+        is_over.wait(0.3)
         pressed()
-        self.assertEqual(self.came, 1)
+        is_pressed.set()
+
+    def closes(netrev):
+        netrev.while_stopped(pressed, pressed, late)
+        netrev.close()
+
+    presses.give_up(closes)
+    is_over.set()
+    assert is_pressed.wait(10)
+    assert presses.came == 0
+
+
+def test_a_session_that_is_given_up_while_a_thread_begins_can_be_closed(presses):
+    begin, begun = threading.Thread.start, []
+
+    def begins(thread):
+        pressed()
+        begin(thread)
+        begun.append(thread)
+
+    def stops(netrev):
+        pressed()
+        with pytest.MonkeyPatch.context() as patch:
+            patch.setattr(threading.Thread, "start", begins)
+            netrev.while_stopped(nothing)
+
+    presses.give_up(stops)
+    assert [thread.is_alive() for thread in begun] == [False]
+
+
+def test_what_is_pressed_within_a_case_is_gone_behind_it(presses):
+    with confined():
+        pressed()
+    assert presses.came == 0
+    pressed()
+    assert presses.came == 1

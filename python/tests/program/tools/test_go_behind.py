@@ -38,8 +38,8 @@ class Behind(test_go_tests.Tested):
 
     def lines(self) -> list[dict[str, Any]]:
         """The lines of --json about the tests that have a recording."""
-        told = [json.loads(line) for line in (self.folder / "a.json").read_text().splitlines()]
-        return [line for line in told if line["recording"]]
+        events = [json.loads(line) for line in (self.folder / "a.json").read_text().splitlines()]
+        return [line for line in events if line["recording"]]
 
 
 @pytest.fixture
@@ -51,16 +51,16 @@ def test_the_timeline_is_beside_the_recording_of_a_test_that_failed(
     monkeypatch: pytest.MonkeyPatch, package: Behind
 ) -> None:
     monkeypatch.setattr(converting, "lines_of", lambda *_: CALLS)
-    status, _, said = package.told("--html", "--json", "a.json", "test", ".")
-    assert status == 1, said
+    status, _, output = package.told("--html", "--json", "a.json", "test", ".")
+    assert status == 1, output
     pages = sorted(path.name for path in (package.folder / "recordings").glob("*.html"))
-    assert pages == ["toy.TestRed.a_part.html"], said
-    (told,) = package.lines()
-    assert told["page"] == f"recordings/{pages[0]}"
-    text = pathlib.Path(told["page"]).read_text()
+    assert pages == ["toy.TestRed.a_part.html"], output
+    (result,) = package.lines()
+    assert result["page"] == f"recordings/{pages[0]}"
+    text = pathlib.Path(result["page"]).read_text()
     found = DATA.search(text)
     assert found, text
-    data, recording = json.loads(found[1]), Recording.read(told["recording"])
+    data, recording = json.loads(found[1]), Recording.read(result["recording"])
     assert (data["first"], data["last"], data["name"]) == (0, recording.length, "toy.TestRed.a_part.jsonl")
     assert [step.split()[0] for step in data["steps"][1:-1]] == [
         recording.step(number).kind for number in range(1, recording.length + 1)
@@ -87,9 +87,9 @@ def test_without_the_word_there_is_none(package: Behind) -> None:
 
 def test_a_page_that_cannot_be_made_is_said_and_changes_nothing(package: Behind) -> None:
     (package.folder / "recordings/toy.TestRed.a_part.html").mkdir(parents=True)
-    status, _, said = package.told("--html", "--json", "a.json", "test", ".", status=1)
+    status, _, output = package.told("--html", "--json", "a.json", "test", ".", status=1)
     assert status == 1
-    assert "netrev-go: recordings/toy.TestRed.a_part.html can't be made: " in said
+    assert "netrev-go: recordings/toy.TestRed.a_part.html can't be made: " in output
     assert [line["page"] for line in package.lines()] == [None]
 
 
@@ -120,20 +120,20 @@ def explored(package: Behind, *words: str, status: int = 0, recording: pathlib.P
     ],
 )
 def test_what_is_found_is_possible_and_the_status_is_gos(package: Behind, words: tuple[Any, ...], wanted: Any) -> None:
-    status, said = explored(package, *words)
-    assert status == wanted, said
-    assert "possible, example.org/toy TestGreen:\n" in said
-    assert "deadline taken back too soon, in toy.TestGreen-other-1.jsonl" in said
-    (told,) = package.lines()
-    assert (told["status"], told["suspects"]) == ("passed", [])
-    assert any("deadline taken back too soon" in line for line in told["possible"])
+    status, text = explored(package, *words)
+    assert status == wanted, text
+    assert "possible, example.org/toy TestGreen:\n" in text
+    assert "deadline taken back too soon, in toy.TestGreen-other-1.jsonl" in text
+    (result,) = package.lines()
+    assert (result["status"], result["suspects"]) == ("passed", [])
+    assert any("deadline taken back too soon" in line for line in result["possible"])
 
 
 def test_where_nothing_is_found_nothing_is_said(package: Behind) -> None:
-    status, said = explored(package, "--fail-on", "possible", recording=EXAMPLES / "temporary-break.jsonl")
+    status, text = explored(package, "--fail-on", "possible", recording=EXAMPLES / "temporary-break.jsonl")
     assert status == 0
-    assert "possible" not in said
-    assert [told["possible"] for told in package.lines()] == [[]]
+    assert "possible" not in text
+    assert [result["possible"] for result in package.lines()] == [[]]
 
 
 def test_where_it_could_not_look_that_is_said(monkeypatch: pytest.MonkeyPatch, package: Behind) -> None:
@@ -141,16 +141,16 @@ def test_where_it_could_not_look_that_is_said(monkeypatch: pytest.MonkeyPatch, p
     # a descriptor that is never closed
     steps = ['["sockopen",16,16]', '["pollopen",0,0]', '["increfclose",0,0]', '["decref",0,0]']
     other.write_text("\n".join(['{"netrev":1,"gor":2,"sock":1,"desc":1,"buf":16}', *steps, ""]))
-    status, said = explored(package, "--fail-on", "possible", recording=other)
+    status, text = explored(package, "--fail-on", "possible", recording=other)
     assert status == 0
-    assert "TestGreen.jsonl: other schedules weren't explored: explore replays calls of Go" in said
+    assert "TestGreen.jsonl: other schedules weren't explored: explore replays calls of Go" in text
     monkeypatch.setattr(tested, "GRACE", 0)
-    _, said = explored(package, "--explore", "0")
-    assert re.search(r"TestGreen\.jsonl: other schedules weren't explored: nrdb ended with status 13[07]", said)
+    _, text = explored(package, "--explore", "0")
+    assert re.search(r"TestGreen\.jsonl: other schedules weren't explored: nrdb ended with status 13[07]", text)
 
 
 def test_where_go_fails_no_schedule_is_played(monkeypatch: pytest.MonkeyPatch, package: Behind) -> None:
     monkeypatch.setattr(tested, "findings", raising(AssertionError("schedules are explored")))
-    status, said = explored(package, "--fail-on", "possible", status=7)
+    status, text = explored(package, "--fail-on", "possible", status=7)
     assert status == 7
-    assert "possible" not in said
+    assert "possible" not in text

@@ -3,12 +3,11 @@ package."""
 
 import re
 import subprocess
-import tempfile
-import unittest
 from dataclasses import replace
 from pathlib import Path
 
 import pytest
+
 from netrev.system.version import VERSION
 from tests.program.support.fresh import environment
 from tests.program.support.readme import README, sections
@@ -27,7 +26,8 @@ from tests.program.support.readme_rooms import (
     played,
 )
 from tests.program.support.sharing import NETREV, ROOT
-from tests.support.folders import folder_of
+
+pytestmark = pytest.mark.together
 
 TEXT = README.read_text(encoding="utf-8")
 LINK = re.compile(r"\]\((?!\w+:|#)([^)#]+)")
@@ -88,40 +88,46 @@ def test_the_questions_that_a_look_has_to_answer_are_shown() -> None:
     assert set(QUESTIONS) <= typed
 
 
+@pytest.fixture(scope="module")
+def packages(tmp_path_factory: pytest.TempPathFactory) -> Path:
+    """A folder with the archive and the Debian package of the present tree, before the gate has passed."""
+    folder = tmp_path_factory.mktemp("packages")
+    log = folder / "log"
+    log.write_text("no gate\n")
+    for words in (("archive.sh", VERSION, NETREV, str(log), str(folder)), ("deb.sh", VERSION, str(folder))):
+        command = ["sh", str(ROOT / "scripts" / words[0]), *words[1:]]
+        settings = environment(COMPRESSION="gzip")
+        ran = subprocess.run(command, env=settings, capture_output=True, text=True, check=False)
+        assert ran.returncode == 0, ran.stdout + ran.stderr
+    return folder
+
+
+@pytest.fixture(scope="module")
+def archive(packages: Path) -> Path:
+    return packages / f"netrev-{VERSION}-linux-x86_64.tar.gz"
+
+
+@pytest.fixture(scope="module")
+def deb(packages: Path) -> Path:
+    return packages / f"netrev_{VERSION}_amd64.deb"
+
+
+def expect_links(pages: Path, missing: set[str]) -> None:
+    """Expects that the README's links lead to files, but for these."""
+    text = (pages / "README.md").read_text(encoding="utf-8")
+    assert len(LINK.findall(text)) > 20
+    assert {link for link in LINK.findall(text) if not (pages / link).exists()} == missing
+
+
 @pytest.mark.long
-class Packages(unittest.TestCase):
-    """The archive and the Debian package of the present tree, before the gate has passed."""
+def test_with_only_the_archive(folder: Path, archive: Path) -> None:
+    play(archive_room(folder, archive), ARCHIVE, DEBUG)
+    expect_links(folder / archive.name.removesuffix(".tar.gz"), set())
+    skip_without_go()
 
-    archive: Path
-    deb: Path
 
-    @classmethod
-    def setUpClass(cls) -> None:
-        folder = tempfile.TemporaryDirectory()
-        cls.addClassCleanup(folder.cleanup)
-        log = Path(folder.name, "log")
-        log.write_text("no gate\n")
-        for words in (("archive.sh", VERSION, NETREV, str(log), folder.name), ("deb.sh", VERSION, folder.name)):
-            command = ["sh", str(ROOT / "scripts" / words[0]), *words[1:]]
-            settings = environment(COMPRESSION="gzip")
-            ran = subprocess.run(command, env=settings, capture_output=True, text=True, check=False)
-            assert ran.returncode == 0, ran.stdout + ran.stderr
-        cls.archive = Path(folder.name, f"netrev-{VERSION}-linux-x86_64.tar.gz")
-        cls.deb = Path(folder.name, f"netrev_{VERSION}_amd64.deb")
-
-    def assert_links_lead_somewhere(self, pages: Path, missing: set[str]) -> None:
-        text = (pages / "README.md").read_text(encoding="utf-8")
-        self.assertGreater(len(LINK.findall(text)), 20)
-        self.assertEqual({link for link in LINK.findall(text) if not (pages / link).exists()}, missing)
-
-    def test_with_only_the_archive(self) -> None:
-        folder = folder_of(self)
-        play(archive_room(folder, self.archive), ARCHIVE, DEBUG)
-        self.assert_links_lead_somewhere(folder / self.archive.name.removesuffix(".tar.gz"), set())
-        skip_without_go()
-
-    def test_with_only_the_debian_package(self) -> None:
-        folder = folder_of(self)
-        play(deb_room(folder, self.deb), DEBIAN, DEBUG)
-        self.assert_links_lead_somewhere(folder / "root/usr/share/doc/netrev", UNDER_ANOTHER_NAME)
-        skip_without_go()
+@pytest.mark.long
+def test_with_only_the_debian_package(folder: Path, deb: Path) -> None:
+    play(deb_room(folder, deb), DEBIAN, DEBUG)
+    expect_links(folder / "root/usr/share/doc/netrev", UNDER_ANOTHER_NAME)
+    skip_without_go()

@@ -10,6 +10,7 @@ from pathlib import Path
 from typing import Iterator, NamedTuple
 
 import pytest
+
 from dev.fuzz.generators.logs import from_text
 from tests.program.support.sharing import NETREV, ROOT
 from tests.support.examples import EXAMPLES

@@ -7,9 +7,9 @@ import shutil
 import subprocess
 from pathlib import Path
 from typing import Iterator
-from unittest import mock
 
 import pytest
+
 from netrev.findings.suspects import table
 from netrev.findings.suspects.found import Evidence, Suspect
 from netrev.recording.recording import Recording
@@ -19,6 +19,7 @@ from netrev_go.steps.report import Conversion
 from tests.program.nrdb.common.support import netrev, nrdb
 from tests.program.support.sharing import NETREV
 from tests.support.examples import EXAMPLES
+from tests.support.stubs import stub
 
 CAUSED = EXAMPLES.parent / "python/tests/caused"
 SUSPECT = EXAMPLES / "real/hijacked.jsonl"
@@ -67,12 +68,13 @@ def reported_by_netrev_go(path: Path, is_failed: bool = True) -> Conversion:
     for step in steps:
         if (g := step.argument("g")) is not None:
             last[g] = step.number
-    recorded = mock.Mock(
+    recorded = stub(
         prelude=0,
         goroutines=recording.limits["gor"], sockets=recording.limits["sock"], notes=[], lines=steps, last_steps=last,
         stacks=[0] * len(steps),
     )  # fmt: skip
-    with mock.patch.object(report, "netrev_program", lambda: str(NETREV)):
+    with pytest.MonkeyPatch.context() as patch:
+        patch.setattr(report, "netrev_program", lambda: str(NETREV))
         outcome = report.report(recorded, path, {}, is_failed)
     assert outcome.taken, outcome.lines
     return outcome
@@ -142,10 +144,8 @@ def test_kept_schedules_carry_netrevs_answer_alone(tmp_path: Path, monkeypatch: 
 
 def test_a_doubt_about_a_rule_is_nrdbs_own_line() -> None:
     suspect = Suspect(3, 1, ["s"], listed=["at 3 x"], evidence=[Evidence(3, "rd 0", "-1")], looks=["goto 3"], rule="r")
-    recording = mock.Mock()
-    recording.lines.words.return_value = ""
-    recording.lines.of.return_value.own.return_value = None
-    scout = mock.Mock(values=lambda *_: ["7"])
+    lines = stub(words=lambda *_: "", of=lambda *_: stub(own=lambda *_: None))
+    recording, scout = stub(lines=lines), stub(values=lambda *_: ["7"])
     rows = [row.text.strip() for row in table._rows(scout, recording, 1, suspect)]
     says = "netrev: at 3 x; at 3 rd 0 = 7"
     assert rows == ["1. r: s", says, "take care: the rule expects rd 0 = -1 at 3", "next:   goto 3"]

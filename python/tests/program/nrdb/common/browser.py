@@ -8,9 +8,13 @@ import tempfile
 from pathlib import Path
 from typing import Any
 
+import pytest
+
 CHROMIUM = next(
     (path for name in ("chromium", "chromium-browser", "google-chrome") if (path := shutil.which(name))), ""
 )
+NO_CHROMIUM = "chromium isn't on this machine (Debian: apt-get install chromium)"
+needs_chromium = pytest.mark.skipif(not CHROMIUM, reason=NO_CHROMIUM)
 PATIENCE = 60  # seconds
 LIGHT, DARK = 1, 0  # the colour schemes that a browser may ask for
 
@@ -53,10 +57,10 @@ def used(
     assert "CONSOLE" not in ended.stderr, ended.stderr
     found = re.search(r'<pre id="told">(.*?)</pre>', ended.stdout, re.DOTALL)
     assert found, ended.stdout[-2_000:] + ended.stderr[-2_000:]
-    said = json.loads(unescaped(found[1]))
-    assert said["wrong"] == [], said
-    told: dict[str, Any] = said["told"]
-    return told
+    text = json.loads(unescaped(found[1]))
+    assert text["wrong"] == [], text
+    result: dict[str, Any] = text["told"]
+    return result
 
 
 def unescaped(text: str) -> str:

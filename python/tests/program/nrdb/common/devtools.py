@@ -11,7 +11,6 @@ import select
 import signal
 import tempfile
 import time
-import unittest
 from contextlib import suppress
 from pathlib import Path
 from typing import Any
@@ -95,12 +94,12 @@ class Chromium:
         while b"\0" not in self._rest:
             if not select.select([self._from], [], [], max(limit - time.monotonic(), 0))[0]:
                 raise BrowserError(f"chromium said nothing for {PATIENCE} s")
-            came = os.read(self._from, 1 << 16)
-            if not came:
+            result = os.read(self._from, 1 << 16)
+            if not result:
                 raise BrowserError("chromium has ended")
-            self._rest += came
-        said, _, self._rest = self._rest.partition(b"\0")
-        message: Body = json.loads(said)
+            self._rest += result
+        text, _, self._rest = self._rest.partition(b"\0")
+        message: Body = json.loads(text)
         return message
 
     def page(self, address: str) -> Page:
@@ -112,6 +111,12 @@ class Chromium:
         for domain in ("Page", "Runtime", "Log"):
             page.does(f"{domain}.enable")
         page.does("Page.navigate", url=address)
+        return page
+
+    def opened(self, web: Web) -> Page:
+        """The served page, after its timeline has been loaded."""
+        page = self.page(str(web.address))
+        page.until(LOADED)
         return page
 
 
@@ -127,10 +132,10 @@ class Page:
 
     def value(self, script: str) -> Any:
         """The value of an expression in the page."""
-        said = self.does("Runtime.evaluate", expression=script, awaitPromise=True, returnByValue=True)
-        if "exceptionDetails" in said:
-            raise BrowserError(f"{script}: {said['exceptionDetails']}")
-        return said["result"].get("value")
+        text = self.does("Runtime.evaluate", expression=script, awaitPromise=True, returnByValue=True)
+        if "exceptionDetails" in text:
+            raise BrowserError(f"{script}: {text['exceptionDetails']}")
+        return text["result"].get("value")
 
     def until(self, script: str, patience: float = PATIENCE) -> Any:
         """Waits until an expression is true, and returns its value."""
@@ -176,22 +181,3 @@ class Page:
             if event["method"] == "Log.entryAdded" and event["params"]["entry"]["level"] == "error":
                 found.append(event["params"]["entry"]["text"])
         return found
-
-
-@unittest.skipUnless(CHROMIUM, "chromium isn't on this machine (Debian: apt-get install chromium)")
-class InChromium(unittest.TestCase):
-    """Tests that share a browser."""
-
-    chromium: Chromium
-
-    @classmethod
-    def setUpClass(cls) -> None:
-        cls.chromium = Chromium()
-        cls.chromium.__enter__()
-        cls.addClassCleanup(cls.chromium.__exit__)
-
-    def opened(self, web: Web) -> Page:
-        """Opens the served page, and waits for its timeline."""
-        page = self.chromium.page(str(web.address))
-        page.until(LOADED)
-        return page

@@ -5,19 +5,18 @@ import os
 import socket
 import struct
 import subprocess
-import tempfile
-import unittest
 from contextlib import ExitStack, closing, suppress
 from pathlib import Path
 from typing import Any, Iterator
-from unittest.mock import patch
 
 import pytest
+
 from nrdb.dap import handshakes as handshaking
 from nrdb.dap.handshakes import Handshakes
 from tests.program.nrdb.common.dap_client import Client, RefusalError
 from tests.program.nrdb.common.support import EXAMPLES, NRDB
 from tests.program.support.sharing import NETREV
+from tests.support.stubs import stub
 
 LOST = str(EXAMPLES / "lost-wakeup.jsonl")
 LOOPBACK = "127.0.0.1"
@@ -27,7 +26,7 @@ TOKEN = "a token of this test"
 
 def framed(*messages: dict[str, Any]) -> bytes:
     """Messages in the form in which they are sent."""
-    texts = [json.dumps(one).encode() for one in messages]
+    texts = [json.dumps(message).encode() for message in messages]
     return b"".join(b"Content-Length: %d\r\n\r\n%s" % (len(text), text) for text in texts)
 
 
@@ -35,17 +34,15 @@ def asked(number: int, command: str, **arguments: Any) -> dict[str, Any]:
     return {"seq": number, "type": "request", "command": command, "arguments": arguments}
 
 
-class Port(unittest.TestCase):
+class Port:
     """A port that is served, and connections to it."""
 
-    environment: dict[str, str] = {}
-
-    def setUp(self):
-        environment = os.environ | {"NETREV": NETREV} | self.environment
+    def __init__(self, cleanups: ExitStack, **settings: str) -> None:
+        environment = os.environ | {"NETREV": NETREV} | settings
         self.serving = subprocess.Popen(
             [NRDB, "--dap-port", "0"], stdout=subprocess.PIPE, stderr=subprocess.PIPE, env=environment, text=True
         )
-        self.addCleanup(self.end)
+        cleanups.callback(self.end)
         assert self.serving.stdout
         self.port = int(self.serving.stdout.readline().rpartition(":")[2])
         self.token = self.serving.stdout.readline().split('"')[3]
@@ -71,7 +68,7 @@ class Port(unittest.TestCase):
         """Checks that an editor with the token is still served."""
         with self.connect() as connection:
             editor = self.editor(connection)
-            self.assertEqual(editor.begin(LOST, token=self.token)["reason"], "entry")
+            assert editor.begin(LOST, token=self.token)["reason"] == "entry"
             editor("disconnect")
 
 
@@ -82,75 +79,72 @@ def received(connection: socket.socket) -> bytes:
         return b""
 
 
-class Editors(Port):
-    """Editors that have the token."""
-
-    def test_two_editors(self):
-        self.assertGreater(len(self.token), 40)
-        self.goes_on()
-        self.goes_on()
-
-    def test_one_that_leaves_in_the_middle_ends_nothing(self):
-        launch = asked(1, "launch", program=LOST, token=self.token)
-        begun = framed(launch, asked(2, "configurationDone"))
-        for data in (begun, b"Content-Length: 100\r\n\r\n{", framed(asked(1, "initialize")), b""):
-            for resets in (False, True):
-                with self.connect() as connection:
-                    if resets:
-                        connection.setsockopt(socket.SOL_SOCKET, socket.SO_LINGER, struct.pack("ii", 1, 0))
-                    connection.sendall(data)
-        self.goes_on()
+@pytest.fixture
+def port(cleanups: ExitStack) -> Port:
+    return Port(cleanups)
 
 
-class Strangers(Port):
-    """Connections without the token."""
-
-    def test_a_page_of_a_browser_has_nothing_run(self):
-        with tempfile.TemporaryDirectory() as folder:
-            ran, program = Path(folder, "ran"), Path(folder, "program")
-            program.write_text(f"#!/bin/sh\ntouch {ran}\n")
-            program.chmod(0o700)
-            tokens: list[dict[str, Any]] = [{}, {"token": self.token}]
-            for token in tokens:
-                body = json.dumps(asked(1, "launch", program=LOST, netrev=str(program), **token)).encode()
-                head = f"POST / HTTP/1.1\r\nHost: {LOOPBACK}:{self.port}\r\nOrigin: http://evil.example\r\n"
-                head += f"Content-Type: text/plain\r\nContent-Length: {len(body)}\r\n\r\n"
-                self.assertEqual(self.said_to(head.encode() + body), b"")
-            self.goes_on()
-            self.assertFalse(ran.exists())
-
-    def test_without_the_token_nothing_is_answered(self):
-        tokens: list[dict[str, Any]] = [
-            {},
-            {"token": ""},
-            {"token": self.token[:-1]},
-            {"token": 7},
-            {"token": "\ud800"},
-        ]
-        for token in tokens:
-            launch = asked(2, "launch", program=LOST, **token)
-            told = self.said_to(framed(asked(1, "threads"), launch, asked(3, "initialize")))
-            self.assertEqual(told.count(b'"success": false'), 2, told)
-            self.assertNotIn(b'"success": true', told)
-        with self.connect() as connection, self.assertRaisesRegex(RefusalError, "needs the token that nrdb printed"):
-            self.editor(connection).begin(LOST)
-        self.goes_on()
+def test_two_editors(port: Port) -> None:
+    assert len(port.token) > 40
+    port.goes_on()
+    port.goes_on()
 
 
-class OfOnesOwn(Port):
-    """A token that the user chose in the environment."""
+def test_one_that_leaves_in_the_middle_ends_nothing(port: Port) -> None:
+    launch = asked(1, "launch", program=LOST, token=port.token)
+    begun = framed(launch, asked(2, "configurationDone"))
+    for data in (begun, b"Content-Length: 100\r\n\r\n{", framed(asked(1, "initialize")), b""):
+        for resets in (False, True):
+            with port.connect() as connection:
+                if resets:
+                    connection.setsockopt(socket.SOL_SOCKET, socket.SO_LINGER, struct.pack("ii", 1, 0))
+                connection.sendall(data)
+    port.goes_on()
 
-    environment = {"NRDB_TOKEN": "sixteen letters!"}
 
-    def test_it_is_taken(self):
-        self.assertEqual(self.token, "sixteen letters!")
-        self.goes_on()
+def test_a_page_of_a_browser_has_nothing_run(folder: Path, port: Port) -> None:
+    ran, program = folder / "ran", folder / "program"
+    program.write_text(f"#!/bin/sh\ntouch {ran}\n")
+    program.chmod(0o700)
+    tokens: list[dict[str, Any]] = [{}, {"token": port.token}]
+    for token in tokens:
+        body = json.dumps(asked(1, "launch", program=LOST, netrev=str(program), **token)).encode()
+        head = f"POST / HTTP/1.1\r\nHost: {LOOPBACK}:{port.port}\r\nOrigin: http://evil.example\r\n"
+        head += f"Content-Type: text/plain\r\nContent-Length: {len(body)}\r\n\r\n"
+        assert port.said_to(head.encode() + body) == b""
+    port.goes_on()
+    assert not ran.exists()
 
-    def test_a_short_one_is_refused(self):
-        environment = os.environ | {"NRDB_TOKEN": "fifteen letters"}
-        ended = subprocess.run([NRDB, "--dap-port", "0"], env=environment, capture_output=True, text=True, check=False)
-        self.assertEqual((ended.returncode, ended.stdout), (2, ""))
-        self.assertIn("at least 16 printable ASCII characters", ended.stderr)
+
+def test_without_the_token_nothing_is_answered(port: Port) -> None:
+    tokens: list[dict[str, Any]] = [
+        {},
+        {"token": ""},
+        {"token": port.token[:-1]},
+        {"token": 7},
+        {"token": "\ud800"},
+    ]
+    for token in tokens:
+        launch = asked(2, "launch", program=LOST, **token)
+        result = port.said_to(framed(asked(1, "threads"), launch, asked(3, "initialize")))
+        assert result.count(b'"success": false') == 2, result
+        assert b'"success": true' not in result
+    with port.connect() as connection, pytest.raises(RefusalError, match="needs the token that nrdb printed"):
+        port.editor(connection).begin(LOST)
+    port.goes_on()
+
+
+def test_a_token_of_the_environment_is_taken(cleanups: ExitStack) -> None:
+    port = Port(cleanups, NRDB_TOKEN="sixteen letters!")
+    assert port.token == "sixteen letters!"
+    port.goes_on()
+
+
+def test_a_short_token_is_refused() -> None:
+    environment = os.environ | {"NRDB_TOKEN": "fifteen letters"}
+    ended = subprocess.run([NRDB, "--dap-port", "0"], env=environment, capture_output=True, text=True, check=False)
+    assert (ended.returncode, ended.stdout) == (2, "")
+    assert "at least 16 printable ASCII characters" in ended.stderr
 
 
 @pytest.fixture
@@ -173,29 +167,45 @@ def is_ended(connection: socket.socket) -> bool:
     return True
 
 
-def test_one_without_the_token_is_ended_in_time(handshakes: tuple[Handshakes, tuple[str, int]]) -> None:
-    with patch.object(handshaking, "IN_TIME", 0.2), socket.create_connection(handshakes[1]) as stranger:
+def test_one_without_the_token_is_ended_in_time(
+    monkeypatch: pytest.MonkeyPatch, handshakes: tuple[Handshakes, tuple[str, int]]
+) -> None:
+    monkeypatch.setattr(handshaking, "IN_TIME", 0.2)
+    with socket.create_connection(handshakes[1]) as stranger:
         stranger.sendall(b"Content-Length: 100\r\n\r\n{")
         assert is_ended(stranger)
 
 
-def test_one_with_the_token_is_not_ended(handshakes: tuple[Handshakes, tuple[str, int]]) -> None:
+def test_one_with_the_token_is_not_ended(
+    monkeypatch: pytest.MonkeyPatch, handshakes: tuple[Handshakes, tuple[str, int]]
+) -> None:
     opened, address = handshakes
-    with patch.object(handshaking, "Timer") as timer, socket.create_connection(address) as editor:
+    timers: list[tuple[float, Any]] = []
+    calls: list[str] = []
+
+    def timer(seconds: float, function: Any) -> Any:
+        timers.append((seconds, function))
+        return stub(start=lambda: calls.append("start"), cancel=lambda: calls.append("cancel"), daemon=False)
+
+    monkeypatch.setattr(handshaking, "Timer", timer)
+    with socket.create_connection(address) as editor:
         editor.sendall(framed(asked(1, "initialize"), asked(2, "launch", token=TOKEN), asked(3, "threads")))
         connection = opened.next()
         assert connection.initialize and connection.launch
-        timer.assert_called_once_with(handshaking.IN_TIME, connection.hang_up)
-        timer.return_value.cancel.assert_called_once_with()
+        assert timers == [(handshaking.IN_TIME, connection.hang_up)]
+        assert calls == ["start", "cancel"]
         request = connection.wire.request()
         assert request and request.command == "threads"
         connection.close()
 
 
-def test_silent_strangers_hold_up_no_editor(handshakes: tuple[Handshakes, tuple[str, int]]) -> None:
+def test_silent_strangers_hold_up_no_editor(
+    monkeypatch: pytest.MonkeyPatch, handshakes: tuple[Handshakes, tuple[str, int]]
+) -> None:
     """(nobody reads it)"""
     opened, address = handshakes
-    with patch.object(handshaking, "IN_TIME", 600), ExitStack() as connected:
+    monkeypatch.setattr(handshaking, "IN_TIME", 600)
+    with ExitStack() as connected:
         strangers = [connected.enter_context(socket.create_connection(address)) for _ in range(handshaking.MOST + 6)]
         editor = connected.enter_context(socket.create_connection(address))
         editor.sendall(framed(asked(1, "launch", token=TOKEN)))
@@ -205,13 +215,12 @@ def test_silent_strangers_hold_up_no_editor(handshakes: tuple[Handshakes, tuple[
         connection.close()
 
 
-def test_an_editor_that_is_served_holds_up_no_answer_to_another(handshakes: tuple[Handshakes, tuple[str, int]]) -> None:
+def test_an_editor_that_is_served_holds_up_no_answer_to_another(
+    monkeypatch: pytest.MonkeyPatch, handshakes: tuple[Handshakes, tuple[str, int]]
+) -> None:
     opened, address = handshakes
-    with (
-        patch.object(handshaking, "IN_TIME", 600),
-        socket.create_connection(address) as first,
-        socket.create_connection(address) as second,
-    ):
+    monkeypatch.setattr(handshaking, "IN_TIME", 600)
+    with socket.create_connection(address) as first, socket.create_connection(address) as second:
         first.sendall(framed(asked(1, "launch", token=TOKEN)))
         served = opened.next()
         client = Client(second.makefile("rb"), second.makefile("wb"))
@@ -219,11 +228,14 @@ def test_an_editor_that_is_served_holds_up_no_answer_to_another(handshakes: tupl
         served.close()
 
 
-def test_many_requests_before_the_token_are_not_read(handshakes: tuple[Handshakes, tuple[str, int]]) -> None:
+def test_many_requests_before_the_token_are_not_read(
+    monkeypatch: pytest.MonkeyPatch, handshakes: tuple[Handshakes, tuple[str, int]]
+) -> None:
     _, address = handshakes
     empty: list[dict[str, Any]] = [{}] * 4_000
     for flood in (framed(*[asked(number, "cancel") for number in range(2_000)]), framed(*empty)):
-        with patch.object(handshaking, "IN_TIME", 600), socket.create_connection(address) as stranger:
+        with socket.create_connection(address) as stranger, monkeypatch.context() as patch:
+            patch.setattr(handshaking, "IN_TIME", 600)
             assert len(flood) > handshaking.MOST_BYTES
             with suppress(ConnectionError):
                 stranger.sendall(flood)

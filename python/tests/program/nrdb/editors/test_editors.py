@@ -1,7 +1,6 @@
 """examples/editors: the messages between an editor and the adapter, one by one."""
 
 import json
-import unittest
 from typing import Any
 
 from tests.program.nrdb.common.dap_client import Adapter
@@ -25,18 +24,15 @@ def as_told(message: dict[str, Any]) -> Any:
     return json.loads(json.dumps(kept).replace(json.dumps(str(EXAMPLES / RECORDING)), json.dumps(RECORDING)))
 
 
-class Conversation(unittest.TestCase):
-    """The search for the lost wake-up."""
-
-    def test_it_is_said_so(self):
-        told = conversation()
-        self.assertGreater(len(told), 20)
-        with Adapter() as editor:
-            for number, (who, message) in enumerate(told, 1):
-                if who == SAYS:
-                    self.assertEqual(as_told(editor.message() or {}), message)
-                    continue
-                arguments = dict(message.get("arguments", {}))
-                if message["command"] == "launch":
-                    arguments["program"] = str(EXAMPLES / RECORDING)
-                editor.send({"seq": number, "type": "request", "command": message["command"], "arguments": arguments})
+def test_it_is_said_so():
+    result = conversation()
+    assert len(result) > 20
+    with Adapter() as editor:
+        for number, (who, message) in enumerate(result, 1):
+            if who == SAYS:
+                assert as_told(editor.message() or {}) == message
+                continue
+            arguments = dict(message.get("arguments", {}))
+            if message["command"] == "launch":
+                arguments["program"] = str(EXAMPLES / RECORDING)
+            editor.send({"seq": number, "type": "request", "command": message["command"], "arguments": arguments})

@@ -5,9 +5,9 @@ import json
 import os
 import shutil
 import subprocess
-import tempfile
-import unittest
 from pathlib import Path
+
+import pytest
 
 from netrev.recording.recording import Recording
 from netrev.session.line_index import places_of
@@ -79,49 +79,51 @@ GO_LINE = """
 (dap-disconnect (dap--cur-session))
 """
 
+pytestmark = [
+    pytest.mark.skipif(not shutil.which("emacs"), reason="emacs isn't on this machine (Debian: emacs-nox)"),
+    pytest.mark.skipif(
+        not any(path.name.startswith("dap-mode") for path in FOLDERS), reason="dap-mode isn't here (elpa-dap-mode)"
+    ),
+]
 
-@unittest.skipUnless(shutil.which("emacs"), "emacs isn't on this machine (Debian: emacs-nox)")
-@unittest.skipUnless(any(path.name.startswith("dap-mode") for path in FOLDERS), "dap-mode isn't here (elpa-dap-mode)")
-class Emacs(unittest.TestCase):
-    def told(self, script: str, home: Path, recording: Path, **more: str) -> list[str]:
-        """Emacs's output while it runs a script."""
-        folders = " ".join(json.dumps(str(path)) for path in FOLDERS if path.is_dir())
-        named = {
-            "breakpoints": str(home / "breakpoints"),
-            "ours": str(ROOT / "editors/emacs/netrev-dap.el"),
-            "nrdb": NRDB,
-            "recording": str(recording),
-        }
-        words = {name: json.dumps(text) for name, text in (named | more).items()}
-        played = home / "played.el"
-        played.write_text((BEGINNING + script).format(folders=f"({folders})", **words))
-        ended = subprocess.run(
-            ["emacs", "-Q", "--batch", "-l", str(played)],
-            env=os.environ | {"HOME": str(home), "NETREV": NETREV},
-            capture_output=True,
-            text=True,
-            timeout=PATIENCE,
-            check=False,
-        )
-        self.assertEqual(ended.returncode, 0, ended.stderr[:1500])
-        return [line for line in ended.stdout.splitlines() if line]
 
-    def test_a_hunt(self):
-        """Finds the lost wake-up."""
-        with tempfile.TemporaryDirectory() as home:
-            told = self.told(HUNT, Path(home), EXAMPLES / "lost-wakeup.jsonl")
-        wanted = ["end 23", "reverse-continue 22", "reverse-continue 20", "step-back 19", "step-in 20"]
-        self.assertEqual(told, wanted)
+def output_of(script: str, home: Path, recording: Path, **more: str) -> list[str]:
+    """Emacs's output while it runs a script."""
+    folders = " ".join(json.dumps(str(path)) for path in FOLDERS if path.is_dir())
+    named = {
+        "breakpoints": str(home / "breakpoints"),
+        "ours": str(ROOT / "editors/emacs/netrev-dap.el"),
+        "nrdb": NRDB,
+        "recording": str(recording),
+    }
+    words = {name: json.dumps(text) for name, text in (named | more).items()}
+    played = home / "played.el"
+    played.write_text((BEGINNING + script).format(folders=f"({folders})", **words))
+    ended = subprocess.run(
+        ["emacs", "-Q", "--batch", "-l", str(played)],
+        env=os.environ | {"HOME": str(home), "NETREV": NETREV},
+        capture_output=True,
+        text=True,
+        timeout=PATIENCE,
+        check=False,
+    )
+    assert ended.returncode == 0, ended.stderr[:1500]
+    return [line for line in ended.stdout.splitlines() if line]
 
-    def test_a_breakpoint_at_a_line_of_go_stops_both_ways(self):
-        place = places_of(Recording.read(str(CAUSED))).place("main.go:46")
-        assert place
-        with tempfile.TemporaryDirectory() as home:
-            for path in (CAUSED, CAUSED.with_suffix(".where"), SOURCE):
-                shutil.copy(path, home)
-            told = self.told(GO_LINE, Path(home), Path(home, CAUSED.name), source=str(Path(home, SOURCE.name)))
-        *_, before, last = place.positions
-        came = [("reverse-continue", last), ("reverse-continue", before), ("continue", last)]
-        self.assertEqual(
-            [line.rpartition(" of ")[0] for line in told], [f"{way} main.go 46, at {at}" for way, at in came]
-        )
+
+def test_a_hunt(folder):
+    """Finds the lost wake-up."""
+    output = output_of(HUNT, folder, EXAMPLES / "lost-wakeup.jsonl")
+    wanted = ["end 23", "reverse-continue 22", "reverse-continue 20", "step-back 19", "step-in 20"]
+    assert output == wanted
+
+
+def test_a_breakpoint_at_a_line_of_go_stops_both_ways(folder):
+    place = places_of(Recording.read(str(CAUSED))).place("main.go:46")
+    assert place
+    for path in (CAUSED, CAUSED.with_suffix(".where"), SOURCE):
+        shutil.copy(path, folder)
+    output = output_of(GO_LINE, folder, folder / CAUSED.name, source=str(folder / SOURCE.name))
+    *_, before, last = place.positions
+    result = [("reverse-continue", last), ("reverse-continue", before), ("continue", last)]
+    assert [line.rpartition(" of ")[0] for line in output] == [f"{way} main.go 46, at {at}" for way, at in result]

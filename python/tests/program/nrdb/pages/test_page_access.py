@@ -6,12 +6,16 @@ import tempfile
 from pathlib import Path
 from typing import Any, Iterator
 
-from tests.program.nrdb.common.devtools import InChromium, Page
+import pytest
+
+from tests.program.nrdb.common.devtools import Chromium, Page
 from tests.program.nrdb.common.support import EXAMPLES
 from tests.program.nrdb.common.web_support import Web
 
 from .test_calls_page import opened
 from .test_timeline_page import page_of
+
+pytestmark = pytest.mark.together
 
 TEXT, LARGE, EDGE = (
     4.5,
@@ -87,102 +91,106 @@ def parsed(colour: str) -> list[float]:
     return [int(colour[at : at + 2], 16) for at in (1, 3, 5)]
 
 
-class Access(InChromium):
-    pages: dict[str, str]
+def shown(chromium: Chromium, address: str) -> Iterator[tuple[str, Page]]:
+    """The page in light and in dark colours."""
+    for scheme in ("light", "dark"):
+        page = chromium.page("about:blank")
+        page.does("Emulation.setEmulatedMedia", features=[{"name": "prefers-color-scheme", "value": scheme}])
+        page.does("Page.navigate", url=address)
+        page.until("document.getElementById('panel')?.innerText.includes('position')")
+        yield scheme, page
+        assert page.wrongs() == []
 
-    @classmethod
-    def setUpClass(cls) -> None:
-        super().setUpClass()
-        cls.pages = {name: page_of(EXAMPLES / path) for name, path in PLACES.items()}
 
-    def shown(self, address: str) -> Iterator[tuple[str, Page]]:
-        """The page in light and in dark colours."""
-        for scheme in ("light", "dark"):
-            page = self.chromium.page("about:blank")
-            page.does("Emulation.setEmulatedMedia", features=[{"name": "prefers-color-scheme", "value": scheme}])
-            page.does("Page.navigate", url=address)
-            page.until("document.getElementById('panel')?.innerText.includes('position')")
-            yield scheme, page
-            self.assertEqual(page.wrongs(), [])
+def timelines(chromium: Chromium, pages: dict[str, str]) -> Iterator[tuple[str, Page]]:
+    with tempfile.TemporaryDirectory() as folder:
+        for name, text in pages.items():
+            file = Path(folder) / f"{name}.html"
+            names = "ink, shadeOf, textOn"
+            file.write_text(
+                opened(text).replace("window.inside = {", f"window.inside = {{ {names},", 1), encoding="utf-8"
+            )
+            yield from ((f"{name}, {scheme}", page) for scheme, page in shown(chromium, f"file://{file}"))
 
-    def timelines(self) -> Iterator[tuple[str, Page]]:
-        with tempfile.TemporaryDirectory() as folder:
-            for name, text in self.pages.items():
-                file = Path(folder) / f"{name}.html"
-                names = "ink, shadeOf, textOn"
-                file.write_text(
-                    opened(text).replace("window.inside = {", f"window.inside = {{ {names},", 1), encoding="utf-8"
+
+def expect_texts(name: str, page: Page) -> None:
+    texts: list[Any] = page.value(TEXTS)
+    assert len(texts) > 25
+    for words, colour, ground, size, weight in texts:
+        least = LARGE if size >= 24 or (size >= 18.5 and weight >= 700) else TEXT
+        assert round(contrast(colour, ground), 2) >= least, (name, words, colour, ground)
+
+
+def expect_keyboard(name: str, page: Page, least: int) -> None:
+    """Checks that Tab goes to each control in turn, and that each shows its focus."""
+    assert page.value(NAMELESS) == [], name
+    ground, seen = page.value("getComputedStyle(document.body).backgroundColor"), []
+    page.value("document.getElementById('find').focus()")
+    for turn in range(60):
+        for sort in ("rawKeyDown", "keyUp") if turn else ():
+            page.does("Input.dispatchKeyEvent", type=sort, key="Tab", code="Tab", windowsVirtualKeyCode=9)
+        if (focused := page.value(FOCUSED)) is None or focused["is"] in seen:
+            break
+        seen.append(focused["is"])
+        assert focused["seen"] and focused["style"] != "none" and focused["wide"] >= 2, (name, focused)
+        parts = [
+            [float(item) for item in text[text.index("(") + 1 : -1].split(",")] for text in (focused["colour"], ground)
+        ]
+        assert contrast(*parts) >= EDGE, (name, focused)
+    assert len(seen) >= least, (name, seen)
+
+
+@pytest.fixture(scope="module")
+def pages() -> dict[str, str]:
+    return {name: page_of(EXAMPLES / path) for name, path in PLACES.items()}
+
+
+def test_texts_of_the_timeline_stand_out(chromium: Chromium, pages: dict[str, str]) -> None:
+    for name, page in timelines(chromium, pages):
+        expect_texts(name, page)
+        page.value("document.getElementById('about').click()")
+        expect_texts(f"{name}, help", page)
+
+
+def test_texts_of_the_picture_stand_out(chromium: Chromium, pages: dict[str, str]) -> None:
+    for name, page in timelines(chromium, pages):
+        pairs = page.value(INKS)
+        assert len(pairs) > 30
+        for what, colour, ground in pairs:
+            assert round(contrast(parsed(colour), parsed(ground)), 2) >= TEXT, (name, what)
+
+
+def test_controls_of_the_timeline_have_names_and_show_the_keyboard(chromium: Chromium, pages: dict[str, str]) -> None:
+    for name, page in timelines(chromium, pages):
+        expect_keyboard(name, page, 14)
+
+
+def test_the_page_of_a_session(chromium: Chromium) -> None:
+    with Web(EXAMPLES / "real/hijacked.jsonl") as web:
+        for name, page in shown(chromium, str(web.address)):
+            page.value("document.getElementById('line').focus()")
+            page.types("info suspects")
+            page.until("document.getElementById('log').innerText.includes('next:')")
+            expect_texts(f"session, {name}", page)
+            for wide in (1280, 400):
+                page.does(
+                    "Emulation.setDeviceMetricsOverride", width=wide, height=800, deviceScaleFactor=1, mobile=False
                 )
-                yield from ((f"{name}, {scheme}", page) for scheme, page in self.shown(f"file://{file}"))
+                hidden = page.value(
+                    "(() => { const bar = document.getElementById('moves'); return bar.scrollWidth - bar.clientWidth })()"
+                )
+                assert hidden == 0, (name, wide)
+            page.does("Emulation.clearDeviceMetricsOverride")
+            expect_keyboard(f"session, {name}", page, 14)
 
-    def expect_texts(self, name: str, page: Page) -> None:
-        texts: list[Any] = page.value(TEXTS)
-        self.assertGreater(len(texts), 25)
-        for words, colour, ground, size, weight in texts:
-            least = LARGE if size >= 24 or (size >= 18.5 and weight >= 700) else TEXT
-            self.assertGreaterEqual(round(contrast(colour, ground), 2), least, (name, words, colour, ground))
 
-    def expect_keyboard(self, name: str, page: Page, least: int) -> None:
-        """Checks that Tab goes to each control in turn, and that each shows its focus."""
-        self.assertEqual(page.value(NAMELESS), [], name)
-        ground, seen = page.value("getComputedStyle(document.body).backgroundColor"), []
-        page.value("document.getElementById('find').focus()")
-        for turn in range(60):
-            for sort in ("rawKeyDown", "keyUp") if turn else ():
-                page.does("Input.dispatchKeyEvent", type=sort, key="Tab", code="Tab", windowsVirtualKeyCode=9)
-            if (focused := page.value(FOCUSED)) is None or focused["is"] in seen:
-                break
-            seen.append(focused["is"])
-            self.assertTrue(focused["seen"] and focused["style"] != "none" and focused["wide"] >= 2, (name, focused))
-            parts = [
-                [float(one) for one in text[text.index("(") + 1 : -1].split(",")]
-                for text in (focused["colour"], ground)
-            ]
-            self.assertGreaterEqual(contrast(*parts), EDGE, (name, focused))
-        self.assertGreaterEqual(len(seen), least, (name, seen))
-
-    def test_texts_of_the_timeline_stand_out(self) -> None:
-        for name, page in self.timelines():
-            self.expect_texts(name, page)
-            page.value("document.getElementById('about').click()")
-            self.expect_texts(f"{name}, help", page)
-
-    def test_texts_of_the_picture_stand_out(self) -> None:
-        for name, page in self.timelines():
-            pairs = page.value(INKS)
-            self.assertGreater(len(pairs), 30)
-            for what, colour, ground in pairs:
-                self.assertGreaterEqual(round(contrast(parsed(colour), parsed(ground)), 2), TEXT, (name, what))
-
-    def test_controls_of_the_timeline_have_names_and_show_the_keyboard(self) -> None:
-        for name, page in self.timelines():
-            self.expect_keyboard(name, page, 14)
-
-    def test_the_page_of_a_session(self) -> None:
-        with Web(EXAMPLES / "real/hijacked.jsonl") as web:
-            for name, page in self.shown(str(web.address)):
-                page.value("document.getElementById('line').focus()")
-                page.types("info suspects")
-                page.until("document.getElementById('log').innerText.includes('next:')")
-                self.expect_texts(f"session, {name}", page)
-                for wide in (1280, 400):
-                    page.does(
-                        "Emulation.setDeviceMetricsOverride", width=wide, height=800, deviceScaleFactor=1, mobile=False
-                    )
-                    hidden = page.value(
-                        "(() => { const bar = document.getElementById('moves'); return bar.scrollWidth - bar.clientWidth })()"
-                    )
-                    self.assertEqual(hidden, 0, (name, wide))
-                page.does("Emulation.clearDeviceMetricsOverride")
-                self.expect_keyboard(f"session, {name}", page, 14)
-
-    def test_a_contrast_that_is_too_low_is_found(self) -> None:
-        self.assertAlmostEqual(contrast([0, 0, 0], [255, 255, 255]), 21)
-        self.assertAlmostEqual(contrast([119, 119, 119], [255, 255, 255]), 4.48, 2)
-        name, page = next(self.timelines())
-        page.value("document.querySelector('#suspects button').style.color = '#999999'")
-        with self.assertRaises(AssertionError):
-            self.expect_texts(name, page)
-        page.value("document.getElementById('axis').style.outline = 'none'")
-        with self.assertRaises(AssertionError):
-            self.expect_keyboard(name, page, 14)
+def test_a_contrast_that_is_too_low_is_found(chromium: Chromium, pages: dict[str, str]) -> None:
+    assert contrast([0, 0, 0], [255, 255, 255]) == pytest.approx(21, abs=5e-8)
+    assert contrast([119, 119, 119], [255, 255, 255]) == pytest.approx(4.48, abs=5e-3)
+    name, page = next(timelines(chromium, pages))
+    page.value("document.querySelector('#suspects button').style.color = '#999999'")
+    with pytest.raises(AssertionError):
+        expect_texts(name, page)
+    page.value("document.getElementById('axis').style.outline = 'none'")
+    with pytest.raises(AssertionError):
+        expect_keyboard(name, page, 14)

@@ -4,9 +4,9 @@ descriptor that is reused many times has only one row. Skipped without chromium 
 import subprocess
 from pathlib import Path
 from typing import Any
-from unittest import mock
 
 import pytest
+
 from netrev.timeline import picture
 from tests.program.nrdb.common.browser import CHROMIUM, used
 from tests.program.support.sharing import ROOT
@@ -45,7 +45,9 @@ def mix(tmp_path_factory: pytest.TempPathFactory) -> Path:
 
 def seen(path: Path, *words: str, place: str = "") -> dict[str, Any]:
     """The contents of the page when it opens, for a recording that is too long for one page."""
-    with mock.patch.object(picture, "MOST", PART), mock.patch.object(picture, "AT_ONCE", PART):
+    with pytest.MonkeyPatch.context() as patch:
+        patch.setattr(picture, "MOST", PART)
+        patch.setattr(picture, "AT_ONCE", PART)
         page = page_of(path, *words)
     end = "})(JSON.parse("
     assert page.count(end) == 1

@@ -2,9 +2,7 @@
 
 import json
 import subprocess
-import tempfile
 import threading
-import unittest
 from typing import Any
 
 from netrev.messages.session import NO_REPLY_YET
@@ -37,12 +35,12 @@ class Joined:
         """The events that are still unread, followed by the events that these lines cause."""
         self.lines.write("".join(f"{line}\n" for line in (*lines, "help clock")))
         self.lines.flush()
-        told: list[dict[str, Any]] = []
+        result: list[dict[str, Any]] = []
         while True:
             event = json.loads(self.events.readline())
             if event == {"event": "note", "text": DONE}:
-                return told
-            told.append(event)
+                return result
+            result.append(event)
 
     def ends(self):
         """Ends the input, and returns the output and the exit status."""
@@ -81,75 +79,79 @@ def serving(fronts=1, left=1):
     return server
 
 
-class Join(unittest.TestCase):
-    def test_a_session_is_shared(self):
-        with serving(fronts=2) as server:
-            other = Other(server.call(1))
-            with Joined(server.port, FIRST) as person:
-                self.assertEqual(replies(person.ask("stepi 6")), ["at 6"])
-                self.assertEqual(other.ask("info position"), "at 6 of 10 forward")
-                self.assertEqual(other.ask("watch lock 0"), "mark 1")
-                self.assertEqual(other.ask("stepi 3"), "at 9")
-                told = person.ask("print lock 0")
-                self.assertEqual(told[0], {"event": "note", "text": "someone else has moved: from 6 to 9"})
-                self.assertEqual(told[1]["position"], 9)
-                self.assertEqual(replies(told), ["lock 0 = 9"])
-                self.assertEqual([event["event"] for event in person.ask("print lock 0")], ["reply"])
-                changes = [event["rows"] for event in person.ask("history lock 0") if event["event"] == "table"]
-                self.assertEqual([row["step"] for row in changes[0]], [3, 4, 5, 6, 7, 8, 9])
-                self.assertEqual(other.ask("info position"), "at 9 of 10 forward")
-                self.assertEqual(replies(person.ask("reverse-until lock 0 18")), ["at 5", "lock 0 = 18"])
-                self.assertEqual(other.ask("info position"), "at 5 of 10 forward")
-                self.assertEqual(person.ends(), ([{"event": "end", "status": 0}], 0))
+def test_a_session_is_shared():
+    with serving(fronts=2) as server:
+        other = Other(server.call(1))
+        with Joined(server.port, FIRST) as person:
+            assert replies(person.ask("stepi 6")) == ["at 6"]
+            assert other.ask("info position") == "at 6 of 10 forward"
+            assert other.ask("watch lock 0") == "mark 1"
+            assert other.ask("stepi 3") == "at 9"
+            result = person.ask("print lock 0")
+            assert result[0] == {"event": "note", "text": "someone else has moved: from 6 to 9"}
+            assert result[1]["position"] == 9
+            assert replies(result) == ["lock 0 = 9"]
+            assert [event["event"] for event in person.ask("print lock 0")] == ["reply"]
+            changes = [event["rows"] for event in person.ask("history lock 0") if event["event"] == "table"]
+            assert [row["step"] for row in changes[0]] == [3, 4, 5, 6, 7, 8, 9]
+            assert other.ask("info position") == "at 9 of 10 forward"
+            assert replies(person.ask("reverse-until lock 0 18")) == ["at 5", "lock 0 = 18"]
+            assert other.ask("info position") == "at 5 of 10 forward"
+            assert person.ends() == ([{"event": "end", "status": 0}], 0)
+        other.leaves()
+        server.expect_end(0, "placed 4\n")
+
+
+def test_without_the_recording_replies_are_all():
+    with serving() as server:
+        with Joined(server.port) as person:
+            result = person.ask("stepi 6", "history lock 0", "info goroutines", "where")
+            assert replies(result) == ["at 6"]
+            notes = [event["text"] for event in result if event["event"] == "note"]
+            assert notes[:2] == ["this needs the recording: name its file after --join HOST:PORT"] * 2
+            assert notes[2] == "at 6 of 10 forward"
+            assert person.ends()[1] == 0
+        server.expect_end(0, "placed 1\n")
+
+
+def test_another_recording_than_the_session_has():
+    with serving() as server:
+        other = EXAMPLES / "lost-wakeup.jsonl"
+        output = nrdb("--batch", "--join", f"127.0.0.1:{server.port}", other, status=3)
+        assert output == "| the recording has 22 steps, but the session's has 10\n"
+
+
+def test_a_file_that_is_no_recording(folder):
+    """The file has as many lines as the session's recording, and netrev reports its fault."""
+    with serving() as server:
+        file = f"{folder}/x.jsonl"
+        with open(file, "w", encoding="ascii") as text:
+            text.write('{"netrev":1,"gor":2,"sock":1,"desc":1,"buf":1}\n' + '["pollclose",0,0]\n' * 10)
+        output = nrdb("--batch", "--join", f"127.0.0.1:{server.port}", file, "-ex", "info goroutines", status=3)
+        assert output == f"| {file} isn't a recording: step 1: fault 107 reason 5\n"
+
+
+def test_a_front_in_use_is_waited_for_aloud():
+    with serving(left=2) as server:
+        other = Other(server.call(0))
+        assert other.ask("stepi 4") == "at 4"
+        words = [NRDB, "--batch", "--join", f"127.0.0.1:{server.port}", "-ex", "print lock 0", str(FIRST)]
+        with subprocess.Popen(words, stdout=subprocess.PIPE, text=True) as waiting:
+            assert waiting.stdout
+            too_long = threading.Timer(PATIENCE, waiting.kill)
+            too_long.start()
+            assert waiting.stdout.readline() == f"| {NO_REPLY_YET}\n"
+            too_long.cancel()
             other.leaves()
-            server.expect_end(0, "placed 4\n")
+            text, _ = waiting.communicate(timeout=PATIENCE)
+        assert text.splitlines()[0] == "at 4 of 10 forward"
+        assert "lock 0 = 8   | 1 reference\n" in text
+        assert waiting.returncode == 0
 
-    def test_without_the_recording_replies_are_all(self):
-        with serving() as server:
-            with Joined(server.port) as person:
-                told = person.ask("stepi 6", "history lock 0", "info goroutines", "where")
-                self.assertEqual(replies(told), ["at 6"])
-                notes = [event["text"] for event in told if event["event"] == "note"]
-                self.assertEqual(notes[:2], ["this needs the recording: name its file after --join HOST:PORT"] * 2)
-                self.assertEqual(notes[2], "at 6 of 10 forward")
-                self.assertEqual(person.ends()[1], 0)
-            server.expect_end(0, "placed 1\n")
 
-    def test_another_recording_than_the_session_has(self):
-        with serving() as server:
-            other = EXAMPLES / "lost-wakeup.jsonl"
-            said = nrdb("--batch", "--join", f"127.0.0.1:{server.port}", other, status=3)
-            self.assertEqual(said, "| the recording has 22 steps, but the session's has 10\n")
-
-    def test_a_file_that_is_no_recording(self):
-        """The file has as many lines as the session's recording, and netrev reports its fault."""
-        with tempfile.TemporaryDirectory() as folder, serving() as server:
-            file = f"{folder}/x.jsonl"
-            with open(file, "w", encoding="ascii") as text:
-                text.write('{"netrev":1,"gor":2,"sock":1,"desc":1,"buf":1}\n' + '["pollclose",0,0]\n' * 10)
-            said = nrdb("--batch", "--join", f"127.0.0.1:{server.port}", file, "-ex", "info goroutines", status=3)
-            self.assertEqual(said, f"| {file} isn't a recording: step 1: fault 107 reason 5\n")
-
-    def test_a_front_in_use_is_waited_for_aloud(self):
-        with serving(left=2) as server:
-            other = Other(server.call(0))
-            self.assertEqual(other.ask("stepi 4"), "at 4")
-            words = [NRDB, "--batch", "--join", f"127.0.0.1:{server.port}", "-ex", "print lock 0", str(FIRST)]
-            with subprocess.Popen(words, stdout=subprocess.PIPE, text=True) as waiting:
-                assert waiting.stdout
-                too_long = threading.Timer(PATIENCE, waiting.kill)
-                too_long.start()
-                self.assertEqual(waiting.stdout.readline(), f"| {NO_REPLY_YET}\n")
-                too_long.cancel()
-                other.leaves()
-                said, _ = waiting.communicate(timeout=PATIENCE)
-            self.assertEqual(said.splitlines()[0], "at 4 of 10 forward")
-            self.assertIn("lock 0 = 8   | 1 reference\n", said)
-            self.assertEqual(waiting.returncode, 0)
-
-    def test_nobody_serves(self):
-        with serving() as server:
-            server.call(0).close()
-            server.ended()
-        said = nrdb("--join", f"127.0.0.1:{server.port}", status=3)
-        self.assertEqual(said, f"| 127.0.0.1:{server.port}: Connection refused\n")
+def test_nobody_serves():
+    with serving() as server:
+        server.call(0).close()
+        server.ended()
+    output = nrdb("--join", f"127.0.0.1:{server.port}", status=3)
+    assert output == f"| 127.0.0.1:{server.port}: Connection refused\n"

@@ -8,11 +8,11 @@ import signal
 import struct
 import termios
 import time
-import unittest
 from pathlib import Path
 
+import pytest
+
 from tests.program.nrdb.common.support import EXAMPLES, NETREV, NRDB, PATIENCE, ROOT
-from tests.support.folders import folder_of
 
 PROMPT = "(netrev) "
 INTERRUPT = "\x03"
@@ -63,10 +63,10 @@ class Typist:
             if left < 0 or not select.select([self.terminal], [], [], left)[0]:
                 return False
             try:
-                came = os.read(self.terminal, 65536).decode()
+                result = os.read(self.terminal, 65536).decode()
             except OSError:  # nrdb has ended
                 return False
-            self.screen = (self.screen + came).replace("\r\n", "\n")
+            self.screen = (self.screen + result).replace("\r\n", "\n")
         return True
 
     def until(self, *texts):
@@ -97,199 +97,213 @@ def pairs_of_locks(path, steps):
     path.write_text("\n".join(lines) + "\n")
 
 
-class Terminal(unittest.TestCase):
-    def setUp(self):
-        folder = folder_of(self)
-        self.home = str(folder)
+@pytest.fixture
+def home(folder: Path) -> str:
+    return str(folder)
 
-    def typist(self, recording=EXAMPLES / "first.jsonl"):
-        return Typist(recording, self.home)
 
-    def test_an_empty_line_repeats_the_last_step(self):
-        with self.typist() as person:
-            self.assertTrue(person.ask("stepi 2").startswith("at 2\n"))
-            self.assertTrue(person.ask("").startswith("at 4\n"))
-            self.assertTrue(person.ask("").startswith("at 6\n"))
-            self.assertTrue(person.ask("rsi").startswith("at 5\n"))
-            self.assertTrue(person.ask("").startswith("at 4\n"))
-            self.assertTrue(person.ask("print lock 0").startswith("lock 0 = 8 "))
-            self.assertEqual(person.ask(""), "")
-            person.type("quit\r")
-            person.until("bye\n")
-            self.assertEqual(person.ends(), 0)
+def typist(home: str, recording: Path = EXAMPLES / "first.jsonl") -> Typist:
+    return Typist(recording, home)
 
-    def test_tab_completes_commands_kinds_cells_and_numbers(self):
-        with self.typist() as person:
-            for typed, whole in (
-                ("dis\t", "display "),
-                ("break rwu\t", "break rwunlock "),
-                ("watch wai\t", "watch waiters "),
-                ("info gor\t", "info goroutines "),
-                ("steps rwu\t", "steps rwunlock "),
-                ("calls so\t", "calls sock "),
-                ("set \tre\t", "set exec-direction reverse "),
-            ):
-                person.type(typed)
-                self.assertTrue(person.until(whole).endswith(whole))
-                person.type("\r")
-                person.until(PROMPT)
-            person.ask("set exec-direction forward")
-            person.ask("stepi 3")
-            person.type("print loc\t\t")
-            person.until("print lock 0 ")
-            person.type("\r")
-            self.assertIn("lock 0 = 0   | 0 references\n", person.until(PROMPT))
 
-    def test_the_first_line_says_what_to_type(self):
-        with self.typist() as person:
-            self.assertIn("| what went wrong: info suspects; what hangs: ", person.greeting)
+def test_an_empty_line_repeats_the_last_step(home):
+    with typist(home) as person:
+        assert person.ask("stepi 2").startswith("at 2\n")
+        assert person.ask("").startswith("at 4\n")
+        assert person.ask("").startswith("at 6\n")
+        assert person.ask("rsi").startswith("at 5\n")
+        assert person.ask("").startswith("at 4\n")
+        assert person.ask("print lock 0").startswith("lock 0 = 8 ")
+        assert person.ask("") == ""
+        person.type("quit\r")
+        person.until("bye\n")
+        assert person.ends() == 0
 
-    def test_a_session_opens_with_what_failed_or_hangs_in_the_whole_run(self):
-        hung, caused = EXAMPLES / "real" / "hung.jsonl", ROOT / "python" / "tests" / "caused"
-        failed, deadlock = EXAMPLES / "real" / "hijacked.jsonl", caused / "both-bad.jsonl"
-        for recording, said in (
-            (hung, "2 goroutines wait at the end, at main.go:13 in count; at main.go:42 in ask: info hangs"),
-            (
-                deadlock,
-                "cause:  Deadlock: two calls wait for one another.\n|         Write at main.go:223 in both.func1",
-            ),
-            (failed, "cause:  Write at main.go:39 in echo (goroutine 2) ended with a timeout.\n|         Its deadline"),
+
+def test_tab_completes_commands_kinds_cells_and_numbers(home):
+    with typist(home) as person:
+        for typed, whole in (
+            ("dis\t", "display "),
+            ("break rwu\t", "break rwunlock "),
+            ("watch wai\t", "watch waiters "),
+            ("info gor\t", "info goroutines "),
+            ("steps rwu\t", "steps rwunlock "),
+            ("calls so\t", "calls sock "),
+            ("set \tre\t", "set exec-direction reverse "),
         ):
-            with self.subTest(said), Typist(recording, self.home, TERM="dumb") as person:
-                self.assertIn(f"| {said}", person.greeting)
-                self.assertLess(person.greeting.index(said), person.greeting.index("what went wrong:"))
-
-    def test_lines_of_a_mark_have_a_prompt_of_their_own(self):
-        with self.typist() as person:
-            person.ask("watch lock 0")
-            person.type("commands\r")
-            person.until("\n> ")
-            person.type("print lock 0\r")
-            person.until("\n> ")
-            person.type("end\r")
-            person.until(PROMPT)
-            person.type("continue\r")
-            person.until("| mark 1: lock 0: absent -> 0")
-            person.until("(netrev) print lock 0\nlock 0 = 0 ")
-
-    def test_what_is_added_has_a_colour_unless_nobody_wants_any(self):
-        colour, example = "\x1b[36m| ", EXAMPLES / "first.jsonl"
-        with Typist(example, self.home, TERM="xterm", NO_COLOR="") as person:
-            self.assertIn("at 0 of 10 forward\n" + colour, person.greeting)
-        with Typist(example, self.home, TERM="xterm", NO_COLOR="1") as person:
-            self.assertNotIn(colour, person.greeting)
-
-    def test_lines_are_kept_for_the_next_session(self):
-        with self.typist() as person:
-            person.ask("print clock")
-            person.ask("print waiters")
-            person.type(END)
-            self.assertEqual(person.ends(), 0)
-        self.assertEqual(
-            (Path(self.home) / ".netrev_history").read_text().split("\n")[-3:-1], ["print clock", "print waiters"]
-        )
-        with self.typist() as person:
-            person.type(UP)
-            person.until("print waiters")
-            person.type(UP + "\r")
-            self.assertIn("clock = 0\n", person.until(PROMPT))
-
-    def test_ctrl_c_at_the_prompt_drops_the_line(self):
-        with self.typist() as person:
-            person.type("stepi 3")
-            person.until("stepi 3")
-            person.interrupt("^C\n" + PROMPT)
-            person.type("info position\r")
-            self.assertNotIn("\nat 3", person.until("at 0 of 10 forward\n"))
-
-    def test_a_second_ctrl_c_gives_up_a_netrev_that_does_not_answer(self):
-        silent = Path(self.home) / "silent"
-        silent.write_text("#!/bin/sh\nread line\necho at 0 of 10 forward\nexec sleep 1000\n")
-        silent.chmod(0o755)
-        with Typist(EXAMPLES / "first.jsonl", self.home, silent) as person:
-            given_up = "| netrev doesn't answer: nrdb ends the session\n"
-            for _ in range(PATIENCE):  # a Ctrl-C that comes before the line is sent drops the line
-                person.type("stepi\r")
-                for _ in range(2):
-                    time.sleep(0.2)
-                    person.type(INTERRUPT)
-                if person.reads_until([given_up], 1):
-                    break
-            person.until(given_up)
-            self.assertEqual(person.ends(), 3)
-
-    def slow(self):
-        """A netrev that starts slowly, and the file that it creates at its start."""
-        program, begun = Path(self.home) / "slow", Path(self.home) / "begun"
-        program.write_text(
-            f'#!/bin/sh\n[ "$1" = run ] && [ ! -e {begun} ] && touch {begun} && sleep 3\nexec {NETREV} "$@"\n'
-        )
-        program.chmod(0o755)
-        return program, begun
-
-    def loading(self):
-        """A user of a recording that is still being read."""
-        program, begun = self.slow()
-        begun.unlink(missing_ok=True)
-        person = Typist(EXAMPLES / "first.jsonl", self.home, program)
-        limit = time.monotonic() + PATIENCE
-        while not begun.exists() and time.monotonic() < limit:
-            time.sleep(0.05)
-        time.sleep(0.5)
-        person.type(INTERRUPT)
-        person.until("| netrev is still reading the recording; press Ctrl-C again to end nrdb\n")
-        return person
-
-    def test_one_ctrl_c_while_a_recording_is_read_ends_nothing(self):
-        with self.loading() as person:
-            self.assertIn("at 0 of 10 forward\n", person.ask("info position"))
-            self.assertTrue(person.ask("stepi 2").startswith("at 2\n"))
-
-    def test_a_second_one_ends_it(self):
-        person = self.loading()
-        person.type(INTERRUPT)
-        person.until("| netrev doesn't answer: nrdb ends the session\n")
-        self.assertEqual(person.ends(), 3)
-        person.__exit__()
-
-    def test_long_lines_are_broken_between_words(self):
-        with Typist(EXAMPLES / "first.jsonl", self.home, COLUMNS="60") as person:
-            told = person.ask("help until").splitlines()
-            self.assertGreater(len(told), 2)
-            self.assertTrue(all(len(line) <= 60 for line in told), told)
-            self.assertTrue(all(line.startswith("|     ") for line in told[1:]), told)
-
-    def test_an_answer_waits_where_the_screen_is_full(self):
-        with Typist(EXAMPLES / "first.jsonl", self.home, TERM="xterm", NO_COLOR="1") as person:
-            fcntl.ioctl(person.terminal, termios.TIOCSWINSZ, struct.pack("HHHH", 20, 200, 0, 0))
-            more = "--return for more, q to leave out the rest, c to go on without stopping--"
-            person.type("help\r")
-            self.assertEqual(person.until(more).count("\n| "), 19)
+            person.type(typed)
+            assert person.until(whole).endswith(whole)
             person.type("\r")
-            person.until(more)
-            person.type("q\r")
             person.until(PROMPT)
-            self.assertTrue(person.ask("info position").endswith("at 0 of 10 forward\n"))
-            person.ask("set pagination off")
-            person.type("help\r")
-            self.assertNotIn(more, person.until("| cells: ", more))
+        person.ask("set exec-direction forward")
+        person.ask("stepi 3")
+        person.type("print loc\t\t")
+        person.until("print lock 0 ")
+        person.type("\r")
+        assert "lock 0 = 0   | 0 references\n" in person.until(PROMPT)
 
-    def test_ctrl_c_stops_a_walk_and_keeps_the_session(self):
-        recording = Path(self.home) / "long.jsonl"
-        pairs_of_locks(recording, 200_000)
-        with self.typist(recording) as person:
-            person.ask("watch lock 0")
-            person.ask("continue")
-            stopped = False
-            while not stopped:  # a Ctrl-C that comes before the walk has begun only drops the line
-                person.type("until lock 0 nonsense\r")
-                person.until("nonsense\n")
+
+def test_the_first_line_says_what_to_type(home):
+    with typist(home) as person:
+        assert "| what went wrong: info suspects; what hangs: " in person.greeting
+
+
+def test_a_session_opens_with_what_failed_or_hangs_in_the_whole_run(home):
+    hung, caused = EXAMPLES / "real" / "hung.jsonl", ROOT / "python" / "tests" / "caused"
+    failed, deadlock = EXAMPLES / "real" / "hijacked.jsonl", caused / "both-bad.jsonl"
+    for recording, text in (
+        (hung, "2 goroutines wait at the end, at main.go:13 in count; at main.go:42 in ask: info hangs"),
+        (
+            deadlock,
+            "cause:  Deadlock: two calls wait for one another.\n|         Write at main.go:223 in both.func1",
+        ),
+        (failed, "cause:  Write at main.go:39 in echo (goroutine 2) ended with a timeout.\n|         Its deadline"),
+    ):
+        with Typist(recording, home, TERM="dumb") as person:
+            assert f"| {text}" in person.greeting, text
+            assert person.greeting.index(text) < person.greeting.index("what went wrong:"), text
+
+
+def test_lines_of_a_mark_have_a_prompt_of_their_own(home):
+    with typist(home) as person:
+        person.ask("watch lock 0")
+        person.type("commands\r")
+        person.until("\n> ")
+        person.type("print lock 0\r")
+        person.until("\n> ")
+        person.type("end\r")
+        person.until(PROMPT)
+        person.type("continue\r")
+        person.until("| mark 1: lock 0: absent -> 0")
+        person.until("(netrev) print lock 0\nlock 0 = 0 ")
+
+
+def test_what_is_added_has_a_colour_unless_nobody_wants_any(home):
+    colour, example = "\x1b[36m| ", EXAMPLES / "first.jsonl"
+    with Typist(example, home, TERM="xterm", NO_COLOR="") as person:
+        assert "at 0 of 10 forward\n" + colour in person.greeting
+    with Typist(example, home, TERM="xterm", NO_COLOR="1") as person:
+        assert colour not in person.greeting
+
+
+def test_lines_are_kept_for_the_next_session(home):
+    with typist(home) as person:
+        person.ask("print clock")
+        person.ask("print waiters")
+        person.type(END)
+        assert person.ends() == 0
+    assert (Path(home) / ".netrev_history").read_text().split("\n")[-3:-1] == ["print clock", "print waiters"]
+    with typist(home) as person:
+        person.type(UP)
+        person.until("print waiters")
+        person.type(UP + "\r")
+        assert "clock = 0\n" in person.until(PROMPT)
+
+
+def test_ctrl_c_at_the_prompt_drops_the_line(home):
+    with typist(home) as person:
+        person.type("stepi 3")
+        person.until("stepi 3")
+        person.interrupt("^C\n" + PROMPT)
+        person.type("info position\r")
+        assert "\nat 3" not in person.until("at 0 of 10 forward\n")
+
+
+def test_a_second_ctrl_c_gives_up_a_netrev_that_does_not_answer(home):
+    silent = Path(home) / "silent"
+    silent.write_text("#!/bin/sh\nread line\necho at 0 of 10 forward\nexec sleep 1000\n")
+    silent.chmod(0o755)
+    with Typist(EXAMPLES / "first.jsonl", home, silent) as person:
+        given_up = "| netrev doesn't answer: nrdb ends the session\n"
+        for _ in range(PATIENCE):  # a Ctrl-C that comes before the line is sent drops the line
+            person.type("stepi\r")
+            for _ in range(2):
                 time.sleep(0.2)
                 person.type(INTERRUPT)
-                stopped = "interrupted" in person.until("interrupted; the session goes on\n", "^C\n" + PROMPT)
-            person.until(PROMPT)
-            self.assertIn("at 1 of 200001 forward\n", person.ask("info position"))
-            self.assertIn("at 2 by 1\n", person.ask("continue"))
-            person.type("quit\r")
-            person.until("bye\n")
-            self.assertEqual(person.ends(), 0)
+            if person.reads_until([given_up], 1):
+                break
+        person.until(given_up)
+        assert person.ends() == 3
+
+
+def slow(home):
+    """A netrev that starts slowly, and the file that it creates at its start."""
+    program, begun = Path(home) / "slow", Path(home) / "begun"
+    program.write_text(
+        f'#!/bin/sh\n[ "$1" = run ] && [ ! -e {begun} ] && touch {begun} && sleep 3\nexec {NETREV} "$@"\n'
+    )
+    program.chmod(0o755)
+    return program, begun
+
+
+def loading(home):
+    """A user of a recording that is still being read."""
+    program, begun = slow(home)
+    begun.unlink(missing_ok=True)
+    person = Typist(EXAMPLES / "first.jsonl", home, program)
+    limit = time.monotonic() + PATIENCE
+    while not begun.exists() and time.monotonic() < limit:
+        time.sleep(0.05)
+    time.sleep(0.5)
+    person.type(INTERRUPT)
+    person.until("| netrev is still reading the recording; press Ctrl-C again to end nrdb\n")
+    return person
+
+
+def test_one_ctrl_c_while_a_recording_is_read_ends_nothing(home):
+    with loading(home) as person:
+        assert "at 0 of 10 forward\n" in person.ask("info position")
+        assert person.ask("stepi 2").startswith("at 2\n")
+
+
+def test_a_second_one_ends_it(home):
+    person = loading(home)
+    person.type(INTERRUPT)
+    person.until("| netrev doesn't answer: nrdb ends the session\n")
+    assert person.ends() == 3
+    person.__exit__()
+
+
+def test_long_lines_are_broken_between_words(home):
+    with Typist(EXAMPLES / "first.jsonl", home, COLUMNS="60") as person:
+        result = person.ask("help until").splitlines()
+        assert len(result) > 2
+        assert all(len(line) <= 60 for line in result), result
+        assert all(line.startswith("|     ") for line in result[1:]), result
+
+
+def test_an_answer_waits_where_the_screen_is_full(home):
+    with Typist(EXAMPLES / "first.jsonl", home, TERM="xterm", NO_COLOR="1") as person:
+        fcntl.ioctl(person.terminal, termios.TIOCSWINSZ, struct.pack("HHHH", 20, 200, 0, 0))
+        more = "--return for more, q to leave out the rest, c to go on without stopping--"
+        person.type("help\r")
+        assert person.until(more).count("\n| ") == 19
+        person.type("\r")
+        person.until(more)
+        person.type("q\r")
+        person.until(PROMPT)
+        assert person.ask("info position").endswith("at 0 of 10 forward\n")
+        person.ask("set pagination off")
+        person.type("help\r")
+        assert more not in person.until("| cells: ", more)
+
+
+def test_ctrl_c_stops_a_walk_and_keeps_the_session(home):
+    recording = Path(home) / "long.jsonl"
+    pairs_of_locks(recording, 200_000)
+    with typist(home, recording) as person:
+        person.ask("watch lock 0")
+        person.ask("continue")
+        stopped = False
+        while not stopped:  # a Ctrl-C that comes before the walk has begun only drops the line
+            person.type("until lock 0 nonsense\r")
+            person.until("nonsense\n")
+            time.sleep(0.2)
+            person.type(INTERRUPT)
+            stopped = "interrupted" in person.until("interrupted; the session goes on\n", "^C\n" + PROMPT)
+        person.until(PROMPT)
+        assert "at 1 of 200001 forward\n" in person.ask("info position")
+        assert "at 2 by 1\n" in person.ask("continue")
+        person.type("quit\r")
+        person.until("bye\n")
+        assert person.ends() == 0
