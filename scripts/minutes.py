@@ -91,8 +91,8 @@ class Watch:
         for child in below.get(number, []):
             self.walk(child, check, found, below, sums)
         if number == self.top:
-            for one, ticks in sums.items():
-                self.ticks[one] = max(self.ticks.get(one, 0), ticks)
+            for process, ticks in sums.items():
+                self.ticks[process] = max(self.ticks.get(process, 0), ticks)
 
     def note_memory(self):
         free = re.search(r"MemAvailable:\s+(\d+)", Path("/proc/meminfo").read_text(encoding="ascii"))

@@ -143,10 +143,10 @@ def copied(room, crate, edits):
     shutil.copy(ROOT / "crates.txt", room)
     if (ROOT / "HANDLES").is_file():
         shutil.copy(ROOT / "HANDLES", room)
-    for one in sorted((ROOT / "crates").iterdir()):
+    for crate_folder in sorted((ROOT / "crates").iterdir()):
         for part in PARTS:
-            if (one / part).is_dir():
-                shutil.copytree(one / part, room / "crates" / one.name / part)
+            if (crate_folder / part).is_dir():
+                shutil.copytree(crate_folder / part, room / "crates" / crate_folder.name / part)
     for edit in edits:
         for change in edit.changes:
             path = room / "crates" / crate / change.file
@@ -160,13 +160,13 @@ def check(folder, functions, jobs):
     words = ["rt", "check", "--jobs", str(jobs)]
     for function in sorted(functions):
         words += ["--only", function]
-    ran = subprocess.run(words, cwd=folder, stdout=subprocess.PIPE, stderr=subprocess.STDOUT, text=True, check=False)
-    said: dict[str, list[str]] = {}
-    for line in ran.stdout.splitlines():
-        told = re.match(r"fn (\S+?): (.*)", line)
-        if told:
-            said.setdefault(told[1], []).append(told[2])
-    return said, ran.stdout
+    process = subprocess.run(words, cwd=folder, stdout=subprocess.PIPE, stderr=subprocess.STDOUT, text=True, check=False)
+    verdicts: dict[str, list[str]] = {}
+    for line in process.stdout.splitlines():
+        match = re.match(r"fn (\S+?): (.*)", line)
+        if match:
+            verdicts.setdefault(match[1], []).append(match[2])
+    return verdicts, process.stdout
 
 
 def is_own(function, line, output):
@@ -178,31 +178,31 @@ def is_own(function, line, output):
     )
 
 
-def verdict(edit, said, output):
+def verdict(edit, verdicts, output):
     """Whether an edit was refused, and the output about it."""
-    told = [
+    matching_lines = [
         (name, line)
-        for name, lines in said.items()
+        for name, lines in verdicts.items()
         if any(f"::{name}".endswith(f"::{function}") for function in edit.functions)
         for line in lines
     ]
-    return any(is_own(name, line, output) for name, line in told), [f"{name}: {line}" for name, line in told]
+    return any(is_own(name, line, output) for name, line in matching_lines), [f"{name}: {line}" for name, line in matching_lines]
 
 
 def try_batch(crate, batch, jobs):
     """Tries a batch of edits in one check, and returns the names of the edits that weren't refused."""
     functions = set().union(*(edit.functions for edit in batch))
     with tempfile.TemporaryDirectory(prefix="mutants-") as room:
-        said, output = check(copied(Path(room), crate, batch), functions, jobs)
+        verdicts, output = check(copied(Path(room), crate, batch), functions, jobs)
     missed = []
     for edit in batch:
-        is_refused, lines = verdict(edit, said, output)
+        is_refused, lines = verdict(edit, verdicts, output)
         print(f"{'refused' if is_refused else 'NOT REFUSED'}: {edit.name}", flush=True)
         for line in lines or ["nothing was said of it: " + ", ".join(sorted(edit.functions))]:
             print(f"    {line[:200]}")
         if not is_refused:
             missed.append(edit.name)
-    if not said:
+    if not verdicts:
         print(output[-2000:])
     return missed
 

@@ -33,7 +33,7 @@ import sys
 from collections.abc import Callable, Iterator
 from pathlib import Path
 
-from page_rules import citations, definitions, links, lists, quotes, reading, verdict
+from page_rules import citations, definitions, links, lists, quotes, reading_list, verdict
 from page_rules.code import comments, imports, memory, merges, raw_calls
 from page_rules.tree import Finding, Tree
 
@@ -54,7 +54,7 @@ RULES: dict[str, Rule] = {
     "quotes": quotes.quotes,
     "texts": quotes.texts,
     "runs": quotes.runs,
-    "beliefs": reading.reading_list,
+    "beliefs": reading_list.reading_list,
     "verdict": verdict.verdict,
     "raw-calls": raw_calls.raw_calls,
     "promises": citations.promises,
@@ -82,15 +82,15 @@ def main(given_words: list[str] | None = None) -> int:
     given.add_argument("--diagram", action="store_true", help="print the diagram of the crates")
     given.add_argument("--root", type=Path, default=Path(__file__).resolve().parent.parent, help=argparse.SUPPRESS)
     given.add_argument("rules", nargs="*", metavar="RULE", help="just these")
-    asked = given.parse_args(given_words)
-    if unknown := [name for name in asked.rules if name not in RULES]:
+    options = given.parse_args(given_words)
+    if unknown := [name for name in options.rules if name not in RULES]:
         given.error(f"there is no rule {', '.join(unknown)}")
-    tree = Tree(asked.root)
-    if asked.diagram:
+    tree = Tree(options.root)
+    if options.diagram:
         print(lists.drawn(tree), end="")
         return 0
-    names = asked.rules or list(RULES)
-    faults = [f"there is no {path}" for path in NEEDED if not asked.rules and not tree.has(path)]
+    names = options.rules or list(RULES)
+    faults = [f"there is no {path}" for path in NEEDED if not options.rules and not tree.has(path)]
     faults += [f"{finding} [{name}]" for name in names for finding in sorted(RULES[name](tree))]
     notes = [f"note: {note}" for note in tree.notes]
     print(*faults, *notes, f"pages: {len(tree.pages)} pages, {len(names)} rules, {len(faults)} findings", sep="\n")

@@ -137,7 +137,7 @@ play_example() {
 	refuse_each 0 "$work/nothing" check "$recording"
 	[ "$lines" = 0 ] || differs check "$recording"
 
-	python3 "$here/../python" tests.program.support.given "$recording" > "$work/right"
+	python3 "$here/../python" tests.program.support.case_files "$recording" > "$work/right"
 	refuse_each 0 "$work/nothing" upgrade "$recording"
 	play_lists 0 "$recording"
 }

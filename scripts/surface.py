@@ -100,9 +100,9 @@ def main() -> int:
     """Compares the calls, or lists them."""
     words = argparse.ArgumentParser(description=__doc__, formatter_class=argparse.RawDescriptionHelpFormatter)
     words.add_argument("--list", metavar="CRATE", help="print all public calls of a crate")
-    asked = words.parse_args()
-    if asked.list:
-        print(asked.list, *("    " + call for call in crate_calls(asked.list)), sep="\n")
+    options = words.parse_args()
+    if options.list:
+        print(options.list, *("    " + call for call in crate_calls(options.list)), sep="\n")
         return 0
     wanted = table(TABLE.read_text(encoding="utf-8"))
     count = sum(map(len, wanted.values()))

@@ -39,13 +39,13 @@ def programs(page: str) -> list[Program]:
     ]
 
 
-def make_repository(folder: Path, made: list[Program]) -> None:
+def make_repository(folder: Path, programs: list[Program]) -> None:
     """Puts the crates, without build results, and these programs into the folder."""
     shutil.copytree(ROOT / "crates", folder / "crates", ignore=shutil.ignore_patterns("out", "must-fail"))
     shutil.copy(ROOT / "HANDLES", folder)
-    rows = [f"{program.crate}: {program.imports}\n" for program in made]
+    rows = [f"{program.crate}: {program.imports}\n" for program in programs]
     (folder / "crates.txt").write_text((ROOT / "crates.txt").read_text() + "".join(rows))
-    for program in made:
+    for program in programs:
         source = folder / "crates" / program.crate / "src/main.rt"
         source.parent.mkdir(parents=True)
         source.write_text(program.source)
@@ -56,21 +56,21 @@ def prints_it(folder: Path, program: Program) -> bool:
     with FIRST.open("rb") as recording:
         command = ["rt", "try", "--seconds", str(SECONDS)]
         place = folder / "crates" / program.crate
-        ran = subprocess.run(command, cwd=place, stdin=recording, capture_output=True, text=True, check=False)
-    is_right = ran.returncode == 0 and ran.stdout.startswith(program.printed)
-    print(f"{program.name}: {'as the page says' if is_right else ran.stdout + ran.stderr}", flush=True)
+        process = subprocess.run(command, cwd=place, stdin=recording, capture_output=True, text=True, check=False)
+    is_right = process.returncode == 0 and process.stdout.startswith(program.printed)
+    print(f"{program.name}: {'as the page says' if is_right else process.stdout + process.stderr}", flush=True)
     return is_right
 
 
 def main() -> int:
     """Tries the named programs, or all programs."""
     found = programs(PAGE.read_text(encoding="utf-8"))
-    asked = [program for program in found if program.name in sys.argv[1:] or not sys.argv[1:]]
-    if not asked or len(asked) < len(sys.argv[1:]):
+    wanted = [program for program in found if program.name in sys.argv[1:] or not sys.argv[1:]]
+    if not wanted or len(wanted) < len(sys.argv[1:]):
         sys.exit(f"{PAGE.name} has {', '.join(program.name for program in found)}")
     with tempfile.TemporaryDirectory() as name:
-        make_repository(Path(name), asked)
-        return int(not all([prints_it(Path(name), program) for program in asked]))
+        make_repository(Path(name), wanted)
+        return int(not all([prints_it(Path(name), program) for program in wanted]))
 
 
 if __name__ == "__main__":

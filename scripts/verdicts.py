@@ -21,14 +21,14 @@ def main(given_words: list[str] | None = None) -> int:
     given = argparse.ArgumentParser(description=__doc__, formatter_class=argparse.RawDescriptionHelpFormatter)
     given.add_argument("--root", type=Path, default=ROOT, help=argparse.SUPPRESS)
     given.add_argument("log", nargs="?", type=Path, metavar="LOG", help="the log (out/gate.log)")
-    asked = given.parse_args(given_words)
-    tree = Tree(asked.root)
-    log = asked.log or asked.root / "out/gate.log"
+    options = given.parse_args(given_words)
+    tree = Tree(options.root)
+    log = options.log or options.root / "out/gate.log"
     try:
         found = verdict.verdicts_in(log.read_text(encoding="utf-8", errors="replace"))
     except OSError as error:
         given.error(f"{log}: {error.strerror}")
-    file = asked.root / verdict.KEPT
+    file = options.root / verdict.KEPT
     records = json.loads(file.read_text(encoding="utf-8")) if file.exists() else {}
     now = verdict.sums(tree) if found else {}
     records |= {name: {"line": line, "sum": now[name]} for name, line in found.items() if name in now}

@@ -94,7 +94,7 @@ def faults(file: Path) -> list[str]:
 def faults_of_parts(data: dict[str, bytes]) -> Iterator[str]:
     """The faults in the parts' names: each file extension needs a type, and each part must be in the folder that is
     unpacked."""
-    known = {one.get("Extension") for one in ElementTree.fromstring(data[TYPES]).iter(f"{OF_TYPES}Default")}
+    known = {element.get("Extension") for element in ElementTree.fromstring(data[TYPES]).iter(f"{OF_TYPES}Default")}
     for name in data:
         if name != TYPES and Path(name).suffix not in known:
             yield f"{name} has no type in {TYPES}"
@@ -109,8 +109,8 @@ def faults_of_manifest(data: dict[str, bytes], package: dict[str, Any]) -> Itera
     for key, named in (("Id", "name"), ("Version", "version"), ("Publisher", "publisher")):
         if identity is None or identity.get(key) != package[named]:
             yield f"{MANIFEST} has another {named} than package.json"
-    named_parts = [one.get("Path") for one in top.iter(f"{OF_MANIFEST}Asset")]
-    named_parts += [one.text for one in top.iter(f"{OF_MANIFEST}License")]
+    named_parts = [element.get("Path") for element in top.iter(f"{OF_MANIFEST}Asset")]
+    named_parts += [element.text for element in top.iter(f"{OF_MANIFEST}License")]
     yield from (f"{MANIFEST} names {path}, which isn't there" for path in named_parts if path not in data)
 
 

@@ -1,6 +1,6 @@
 """Runs netrev-go: python3 python netrev_go .."""
 
-from netrev.system.leaving import ended_by
+from netrev.system.immediate_exit import ended_by
 
 from .cli import main
 

@@ -15,16 +15,16 @@ from netrev.system.command_lines import command
 from .doctor import doctor
 from .go_command.outputs import base_name, look, numbered
 from .go_command.run_folders import claim
-from .go_command.running import GoRunner, as_a_shell_has_it, behind_the_folder, limits_of, log_of_process, logs_folder
+from .go_command.running import GoRunner, shell_status, relative_to_folder, limits_of, log_of_process, logs_folder
 from .go_command.status import ExitStatus
 from .go_command.toolchain import Go, RecorderError, find_go
-from .keeping import RecordingMaker, ReportPrinter, complain, say, unwritten
+from .recordings import RecordingMaker, ReportPrinter, complain, say, unwritten
 from .options import POSSIBLE, SUSPECTS, asks_for_help, check, help_of, of_a_process, parser
 from .recovery import offer, recover
-from .steps.converting import RecordingOptions, convert
-from .testing import record_tests
-from .trying import ready
-from .watching import snapshot, watch
+from .steps.conversion import RecordingOptions, convert
+from .go_test import record_tests
+from .release_check import ready
+from .snapshots import snapshot, watch
 
 
 KNOWN: list[object] = []  # data of the last converted log; kept until exit, because freeing it is slow
@@ -42,22 +42,22 @@ def record(options: argparse.Namespace, go: Go) -> int:
     """Runs Go's command, and makes recordings of the programs that ran. Returns Go's own status, unless an option asks for another."""
     words = options.words_of_go
     once = ["-count=1"] if options.command == "test" else []
-    command = [go.program, options.command, *behind_the_folder(words, [*flags(go, words), *once])]
+    command = [go.program, options.command, *relative_to_folder(words, [*flags(go, words), *once])]
     if options.command == "test":
-        came = record_tests(options, go, command, wish_of(options))
+        results = record_tests(options, go, command, wish_of(options))
         bad = (
-            came.suspected
+            results.suspected
             and SUSPECTS in (options.fail_on or ())
-            or came.possible
+            or results.possible
             and POSSIBLE in (options.fail_on or ())
         )
-        return status_of(came.status, bad, options.strict and not came.all_recorded)
+        return status_of(results.status, bad, options.strict and not results.all_recorded)
     base = base_name(options.o)
     look(base)
     folder = claim(logs_folder(options.points))
     making = RecordingMaker(folder, base, go, wish_of(options))
     try:
-        status = as_a_shell_has_it(GoRunner(command, folder, limits_of(options)).wait(making.so_far))
+        status = shell_status(GoRunner(command, folder, limits_of(options)).wait(making.so_far))
         making.all(status != 0)
         bad = making.suspected and SUSPECTS in (options.fail_on or ())
         return status_of(status, bad, options.strict and (making.trouble or not making.all_taken))
@@ -84,7 +84,7 @@ def go_if_any() -> Go | None:
         return None
 
 
-def convert_one(options: argparse.Namespace) -> int:
+def convert_log(options: argparse.Namespace) -> int:
     """Makes recordings of logs. A log that can't be converted doesn't affect the others."""
     logs = [pathlib.Path(word) for word in options.words_of_go]
     written = len(logs)  # the place of the log that a process writes
@@ -112,10 +112,10 @@ def convert_one(options: argparse.Namespace) -> int:
 
 def build(options: argparse.Namespace, go: Go) -> int:
     words = options.words_of_go
-    run = subprocess.run([go.program, "build", *behind_the_folder(words, flags(go, words))], check=False)
+    run = subprocess.run([go.program, "build", *relative_to_folder(words, flags(go, words))], check=False)
     if run.returncode == 0:
         say([messages.BUILT.format(netrev_go=command("netrev-go"))])
-    return as_a_shell_has_it(run.returncode)
+    return shell_status(run.returncode)
 
 
 def env(go: Go) -> int:
@@ -140,7 +140,7 @@ def main(arguments: list[str] | None = None) -> int:
             return recover(options, base_name(options.o, "recovered"), go_if_any(), wish_of(options))
         offer()
         if options.command == "convert":
-            return convert_one(options)
+            return convert_log(options)
         if options.command in ("snapshot", "watch"):
             of_a_process(options)
             of_now = snapshot if options.command == "snapshot" else watch

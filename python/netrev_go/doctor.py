@@ -5,14 +5,14 @@ from __future__ import annotations
 import tempfile
 
 from netrev.messages import recorder as messages
-from netrev.system.built import netrev_program
+from netrev.system.program_path import netrev_program
 from netrev.system.command_lines import how_to_get_netrev
 
 from .go_command.calls_of_go import unknown_calls
 from .go_command.line_reader import build_line_reader
 from .go_command.running import MOST_POINTS, logs_folder
 from .go_command.toolchain import WITHOUT, Go, RecorderError, cache, find_go, fit, overlay, tried
-from .trying import trial
+from .release_check import trial
 
 
 def doctor() -> int:
@@ -91,6 +91,6 @@ def tries_well(go: Go) -> bool:
         return False
     print(messages.COMPILED)
     print(messages.LINES.format(how=reads_lines(go)))
-    came = trial(go)
-    print((messages.TRIAL_GOOD if came.good else messages.TRIAL_BAD).format(how=came.said))
-    return came.good
+    result = trial(go)
+    print((messages.TRIAL_GOOD if result.good else messages.TRIAL_BAD).format(how=result.said))
+    return result.good

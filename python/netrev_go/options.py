@@ -144,41 +144,41 @@ class Parser(argparse.ArgumentParser):
 
 
 def parser() -> argparse.ArgumentParser:
-    made = Parser(
+    arguments = Parser(
         prog="netrev-go", usage=argparse.SUPPRESS, description=SUMMARY, add_help=False,
         formatter_class=argparse.RawDescriptionHelpFormatter,
     )  # fmt: skip
-    about = made.add_argument_group("about netrev-go")
+    about = arguments.add_argument_group("about netrev-go")
     about.add_argument("-h", "--help", action="help", help="print this help")
     about.add_argument("--version", action="version", version=f"netrev-go {VERSION}", help="print the version")
     for title, add in GROUPS.values():
-        add(made.add_argument_group(title))
-    made.add_argument("command", choices=COMMANDS, metavar="COMMAND", help=argparse.SUPPRESS)
-    made.add_argument("words_of_go", nargs=argparse.REMAINDER, metavar="WORDS", help=argparse.SUPPRESS)
-    return made
+        add(arguments.add_argument_group(title))
+    arguments.add_argument("command", choices=COMMANDS, metavar="COMMAND", help=argparse.SUPPRESS)
+    arguments.add_argument("words_of_go", nargs=argparse.REMAINDER, metavar="WORDS", help=argparse.SUPPRESS)
+    return arguments
 
 
 def of_a_process(options: argparse.Namespace) -> None:
     """Parses the words of a command that takes a process: its number, and the command's own options."""
-    made = Parser(usage=argparse.SUPPRESS, add_help=False)
-    made.add_argument("pid", metavar="PID", type=int)
+    arguments = Parser(usage=argparse.SUPPRESS, add_help=False)
+    arguments.add_argument("pid", metavar="PID", type=int)
     if options.command == "watch":
-        add_watch(made)
-    made.parse_args(options.words_of_go, options)
+        add_watch(arguments)
+    arguments.parse_args(options.words_of_go, options)
 
 
 def help_of(command: str) -> str:
     """The help of a command: an example, and its options."""
     usage = USAGES[command]
     heads = [usage.does, usage.example, *([f"Options, which come before `{command}`:"] if usage.options else [])]
-    made = argparse.ArgumentParser(
+    arguments = argparse.ArgumentParser(
         usage=usage.call, description="\n\n".join(heads), epilog=usage.more, add_help=False,
         formatter_class=argparse.RawDescriptionHelpFormatter,
     )  # fmt: skip
     for name in usage.options:
         title, add = GROUPS[name]
-        add(made.add_argument_group(title))
-    return made.format_help().rstrip("\n")
+        add(arguments.add_argument_group(title))
+    return arguments.format_help().rstrip("\n")
 
 
 def asks_for_help(options: argparse.Namespace) -> bool:

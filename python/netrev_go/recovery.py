@@ -15,8 +15,8 @@ from .go_command.outputs import look
 from .go_command.run_folders import LeftRun, left_runs, take_over
 from .go_command.status import ExitStatus
 from .go_command.toolchain import Go
-from .keeping import RecordingMaker, complain, say
-from .steps.converting import RecordingOptions
+from .recordings import RecordingMaker, complain, say
+from .steps.conversion import RecordingOptions
 
 LONGEST_COMMAND = 60
 
@@ -38,7 +38,7 @@ def offer() -> None:
     complain(messages.RUNS_WERE_INTERRUPTED.format(runs=what, netrev_go=command("netrev-go")) + discard)
 
 
-def recover(options: argparse.Namespace, base: pathlib.Path, go: Go | None, wish: RecordingOptions) -> int:
+def recover(options: argparse.Namespace, base: pathlib.Path, go: Go | None, recording_options: RecordingOptions) -> int:
     """Makes recordings of all interrupted runs, and removes the logs whose recordings netrev accepts."""
     look(base)
     runs = [run for run in left_runs() if take_over(run)]
@@ -47,7 +47,7 @@ def recover(options: argparse.Namespace, base: pathlib.Path, go: Go | None, wish
     status, count = ExitStatus.DONE, 0
     for run in runs:
         say([f"{named(run)}:"])
-        making = RecordingMaker(run.folder, base, go, wish, count)
+        making = RecordingMaker(run.folder, base, go, recording_options, count)
         try:
             making.all(True)
         finally:

@@ -1,6 +1,6 @@
 """nrdb as a program: `./nrdb FILE` (docs/reference/NRDB.md)."""
 
-from netrev.system.leaving import ended_by
+from netrev.system.immediate_exit import ended_by
 
 from .cli import main
 

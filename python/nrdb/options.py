@@ -3,7 +3,7 @@
 import argparse
 from typing import Any, NoReturn, Optional, Sequence
 
-from netrev.system.built import BUILT, netrev_program
+from netrev.system.program_path import BUILT, netrev_program
 from netrev.system.provenance import program_lines
 from netrev.system.version import VERSION
 from netrev.text.plain import plain

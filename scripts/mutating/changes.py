@@ -138,7 +138,7 @@ class Finder(ast.NodeVisitor):
         self.function(node)
 
     def function(self, node: ast.FunctionDef | ast.AsyncFunctionDef) -> None:
-        for default in (*node.args.defaults, *(one for one in node.args.kw_defaults if one)):
+        for default in (*node.args.defaults, *(default for default in node.args.kw_defaults if default)):
             self.visit(default)
         self.names += [node.name, "<locals>"]
         before, self.is_method_of_set_up = self.is_method_of_set_up, node.name == "__init__"
@@ -207,7 +207,7 @@ class Finder(ast.NodeVisitor):
 
     def visit_While(self, node: ast.While) -> None:
         begin = self.span(node)[0]
-        if not node.orelse and not any(isinstance(one, (ast.Break, ast.Continue)) for one in ast.walk(node)):
+        if not node.orelse and not any(isinstance(child, (ast.Break, ast.Continue)) for child in ast.walk(node)):
             self.put(CASE, begin, begin + len("while"), "if")
         self.generic_visit(node)
 
@@ -232,10 +232,10 @@ class Finder(ast.NodeVisitor):
         self.generic_visit(node)
 
     def visit_Call(self, node: ast.Call) -> None:
-        if len(node.args) == 2 and not any(isinstance(one, ast.Starred) for one in node.args):
+        if len(node.args) == 2 and not any(isinstance(argument, ast.Starred) for argument in node.args):
             first, second = self.span(node.args[0]), self.span(node.args[1])
             texts = self.source(node.args[0]), self.source(node.args[1])
-            plain = all(isinstance(one, (ast.Name, ast.Attribute)) for one in node.args)
+            plain = all(isinstance(argument, (ast.Name, ast.Attribute)) for argument in node.args)
             if plain and texts[0] != texts[1] and not self.is_kept_order(node):
                 between = self.text[first[1] : second[0]]
                 self.put(SIDES, first[0], second[1], texts[1] + between + texts[0])

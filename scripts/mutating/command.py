@@ -15,7 +15,7 @@ from . import equivalent
 from .changes import KINDS, Mutant
 from .topics import MOST, note_calls, read_topics
 
-from .trying import (
+from .trials import (
     FOUND, PACKAGES, ROOT, UNBUILT, Verdict, all_mutants, drawn, python_with_pytest, tried,
 )  # fmt: skip
 
@@ -48,14 +48,14 @@ def arguments(words: list[str]) -> argparse.Namespace:
 def table(verdicts: list[Verdict]) -> str:
     """The mutants that survived, and how many mutants of each kind were found."""
     lines = ["| Mutant | Kind | Change | Verdict |", "|---|---|---|---|"]
-    for one in sorted(verdicts, key=lambda one: (one.mutant.file, one.mutant.line)):
-        if one.answer not in (FOUND, UNBUILT):
-            mutant = one.mutant
+    for verdict in sorted(verdicts, key=lambda verdict: (verdict.mutant.file, verdict.mutant.line)):
+        if verdict.answer not in (FOUND, UNBUILT):
+            mutant = verdict.mutant
             change = f"`{' '.join(mutant.old.split())[:70]}` to `{' '.join(mutant.new.split())[:70]}`".replace(
                 "|", "\\|"
             )
-            lines.append(f"| {mutant.file}:{mutant.line} {mutant.function} | {mutant.kind} | {change} | {one.answer} |")
-    counts = Counter((one.mutant.kind, one.answer == FOUND) for one in verdicts if one.answer != UNBUILT)
+            lines.append(f"| {mutant.file}:{mutant.line} {mutant.function} | {mutant.kind} | {change} | {verdict.answer} |")
+    counts = Counter((verdict.mutant.kind, verdict.answer == FOUND) for verdict in verdicts if verdict.answer != UNBUILT)
     lines += ["", "| Kind | Tried | Found |", "|---|---|---|"]
     for kind in KINDS:
         found = counts[kind, True]
@@ -89,14 +89,14 @@ def main(words: list[str]) -> int:
         verdicts = []
         KEPT.mkdir(parents=True, exist_ok=True)
         with open(log, "a", encoding="utf-8") as kept:
-            for one in tried(chosen, topics, room, given.jobs, python):
-                verdicts.append(one)
-                row = one.answer, one.mutant.name(), one.mutant.line, one.mutant.kind, one.by, round(one.seconds, 1)
+            for verdict in tried(chosen, topics, room, given.jobs, python):
+                verdicts.append(verdict)
+                row = verdict.answer, verdict.mutant.name(), verdict.mutant.line, verdict.mutant.kind, verdict.by, round(verdict.seconds, 1)
                 print(json.dumps(row), file=kept, flush=True)
-                print(f"{one.answer}: {one.mutant.file}:{one.mutant.line} {one.by} ({one.seconds:.0f} s)", flush=True)
+                print(f"{verdict.answer}: {verdict.mutant.file}:{verdict.mutant.line} {verdict.by} ({verdict.seconds:.0f} s)", flush=True)
     print(table(verdicts))
-    found = sum(one.answer == FOUND for one in verdicts)
-    total = sum(one.answer != UNBUILT for one in verdicts)
+    found = sum(verdict.answer == FOUND for verdict in verdicts)
+    total = sum(verdict.answer != UNBUILT for verdict in verdicts)
     print(f"\nseed {given.seed}: {found} of {total} mutants found")
     return 0 if total and 100 * found >= given.least * total else 1
 

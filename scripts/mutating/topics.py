@@ -1,6 +1,6 @@
 """The tests to try against a mutant: the tests that call the changed function, the fastest first.
 
-One run of the tests records what each of them calls (`called.py`); a test file that has changed since then is run
+One run of the tests records what each of them calls (`recorded_calls.py`); a test file that has changed since then is run
 again. `topics.txt` names the tests of the recorder's Go, whose calls can't be recorded."""
 
 from __future__ import annotations
@@ -126,7 +126,7 @@ def note_calls(root: Path, notes: Path, python: str) -> None:
     fresh.write_text("".join(f"{json.dumps(row)}\n" for row in kept), encoding="utf-8")
     starting = [str(root / "scripts"), str(root / "scripts/mutating/starting")]
     environment = {**os.environ, "NETREV_CALLS": str(fresh), "PYTHONPATH": os.pathsep.join(starting)}
-    words = [python, "-m", "pytest", "-q", "-p", "mutating.called", "-m", "not alone", *changed]
+    words = [python, "-m", "pytest", "-q", "-p", "mutating.recorded_calls", "-m", "not alone", *changed]
     status = subprocess.run(words, cwd=root, env=environment, stdin=subprocess.DEVNULL, check=False).returncode
     if status not in (0, 1):
         raise SystemExit(f"mutants.py: pytest ended with {status}, and no calls are noted")

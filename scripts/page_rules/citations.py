@@ -32,18 +32,18 @@ class Cited:
         """The labels of a subject: a function's clauses, all clauses of an `impl`, or a definition."""
         if found := IMPL.fullmatch(subject):
             trait, owner = found.groups()
-            functions = [one for crate in self.all for one in crate.functions if trait in (one.owner, one.trait)]
-            labels = {label for one in functions for label in one.labels} | {one.name for one in functions}
+            functions = [function for crate in self.all for function in crate.functions if trait in (one.owner, one.trait)]
+            labels = {label for function in functions for label in function.labels} | {function.name for function in functions}
             return labels | {name for crate in self.all for name in crate.names | crate.definitions}
         parts = QUALIFIED.fullmatch(subject)
         if parts is None:
             return set()
         name, owner = parts["name"], parts["owner"] or ""
         for crates in (self.own, self.all):
-            functions = [one for crate in crates for one in crate.called(name, owner)]
+            functions = [function for crate in crates for function in crate.called(name, owner)]
             members = [crate.members | crate.definitions for crate in crates if name in crate.definitions and not owner]
             if functions or members:
-                return {label for one in functions for label in one.labels}.union(*members)
+                return {label for function in functions for label in function.labels}.union(*members)
         return set()
 
     def is_definition(self, name: str) -> bool:
@@ -59,7 +59,7 @@ class Cited:
                 return True
             if not owner and re.search(rf"(?<!\w){re.escape(name)}(?!\w)", crate.text):
                 return True
-        return any(name in one.labels for crate in self.own for one in crate.functions)
+        return any(name in function.labels for crate in self.own for function in crate.functions)
 
 
 def _wrong_in(part: str, cited: Cited, before: list[str]) -> Iterator[str]:
@@ -127,7 +127,7 @@ def in_files(tree: Tree) -> Iterator[Finding]:
     for page in tree.pages:
         for block in prose(tree.text(page)) if page != HISTORY else ():
             for cited, path in IN_FILE.findall(block.text):
-                files = [one for one in tree.paths if f"/{one}".endswith(f"/{path}")]
+                files = [file for file in tree.paths if f"/{file}".endswith(f"/{path}")]
                 for name in CODE.findall(cited):
                     words = re.findall(r"\w+", name) if NAME.fullmatch(name) else []
                     if files and not any(set(words) <= set(re.findall(r"\w+", tree.text(file))) for file in files):

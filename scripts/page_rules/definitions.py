@@ -40,9 +40,9 @@ def _public_contracts(tree: Tree, crate: str, path: str) -> str:
     text = without_comments(tree.text(path))
     is_public = PurePosixPath(path).stem in {*modules, "lib"}
     seen = []
-    for one in functions_of(path, text):
-        if one.is_public and (is_public or (one.owner or one.name) in names):
-            seen.append(one.contract)
+    for function in functions_of(path, text):
+        if function.is_public and (is_public or (function.owner or function.name) in names):
+            seen.append(function.contract)
     for block in re.split(r"^(?=impl|pub trait)", text, flags=re.MULTILINE)[1:]:
         owner = OWNER.match(block)
         if owner and (is_public or (owner["type"] or owner["owner"]) in names):
@@ -56,7 +56,7 @@ def needed(tree: Tree) -> dict[str, set[str]]:
     found: dict[str, set[str]] = defaultdict(set)
     for path in tree.matching("crates/*.rt", "crates/*.antt"):
         own = path.split("/")[1]
-        imports = [one for one in IMPORT.findall(tree.text(path)) if one[0] != own or path.endswith(".rt")]
+        imports = [imported for imported in IMPORT.findall(tree.text(path)) if imported[0] != own or path.endswith(".rt")]
         contracts = ""
         for crate, module, names, alias in imports:
             if crate != own:

@@ -50,7 +50,7 @@ def _has(name: str, text: str) -> bool:
 def _found(tree: Tree, path: str, pattern: re.Pattern[str]) -> list[tuple[str, ...]]:
     """The matches of a pattern in a file, each with the spellings of a name."""
     found = pattern.findall(tree.text(path)) if tree.has(path) else []
-    return [(one,) if isinstance(one, str) else one for one in found]
+    return [(item,) if isinstance(item, str) else item for item in found]
 
 
 def vocabularies(tree: Tree) -> list[Vocabulary]:

@@ -68,10 +68,10 @@ def texts(tree: Tree) -> Iterator[Finding]:
     found = list(BYTES.finditer(source))
     if source and not found:
         yield Finding(EXAMPLES, 1, "there are no texts to compare")
-    for one in found:
-        name, definition, text = one.groups()
+    for match in found:
+        name, definition, text = match.groups()
         if not tree.has(name) or bytes_of(text) != tree.text(name).encode():
-            yield Finding(EXAMPLES, line_at(source, one.start()), f"{definition} has other bytes than {name}")
+            yield Finding(EXAMPLES, line_at(source, match.start()), f"{definition} has other bytes than {name}")
 
 
 def argument(word: str) -> str | int:
@@ -116,7 +116,7 @@ def runs(tree: Tree) -> Iterator[Finding]:
         found = list(RUN.finditer(source))
         if not found:
             yield Finding(path, 1, "there are no runs to compare")
-        for one in found:
-            name, definition, limits, steps = one.groups()
+        for match in found:
+            name, definition, limits, steps = match.groups()
             if not _is_run(tree, name, limits, steps):
-                yield Finding(path, line_at(source, one.start()), f"{definition} isn't the run of {name}")
+                yield Finding(path, line_at(source, match.start()), f"{definition} isn't the run of {name}")

@@ -49,7 +49,7 @@ class Crate:
 
     def called(self, name: str, owner: str = "") -> list[Function]:
         """The functions with this name, and with this owner or module if one is given."""
-        return [one for one in self.functions if one.name == name and owner in ("", one.owner, one.trait, one.module)]
+        return [function for function in self.functions if function.name == name and owner in ("", function.owner, function.trait, function.module)]
 
 
 def without_comments(text: str) -> str:

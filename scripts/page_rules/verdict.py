@@ -81,7 +81,7 @@ def kept(tree: Tree) -> dict[str, str]:
     file = tree.root / KEPT
     records = json.loads(file.read_text(encoding="utf-8")) if file.exists() else {}
     now = sums(tree) if records else {}
-    return {name: one["line"] for name, one in records.items() if now.get(name) == one["sum"]}
+    return {name: record["line"] for name, record in records.items() if now.get(name) == record["sum"]}
 
 
 def _of_page(tree: Tree, page: Words) -> Iterator[str]:

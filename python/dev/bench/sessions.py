@@ -119,14 +119,14 @@ def main():
             subprocess.run(words, stdout=out, timeout=60, check=True)
 
         piped = min(run_piped(recording, ["stepi"], stepped) for _ in range(RUNS))
-        looked = min(run_piped(recording, ["print clock"], clocks) for _ in range(RUNS))
+        seconds = min(run_piped(recording, ["print clock"], clocks) for _ in range(RUNS))
         both = min(run_piped(recording, ["stepi", "print clock"], stepped_with_clocks) for _ in range(RUNS))
         alone, _ = min(share(recording, 1, MANY) for _ in range(RUNS))
         trips = min(wait_for_each(recording, MANY // 5) for _ in range(RUNS))
         print("| One front | a second |")
         print("|---|--:|")
         print(f"| commands over a pipe, sent at once | {MANY / piped:,.0f} |")
-        print(f"| queries over a pipe, sent at once | {MANY / looked:,.0f} |")
+        print(f"| queries over a pipe, sent at once | {MANY / seconds:,.0f} |")
         print(f"| steps and queries in turn over a pipe, sent at once | {MANY / both:,.0f} |")
         print(f"| commands over the loopback, sent at once | {MANY / alone:,.0f} |")
         print(f"| round trips over the loopback | {MANY // 5 / trips:,.0f} |")
@@ -142,4 +142,4 @@ if __name__ == "__main__":
     try:
         main()
     except WrongResultError as wrong:
-        sys.exit(f"serving.py: {wrong}")
+        sys.exit(f"sessions.py: {wrong}")

@@ -40,10 +40,10 @@ def arguments(words: Optional[Sequence[str]]) -> argparse.Namespace:
     return parser.parse_args(words)
 
 
-def play_one(netrev: str, case: Case, met: Met) -> bool:
+def play_one(netrev: str, case: Case, counts: Met) -> bool:
     """Runs one case and prints the result. Returns whether netrev and the model differed."""
     with tempfile.TemporaryDirectory() as folder:
-        differs = difference(netrev, case, Path(folder), met)
+        differs = difference(netrev, case, Path(folder), counts)
     print(f"{case.seed} ({case.sort}): {first_difference(*differs) if differs else 'no difference'}")
     return bool(differs)
 
@@ -81,7 +81,7 @@ def by_turns(*ways: Iterator[str]) -> Iterator[str]:
 def play(
     netrev: str,
     seed: str,
-    met: Met,
+    counts: Met,
     minutes: float = 5,
     cases: Optional[int] = None,
     out: Path = ROOT / "out/fuzz",
@@ -93,9 +93,9 @@ def play(
         for case in map(case_of, wanted_seeds(seed, cases, of)):
             if time.monotonic() > until or found == MOST_DIFFERENCES:
                 break
-            met.cases[case.sort] += 1
+            counts.cases[case.sort] += 1
             try:
-                differs = difference(netrev, case, Path(name), met)
+                differs = difference(netrev, case, Path(name), counts)
             except Exception:
                 print(f"{case.seed} ({case.sort}): the fuzzer itself failed", flush=True)
                 raise
@@ -113,15 +113,15 @@ def main(words: Optional[Sequence[str]] = None) -> int:
     if not Path(netrev).is_file():
         print(f"no program at {netrev}: `make netrev` builds it, or NETREV names another", file=sys.stderr)
         return 2
-    met = Met()
+    counts = Met()
     if options.again or options.case:
-        return int(play_one(netrev, kept(options.again) if options.again else case_of(options.case), met))
+        return int(play_one(netrev, kept(options.again) if options.again else case_of(options.case), counts))
     seed = options.seed or f"{time.time_ns() // 1_000_000}"
     print(f"seed {seed}, {options.minutes:g} minutes", flush=True)
-    found = play(netrev, seed, met, options.minutes, options.cases, of=options.of or "")
-    print("\n".join(met.lines()))
-    commands, steps = sum(met.commands.values()), sum(met.answers.values())
-    print(f"{sum(met.cases.values())} cases, {steps} steps, {commands} lines that ask: {found} differences")
+    found = play(netrev, seed, counts, options.minutes, options.cases, of=options.of or "")
+    print("\n".join(counts.lines()))
+    commands, steps = sum(counts.commands.values()), sum(counts.answers.values())
+    print(f"{sum(counts.cases.values())} cases, {steps} steps, {commands} lines that ask: {found} differences")
     return int(found > 0)
 
 

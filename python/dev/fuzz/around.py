@@ -101,29 +101,29 @@ def fault_of(seed: str, program: str) -> str:
 def seeds(seed: str, sorts: Sequence[str], cases: Optional[int], until: float) -> Iterator[str]:
     """The seeds to run: this many of each kind, or endless seeds until the time is up, with the same time for each
     kind."""
-    spent, played = dict.fromkeys(sorts, 0.0), Counter[str]()
+    spent, counts = dict.fromkeys(sorts, 0.0), Counter[str]()
     while time.monotonic() < until:
-        left = [sort for sort in sorts if cases is None or played[sort] < cases]
+        left = [sort for sort in sorts if cases is None or counts[sort] < cases]
         if not left:
             return
         sort = min(left, key=lambda kind: spent[kind])
-        played[sort] += 1
+        counts[sort] += 1
         begun = time.monotonic()
-        yield f"{seed}-{sort}-{played[sort]}"
+        yield f"{seed}-{sort}-{counts[sort]}"
         spent[sort] += time.monotonic() - begun
 
 
 def play(program: str, all_seeds: Iterator[str]) -> tuple[Counter[str], int]:
     """Runs cases and prints each fault; returns the number of cases of each kind, and the number of faults."""
-    played, found = Counter[str](), 0
+    counts, found = Counter[str](), 0
     for seed in all_seeds:
-        played[seed.rsplit("-", 2)[1]] += 1
+        counts[seed.rsplit("-", 2)[1]] += 1
         if fault := fault_of(seed, program):
             found += 1
             print(f"{seed}: {fault.strip()}\n    again: python3 python dev.fuzz.around --case {seed}", flush=True)
         if found == MOST_FAULTS:
             break
-    return played, found
+    return counts, found
 
 
 def main(words: Optional[Sequence[str]] = None) -> int:
@@ -141,10 +141,10 @@ def main(words: Optional[Sequence[str]] = None) -> int:
     seed = options.seed or f"{time.time_ns() // 1_000_000}"
     until = time.monotonic() + 60 * options.minutes
     print(f"seed {options.case or seed}", flush=True)
-    played, found = play(
+    counts, found = play(
         program, iter([options.case]) if options.case else seeds(seed, options.of or tuple(SORTS), options.cases, until)
     )
-    print(f"{', '.join(f'{count} {sort}' for sort, count in sorted(played.items()))}: {found} faults")
+    print(f"{', '.join(f'{count} {sort}' for sort, count in sorted(counts.items()))}: {found} faults")
     return int(found > 0)
 
 

@@ -9,9 +9,9 @@ from typing import Any
 
 from netrev.connection.collected_output import Collecting
 from netrev.session.commands import COMMANDS, TOPICS
-from netrev.text.writing import write_plain
+from netrev.text.writer import write_plain
 from nrdb.web.requests import LONGEST_LINE, RejectedRequestError, line_of
-from nrdb.web.shared import Shared
+from nrdb.web.shared_session import Shared
 from nrdb.web.streams import Streams, message
 
 from .companion import line_of as line_of_nrdb

@@ -7,8 +7,8 @@ from netrev.machine.machine import World
 from netrev.machine.steps import apply
 from netrev.model.session import ROOM
 from netrev.text.contents import Answer, Contents, Limits, Step
-from netrev.text.reading import MOST_STEPS, RANGES
-from netrev.text.writing import write_plain
+from netrev.text.parser import MOST_STEPS, RANGES
+from netrev.text.writer import write_plain
 
 from .generators import texts
 from .generators.damage import damaged

@@ -24,7 +24,7 @@ from netrev.model.session import ModelSession as ModelSession, recording_of
 from netrev.recording.recording import Recording
 from netrev.session.session import Session
 from netrev.system.interrupts import Interrupts, SessionAbandonedError
-from netrev.text.writing import write_plain
+from netrev.text.writer import write_plain
 from nrdb.prompt.answers import ANSWERS
 
 from .cases import Case
@@ -101,9 +101,9 @@ class Weather:
             happens()
 
 
-def played(program: str, case: Case, folder: Path, met: Met) -> str:
+def played(program: str, case: Case, folder: Path, counts: Met) -> str:
     """Runs a case, counts the events, and returns the first fault in its output, if any."""
-    replayed = replay(case.recording, met)
+    replayed = replay(case.recording, counts)
     recording = recording_of(replayed.text.steps, replayed.worlds)
     judge = Judge(replayed.text.steps, replayed.worlds, ModelSession(recording, Observer()))
     dice = random.Random(f"{case.seed} weather")
@@ -111,12 +111,12 @@ def played(program: str, case: Case, folder: Path, met: Met) -> str:
     path = folder / "recording.jsonl"
     path.write_bytes(case.recording)
     with confined():
-        wrong = followed(program, str(path), case.script.decode().split("\n"), weather, judge, met.nrdb)
-    met.nrdb.update(weather.met)
+        wrong = followed(program, str(path), case.script.decode().split("\n"), weather, judge, counts.nrdb)
+    counts.nrdb.update(weather.met)
     return wrong
 
 
-def followed(program: str, path: str, lines: Sequence[str], weather: Weather, judge: Judge, met: Counter[str]) -> str:
+def followed(program: str, path: str, lines: Sequence[str], weather: Weather, judge: Judge, counts: Counter[str]) -> str:
     """Runs the lines in a session, and compares each event with the model."""
     interrupts, out = Interrupts(), io.StringIO()
 
@@ -134,18 +134,18 @@ def followed(program: str, path: str, lines: Sequence[str], weather: Weather, ju
             out.truncate()
             ended = end_of(session, line)
             for event in map(json.loads, out.getvalue().splitlines()):
-                met["events"] += 1
+                counts["events"] += 1
                 if wrong := judge.wrong(line, event):
                     return f"{wrong} (behind {dict(weather.met)})"
             if ended:
-                met[f"sessions that ended: {ended}"] += 1
+                counts[f"sessions that ended: {ended}"] += 1
                 return "" if weather.met else f"{line}: {ended}, and nothing had happened"
     finally:
         weather.chance = 0.0
         recorded.drop()
         session.looks().drop()
         session.netrev.drop()
-    met["sessions that came to the end of their lines"] += 1
+    counts["sessions that came to the end of their lines"] += 1
     return ""
 
 

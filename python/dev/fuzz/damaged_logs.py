@@ -18,9 +18,9 @@ from xml.etree import ElementTree
 from netrev.recording.where import SourceLines
 from netrev_go.log.logfile import HEADER_BYTES, NotALogError, read_log
 from netrev_go.log.points import KINDS, Log, Point
-from netrev_go.log.ran import ENDING, Tests, of_log
+from netrev_go.log.tests_in_log import ENDING, Tests, of_log
 from netrev_go.steps import forms, report
-from netrev_go.steps.converting import ReadLog, RecordingOptions, convert, converted
+from netrev_go.steps.conversion import ReadLog, RecordingOptions, convert, converted
 from netrev_go.steps.forms import TestResult
 from netrev_go.steps.report import Conversion
 

@@ -7,9 +7,9 @@ import random
 from pathlib import Path
 from typing import Any, Optional
 
-from netrev.text.writing import write_plain
+from netrev.text.writer import write_plain
 from nrdb.dap.adapter import Adapter
-from nrdb.dap.hearing import Reading
+from nrdb.dap.message_reader import Reading
 from nrdb.dap.view.messages import EditorStreams, MalformedMessageError
 
 from .companion import line_of

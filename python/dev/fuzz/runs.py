@@ -15,10 +15,10 @@ Difference = tuple[Printed, Printed]  # the outputs of the program and of the mo
 TIMEOUT = 120
 
 
-def wanted(case: Case, met: Met) -> Optional[Printed]:
+def wanted(case: Case, counts: Met) -> Optional[Printed]:
     """The model's output, or None if the model doesn't predict it."""
-    want = printed(case.program, case.recording, case.script, met)
-    met.doubted += want is None
+    want = printed(case.program, case.recording, case.script, counts)
+    counts.doubted += want is None
     return want
 
 
@@ -36,13 +36,13 @@ def output_of(netrev: str, case: Case, folder: Path) -> Printed:
     return Printed(ended.returncode, ended.stdout, wrong)
 
 
-def difference(netrev: str, case: Case, folder: Path, met: Met) -> Optional[Difference]:
+def difference(netrev: str, case: Case, folder: Path, counts: Met) -> Optional[Difference]:
     """The outputs of netrev and the model for a case if they differ, or the fault of a session of nrdb; None if there
     is no difference or fault."""
     if case.program == "nrdb":
-        wrong = companion.played(netrev, case, folder, met)
+        wrong = companion.played(netrev, case, folder, counts)
         return (Printed(0, b"", wrong), Printed(0, b"")) if wrong else None
-    want = wanted(case, met)
+    want = wanted(case, counts)
     if want is None:
         return None
     tells = output_of(netrev, case, folder)

@@ -10,7 +10,7 @@ from typing import Any
 
 from netrev.connection.output import TextPrinter
 from netrev.recording.where import SourceLines
-from netrev.text.writing import write_plain
+from netrev.text.writer import write_plain
 
 from .generators.damage import damaged
 from .generators.random_steps import Author

@@ -17,7 +17,7 @@ from netrev.recording.recording import Recording
 from netrev.recording.where import SourceLines
 from netrev_go.go_command.running import LOG
 from netrev_go.go_command.toolchain import Go
-from netrev_go.steps.converting import RecordingOptions, convert
+from netrev_go.steps.conversion import RecordingOptions, convert
 
 PATIENCE = 120  # seconds that a program may run
 

@@ -22,7 +22,7 @@ from netrev.machine.steps import apply
 from netrev.recording.recording import Recording
 from netrev.text.contents import Limits
 from netrev.text.vocabulary import KINDS
-from netrev.text.writing import line_of
+from netrev.text.writer import line_of
 
 from .explored import read
 
@@ -80,9 +80,9 @@ def main() -> int:
     print(f"|---|{'--:|' * (3 + len(counts))}")
     for name, recording in recordings(options.recordings):
         row = [pace(recording, options.schedules, count) for count in counts]
-        played, found, _ = row[0]
+        schedules, found, _ = row[0]
         cells = " | ".join(f"{count / max(seconds, 0.001):,.0f}" for count, _, seconds in row)
-        print(f"| {name} | {recording.length:,} | {played:,} | {found} | {cells} |", flush=True)
+        print(f"| {name} | {recording.length:,} | {schedules:,} | {found} | {cells} |", flush=True)
     return 0
 
 

@@ -8,7 +8,7 @@ import subprocess
 
 from netrev.text.plain import plain
 from netrev_go.go_command.toolchain import Go
-from netrev_go.trying import ready
+from netrev_go.release_check import ready
 
 from .suites import DEBIAN, SAMPLES, Suite
 

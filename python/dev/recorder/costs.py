@@ -27,7 +27,7 @@ from netrev.text.plain import plain
 from netrev_go.go_command.running import logs_folder
 from netrev_go.go_command.toolchain import Go, RecorderError, release_of
 from netrev_go.log.logfile import HEADER_BYTES, POINT_BYTES, Header
-from netrev_go.trying import ready
+from netrev_go.release_check import ready
 
 from .building import environment
 from .fetching import chosen
@@ -35,7 +35,7 @@ from .suites import SAMPLES
 
 HERE = pathlib.Path(__file__).resolve().parents[3]
 OVERLAY = (
-    "from netrev_go.go_command.toolchain import find_go; from netrev_go.trying import ready; print(ready(find_go()))"
+    "from netrev_go.go_command.toolchain import find_go; from netrev_go.release_check import ready; print(ready(find_go()))"
 )
 
 # The environment for each setting; None means without the overlay.

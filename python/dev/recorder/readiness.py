@@ -9,7 +9,7 @@ import re
 from dataclasses import asdict, dataclass
 
 from netrev_go.go_command.toolchain import Go, RecorderError, fit, overlay
-from netrev_go.trying import trial
+from netrev_go.release_check import trial
 
 KEPT = "standing.json"
 FITS = "fits "  # the beginning of a line for a rule that fits

@@ -27,13 +27,13 @@ import time
 from dataclasses import replace
 
 from netrev.messages import recorder as messages
-from netrev.system.built import netrev_program
+from netrev.system.program_path import netrev_program
 from netrev_go.go_command.running import LOG, logs_folder
 from netrev_go.go_command.toolchain import Go, RecorderError, find_go, is_tried
 from netrev_go.log.logfile import NotALogError, read_log
 from netrev_go.steps.analysis import Analysis, check
 from netrev_go.steps.compare import differing
-from netrev_go.steps.making import NoSocketError, NothingRecordedError, UnconvertibleError, make, write, write_words
+from netrev_go.steps.recording_builder import NoSocketError, NothingRecordedError, UnconvertibleError, make, write, write_words
 
 from . import suites
 from .building import built, built_sample, environment, source_folder, tests_of
@@ -194,12 +194,12 @@ def of_release(name: str, options: argparse.Namespace, netrev: str | None) -> li
     else:
         go = chosen(name)
         state = "tested before" if is_tried(go.version) else "not tested before"
-        stands = standing_of(go)
-        say(f"{go.version} ({state}): {stands.trial}")
-        if not stands.is_good:
-            raise RecorderError(messages.RELEASE_UNRECORDED.format(release=go.version, why=stands.trial))
+        readiness = standing_of(go)
+        say(f"{go.version} ({state}): {readiness.trial}")
+        if not readiness.is_good:
+            raise RecorderError(messages.RELEASE_UNRECORDED.format(release=go.version, why=readiness.trial))
         recorder = Recorder(go, name or go.version, options)
-        stands.keep(recorder.out)
+        readiness.keep(recorder.out)
         recorder.all()
         results = recorder.results
     if netrev and not options.record:

@@ -82,10 +82,10 @@ OF_RELEASES = (
 )  # fmt: skip
 
 
-def of_release(row: list[Result], stands: Readiness | None) -> list[str]:
+def of_release(row: list[Result], readiness: Readiness | None) -> list[str]:
     """The figures of a release: its state, and the recordings of its samples and tests with their results."""
     samples = sum(result.suite.startswith("samples/") for result in row)
-    return [*(stands.cells() if stands else "???"), f"{samples:,}", f"{len(row) - samples:,}", *counted(row)[1:]]
+    return [*(readiness.cells() if readiness else "???"), f"{samples:,}", f"{len(row) - samples:,}", *counted(row)[1:]]
 
 
 def counted(row: list[Result]) -> list[str]:

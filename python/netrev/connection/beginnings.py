@@ -17,7 +17,7 @@ class SessionParts(Protocol):
     netrev: Netrev
     recording: Optional[Recording]
     printer: Printer
-    stood: int
+    known_position: int
 
     def ask(self, line: str) -> str:
         """The first line of netrev's reply."""
@@ -39,15 +39,15 @@ def begin_words(recording: Recording) -> str:
     return messages.BEGINS_IN_THE_MIDDLE.format(steps=begins) if begins else ""
 
 
-def tell_begin(session: SessionParts, reply: str) -> None:
+def report_begin(session: SessionParts, reply: str) -> None:
     """Goes to the beginning of the recording, and prints the position. A shared session keeps its position. `reply` is
     netrev's reply to `info position`."""
     recording = session.recording
-    if recording and begins_at(recording) and session.stood == 0 and isinstance(session.netrev, Own):
+    if recording and begins_at(recording) and session.known_position == 0 and isinstance(session.netrev, Own):
         go_to(begins_at(recording), session.ask)
         reply = session.ask("info position")
-        session.stood = position_of(reply).position
+        session.known_position = position_of(reply).position
     session.printer.reply("info position", Reply(reply), "")
-    session.printer.place(session.place(session.stood))
+    session.printer.place(session.place(session.known_position))
     if recording and (words := begin_words(recording)):
         session.printer.note(words)

@@ -6,8 +6,8 @@ from collections import Counter
 from dataclasses import replace
 from typing import Any, Callable, Iterator, NamedTuple, Optional
 
-from netrev.findings.suspects.found import Suspect
-from netrev.findings.suspects.loading import LEFT_BEHIND, LOST_WAKE_UP, TAKEN_BACK, WRITE_AFTER_SHUT
+from netrev.findings.suspects.suspect import Suspect
+from netrev.findings.suspects.rule_loader import LEFT_BEHIND, LOST_WAKE_UP, TAKEN_BACK, WRITE_AFTER_SHUT
 from netrev.findings.suspects.ranking import suspects_of
 from netrev.machine.machine import Status, World
 from netrev.run.changes import PlayedSteps

@@ -2,7 +2,7 @@
 
 from typing import Optional
 
-from netrev.findings.suspects.loading import LOST_WAKE_UP
+from netrev.findings.suspects.rule_loader import LOST_WAKE_UP
 from netrev.recording.call import Call
 from netrev.recording.recording import Recording
 from netrev.run.index import RunIndex

@@ -3,7 +3,7 @@
 from typing import Callable, Iterator, Optional
 
 from netrev.text.contents import Answer, Contents, Step
-from netrev.text.reading import FaultError
+from netrev.text.parser import FaultError
 
 from .machine import StepRefusedError, World
 from .observer import Observer

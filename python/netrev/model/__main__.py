@@ -8,7 +8,7 @@ import sys
 from pathlib import Path
 
 from netrev.machine.observer import Observer
-from netrev.text.reading import FaultError
+from netrev.text.parser import FaultError
 
 from .program import printed, replay
 from .session import ModelSession, recording_of

@@ -7,9 +7,9 @@ from netrev.machine.in_place import Machine
 from netrev.machine.machine import World
 from netrev.machine.observer import Observer
 from netrev.machine.replay import answers
-from netrev.text.reading import FaultError, read_text
+from netrev.text.parser import FaultError, read_text
 
-from .changed import changed_cells
+from .step_changes import changed_cells
 
 
 def lines_of(machine: Machine, number: int) -> list[str]:

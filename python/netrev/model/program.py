@@ -9,8 +9,8 @@ from netrev.machine.observer import Observer
 from netrev.machine.replay import positions
 from netrev.text.contents import Answer, Contents as Text
 from netrev.text.jsontext import DoubtfulNumberError
-from netrev.text.reading import FaultError, read_text
-from netrev.text.writing import write_plain
+from netrev.text.parser import FaultError, read_text
+from netrev.text.writer import write_plain
 
 from .changes import changes
 from .session import ModelSession, recording_of, replies_to

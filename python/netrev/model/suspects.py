@@ -18,7 +18,7 @@ from netrev.machine.machine import GONE, SIDES, World, at
 from netrev.machine.observer import Observer
 from netrev.machine.replay import positions
 from netrev.text.contents import Answer, Step
-from netrev.text.reading import FaultError, read_text
+from netrev.text.parser import FaultError, read_text
 
 PASSED_DEADLINE, TIMEOUT, TAKEN_BACK = "passed-deadline", "timeout", "taken-back"
 LOST_WAKE_UP, ASLEEP, HELD_REFERENCE = "lost-wakeup", "asleep", "held-reference"
@@ -70,14 +70,14 @@ def suspects(recording: bytes, observer: Observer, hunts: Sequence[str] = HUNTS)
 def suspect_lines(replayed: ReplayedStates, hunts: Sequence[str] = HUNTS) -> list[str]:
     """The lines of these hunts, without the final line."""
     at_the_end = (*lost_wake_ups(replayed), *asleep(replayed), *held_references(replayed))
-    lines = [*came_of_deadlines(replayed), *at_the_end]
+    lines = [*outcomes_of_deadlines(replayed), *at_the_end]
     return [line for line in lines if line.split()[2] in hunts]
 
 
 # deadlines
 
 
-def came_of_deadlines(replayed: ReplayedStates) -> Iterator[str]:
+def outcomes_of_deadlines(replayed: ReplayedStates) -> Iterator[str]:
     """The findings about deadlines, step by step, with reading before writing."""
     for n in range(1, replayed.end + 1):
         yield from passed_deadlines(replayed, n)

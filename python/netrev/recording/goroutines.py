@@ -202,8 +202,8 @@ class AllGoroutines:
             return (number if number in stacks else 0 for number in numbers)
 
         if "goroutines" in line:
-            goids, numbers, made, *rest = columns(line["goroutines"], OF_GOROUTINE)
-            of_calls = (calls[number] if number else None for number in made)
+            goids, numbers, starts, *rest = columns(line["goroutines"], OF_GOROUTINE)
+            of_calls = (calls[number] if number else None for number in starts)
             self.goroutines.update(zip(goids, map(GoGoroutine._make, zip(goids, numbers, of_calls, *rest))))
             self._goids.update((number, goid) for goid, number in zip(goids, numbers) if number >= 0)
         elif "parks" in line:

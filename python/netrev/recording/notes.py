@@ -121,7 +121,7 @@ class Use:
         """The setting that a step made."""
         return self.settings[bisect_left(self.settings, (step,))]
 
-    def setting_behind(self, side: str, step: int) -> Optional[Setting]:
+    def setting_after(self, side: str, step: int) -> Optional[Setting]:
         """The first setting of a side after a step."""
         later = range(bisect_left(self.settings, (step + 1,)), len(self.settings))
         return next((self.settings[at] for at in later if side in self.settings[at].mode), None)

@@ -1,6 +1,6 @@
 """The output of `netrev suspects FILE` for a recording: each line as netrev printed it, and its meaning. netrev is
 started only once. If netrev is too old to have this command, or fails, the list is empty; then the rules of `info
-suspects` use nrdb's own notes (`suspects/reckoned.py`)."""
+suspects` use nrdb's own notes (`suspects/computed_facts.py`)."""
 
 import re
 import subprocess
@@ -92,13 +92,13 @@ class SuspectEntries:
             goroutine, d, reading, writing = found.groups()
             self.asleep[int(goroutine), int(d), reading or writing] = line
 
-    def _take_deadline(self, line: str, step: str, came: Optional[str], g: str, d: str, side: str, *due: str) -> None:
+    def _take_deadline(self, line: str, step: str, event: Optional[str], g: str, d: str, side: str, *due: str) -> None:
         set_at, set_by, sides, moved_at, moved_by = due
         setting, moved = By(int(set_at), int(set_by)), By(int(moved_at), int(moved_by)) if moved_at else None
-        found = OfDeadline(line, int(step), int(g) if came else None, int(d), side, setting, sides, moved)
-        if came is None:
+        found = OfDeadline(line, int(step), int(g) if event else None, int(d), side, setting, sides, moved)
+        if event is None:
             self.passed_deadlines.append(found)
-        elif came == "timeout":
+        elif event == "timeout":
             self.timeouts[found.step] = found
         else:
             self.taken_back[found.step, found.descriptor, side] = found

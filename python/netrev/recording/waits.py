@@ -9,7 +9,7 @@ from typing import Iterable, Iterator, NamedTuple, Optional
 from .goroutines import A_MUTEX, A_RECEIVER, A_SLEEP, A_WAIT_GROUP, ROOM, STILL, At, Park
 from .recording import Recording
 from .where import RecordedWait, SourceLines, Stack
-from .words import duration
+from .cell_meanings import duration
 
 MOST_NUMBERS = 8  # the maximum number of goroutines that are listed by number
 LAST_USE, A_CONNECTION, A_RESPONSE, ALL_REQUESTS = (

@@ -173,8 +173,8 @@ class SourceLines(AllGoroutines):
         if "call" in line:
             self._calls[line["call"]] = SourceCall(*(typed(line[name], sort) for name, sort in OF_CALL.items()))
         elif "stack" in line:
-            made = self._calls[line["made"]] if "made" in line else None
-            self.stacks[line["stack"]] = Stack(tuple(self._calls[number] for number in line["calls"]), made)
+            started_by = self._calls[line["made"]] if "made" in line else None
+            self.stacks[line["stack"]] = Stack(tuple(self._calls[number] for number in line["calls"]), started_by)
         elif "orders" in line:
             self.orders = [] if self.orders is None else self.orders
             self.orders += [(typed(first, int), typed(second, int)) for first, second in line["orders"]]
@@ -205,14 +205,14 @@ class SourceLines(AllGoroutines):
         elif line["step"] == len(self.steps) + 1:
             numbers = line["stacks"]
             are_known = self.stacks.keys() >= set(numbers)  # (usually all thousand numbers are known)
-            self.steps.extend(numbers if are_known else (one if one in self.stacks else 0 for one in numbers))
+            self.steps.extend(numbers if are_known else (number if number in self.stacks else 0 for number in numbers))
 
     def _add_of_sockets(self, line: dict[str, Any]) -> None:
         """Adds a line about sockets: the two ends of connections, their names and addresses, or errors of the
         system."""
         if "ends" in line:
-            for one, own, other in line["ends"]:
-                self.ends[typed(one, int)] = typed(own, int), typed(other, int)
+            for end, own, other in line["ends"]:
+                self.ends[typed(end, int)] = typed(own, int), typed(other, int)
         elif "addresses" in line:
             for socket, name, peer in line["addresses"]:
                 self.addresses[typed(socket, int)] = typed(name, str), typed(peer, str)
@@ -221,8 +221,8 @@ class SourceLines(AllGoroutines):
         elif "sizes" in line:
             self.sizes.update((typed(step, int), typed(size, int)) for step, size in line["sizes"])
         elif "peers" in line:
-            for one, other in line["peers"]:
-                self.peers[typed(one, int)], self.peers[typed(other, int)] = other, one
+            for end, other in line["peers"]:
+                self.peers[typed(end, int)], self.peers[typed(other, int)] = other, end
         else:
             self.errors.update((typed(step, int), typed(name, str)) for step, name in line["errors"])
 

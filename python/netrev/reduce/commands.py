@@ -8,7 +8,7 @@ from netrev.recording.recording import Recording
 from netrev.session.files import spare, written
 from netrev.session.session import Session, UsageError
 from netrev.timeline.page import show_progress, write_page
-from netrev.timeline.picture import PageSources
+from netrev.timeline.page_contents import PageSources
 
 from .reduced import reduced, wanted_by
 from .report import hang_report, report_of, story_of

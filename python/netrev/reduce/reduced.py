@@ -132,7 +132,7 @@ def _last_with(session: Session, cell: str, value: str) -> int:
     def is_wanted(shown: str) -> bool:
         return shown != "absent" and (fnmatchcase(shown, value) or fnmatchcase(session.words_of(cell, shown), value))
 
-    for position in (session.stands().position, length):
+    for position in (session.current_position().position, length):
         if is_wanted(changes.value(cell, position)):
             return position
     found: Optional[int] = changes.nearest([cell], lambda values: is_wanted(values[0]), length, True)

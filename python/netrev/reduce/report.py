@@ -12,8 +12,8 @@ from netrev.connection.beginnings import begin_words
 from netrev.connection.netrev import Own
 from netrev.connection.output import Table
 from netrev.connection.scout import Scout
-from netrev.findings.causes.first import failures_of
-from netrev.findings.hangs.hang_words import hang_looks, hang_says, tree_lines
+from netrev.findings.causes.first_output import failures_of
+from netrev.findings.hangs.hang_words import hang_queries, hang_sentences, tree_lines
 from netrev.findings.hangs.wait_graph import graph_at
 from netrev.findings.suspects.table import suspects_table
 from netrev.recording.answers import answer_text
@@ -23,13 +23,13 @@ from netrev.recording.waits import Name
 from netrev.recording.where import OF_THE_PROGRAM, stack_lines
 from netrev.run.changes import read_with_changes
 from netrev.session.session import Session, UsageError
-from netrev.session.source import source_of, text_round
+from netrev.session.source import source_of, text_around
 from netrev.system.command_lines import file_word
 from netrev.text.plain import plain
 from netrev.text.vocabulary import OF_A_GOROUTINE
 from netrev.timeline.calls import Data
 from netrev.timeline.page import show_progress, write_page
-from netrev.timeline.picture import PageSources
+from netrev.timeline.page_contents import PageSources
 from netrev.timeline.sequence import sequence
 from netrev.timeline.stories import suspects_data
 from netrev.views.calls import Subject, calls_table
@@ -175,10 +175,10 @@ def story_of(session: Session) -> Optional[Story]:
         return None
     says = [line for cause in failed[:1] for line in cause.says]
     names = [Name(cause.call.goroutine) for cause in failed[:1]]
-    looks = failed[0].looks if failed else hang_looks(hangs[0])
+    looks = failed[0].looks if failed else hang_queries(hangs[0])
     tree: list[str] = []
     for hang in hangs[:1]:
-        says += hang_says(graph, hang)
+        says += hang_sentences(graph, hang)
         tree += tree_lines(graph, hang)
         names += [waiter.name for waiter in hang.roots]
         names += [need.by for need in hang.needs if need.by]
@@ -217,7 +217,7 @@ def of_goroutine(session: Session, name: Name) -> list[str]:
     parts = [f"## {str(name)[0].upper()}{str(name)[1:]}", f"{shown(found.does)}."]
     parts += [block(stack_lines(found.stack))] if found.stack.calls else []
     own = next((call for call in found.stack.calls if call.of == OF_THE_PROGRAM), None)
-    source = text_round(recording, source_of(own.file, session.path), own.line) if own else []
+    source = text_around(recording, source_of(own.file, session.path), own.line) if own else []
     parts += [block(source)] if source else []
     calls = (
         [] if name.is_goid else calls_table(recording, Subject("gor", name.number), recording.length, MOST_CALLS).rows

@@ -4,11 +4,11 @@ from abc import ABC, abstractmethod
 from fnmatch import fnmatchcase
 from typing import Optional, Sequence
 
-from netrev.findings.suspects.found import Suspect
+from netrev.findings.suspects.suspect import Suspect
 from netrev.findings.suspects.ranking import suspects_of
 from netrev.machine.cells import value as value_of_cell
 from netrev.machine.machine import INSIDE
-from netrev.recording.words import in_words
+from netrev.recording.cell_meanings import in_words
 from netrev.run.changes import PlayedSteps
 from netrev.text.vocabulary import CELLS, Of
 

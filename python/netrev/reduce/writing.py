@@ -14,7 +14,7 @@ from netrev.session.files import spare, written
 from netrev.session.session import UsageError
 from netrev.text.contents import Answer, Limits, Step
 from netrev.text.files import forget_where
-from netrev.text.writing import line_of
+from netrev.text.writer import line_of
 
 from .replay import ReplayPlayer
 

@@ -42,7 +42,7 @@ from netrev.recording.notes import (
     new,
 )
 from netrev.recording.recording import Recording
-from netrev.system.long_passes import without_collections
+from netrev.system.garbage_collection import without_collections
 from netrev.text.vocabulary import OF_A_GOROUTINE
 
 from .changes import changes_of
@@ -325,10 +325,10 @@ WAITING = 1 << 23
 
 
 def arrived(notes: Notes, s: int, digits: str) -> Note:
-    inputs, came, value_of, cell = notes.inputs, notes.arrived, notes.values.get, f" in {s}"
+    inputs, arrivals, value_of, cell = notes.inputs, notes.arrived, notes.values.get, f" in {s}"
 
     def note(step: int, number: str) -> None:
-        came[s] = step
+        arrivals[s] = step
         if shown := value_of(number + cell):
             inputs[s] = int(shown)
 

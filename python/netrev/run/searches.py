@@ -8,7 +8,7 @@ from typing import Collection, Iterator, NamedTuple
 
 from netrev.recording.changes import RecordedChanges
 from netrev.recording.recording import Recording, Step
-from netrev.recording.words import LockWord
+from netrev.recording.cell_meanings import LockWord
 from netrev.text.vocabulary import OF_A_GOROUTINE
 
 Lock = tuple[int, str]  # a socket and a side

@@ -8,7 +8,7 @@ from netrev.connection.output import Row, Table
 from netrev.machine.deadlines import DeadlineTimer as Armed, Deadlines
 from netrev.machine.polling import deadline_of
 from netrev.recording.recording import Recording, Step
-from netrev.recording.words import SIDES
+from netrev.recording.cell_meanings import SIDES
 
 # steps that arm, stop and run timers, and steps that reuse descriptors or advance the clock
 FOLLOWED = frozenset(("pollopen", "pollclose", "setdeadline", "evict", "tick", "pop", "fire"))
@@ -45,21 +45,21 @@ class Following:
         """Processes a step, and returns the timer that it pops or runs."""
         deadlines = self._deadlines
         match kind, *arguments:
-            case "tick", time:
+            case ["tick", time]:
                 self._clock = time
-            case "pollopen", _, s:
+            case ["pollopen", _, s]:
                 d = self._free.pop() if self._free else len(self._sockets)
                 self._sockets[d] = s
                 deadlines.open(d)
-            case "pollclose", _, d:
+            case ["pollclose", _, d]:
                 self._free.append(d)
-            case "evict", _, d:
+            case ["evict", _, d]:
                 deadlines.evict(d)
-            case "setdeadline", g, d, mode, time:
+            case ["setdeadline", g, d, mode, time]:
                 deadlines.set(d, mode, deadline_of(self._clock, time), (self._sockets[d], number, g))
             case ("pop",):
                 return _timer(deadlines.pop(), False)
-            case "fire", place:
+            case ["fire", place]:
                 return _timer(*deadlines.fire(place))
         return None
 

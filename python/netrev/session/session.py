@@ -3,7 +3,7 @@
 from dataclasses import dataclass, field
 from typing import Callable, Mapping, Optional, Sequence
 
-from netrev.connection.beginnings import tell_begin
+from netrev.connection.beginnings import report_begin
 from netrev.connection.errors import MismatchedRecordingError, UsageError, needed, unexpected
 from netrev.connection.netrev import Joined, Netrev, NetrevEndedError, Reply
 from netrev.connection.output import Printer, SessionPosition, displays_table
@@ -27,7 +27,7 @@ from netrev.messages import session as messages
 from netrev.recording.changes import RecordedChanges
 from netrev.recording.recording import NotARecordingError, Recording
 from netrev.recording.waits import Name
-from netrev.recording.words import absent_words, dump_words, in_words
+from netrev.recording.cell_meanings import absent_words, dump_words, in_words
 from netrev.system.interrupts import Interrupts, SearchInterruptedError, SessionAbandonedError
 from netrev.text.text_files import lines_of_script
 from netrev.text.vocabulary import cell_of
@@ -57,7 +57,7 @@ class Session:
     answers: Mapping[str, Answering]
     displays: list[str] = field(default_factory=list)
     attached: Attached = field(default_factory=Attached)
-    stood: int = 0
+    known_position: int = 0
     length: int = 0
     depth: int = 0
     program: str = ""  # netrev's program, and the recording's file, if known
@@ -77,18 +77,18 @@ class Session:
     def begin(self, reply: str) -> None:
         """Prints the position that netrev's first reply gives; raises MismatchedRecordingError if the session has a different
         recording."""
-        self.stood, self.length, _ = position_of(reply)
+        self.known_position, self.length, _ = position_of(reply)
         if self.recording and self.recording.length != self.length:
             raise MismatchedRecordingError(
                 messages.OTHER_RECORDING.format(steps=self.recording.length, length=self.length)
             )
-        tell_begin(self, reply)
+        report_begin(self, reply)
 
     def ask(self, line: str) -> str:
         """The first line of netrev's reply."""
         return self.netrev.ask(line).first
 
-    def stands(self) -> Position:
+    def current_position(self) -> Position:
         """The position, the number of steps and the direction."""
         return position_of(self.ask("info position"))
 
@@ -101,7 +101,7 @@ class Session:
 
     def world(self) -> PositionValues:
         """The objects at the position."""
-        return PositionValues(self.netrev, self.text(), self.stands().position)
+        return PositionValues(self.netrev, self.text(), self.current_position().position)
 
     def text(self) -> Recording:
         """The recording; raises UsageError if a session was joined without a recording."""
@@ -142,19 +142,19 @@ class Session:
         for part in parts_of(line):
             if self.attached.takes(part):
                 continue
-            if not self.attempt_one(part):
+            if not self.attempt_line(part):
                 return False
             while self.attached.pending:
                 self.interrupts.check()
                 self.printer.echo(self.attached.pending[0])
-                if not self.attempt_one(self.attached.pending.popleft()):
+                if not self.attempt_line(self.attached.pending.popleft()):
                     return False
         return True
 
-    def attempt_one(self, line: str) -> bool:
+    def attempt_line(self, line: str) -> bool:
         """Answers a command, or prints its error. Returns False if the session has ended."""
         try:
-            self.tell_of_others()
+            self.report_others()
             return self.answer(line)
         except (AmbiguousWordError, ScoutUnavailableError, UsageError) as wrong:
             self.printer.note(str(wrong))
@@ -185,13 +185,13 @@ class Session:
         """Sends a line to netrev, and shows netrev's reply. A line that netrev knows is sent as it was typed."""
         sent = " ".join(words) if words[0] in COMMANDS else line
         # (a stop deletes the temporary breaks that hit, so the marks are listed before the move)
-        stood = self.netrev.marks() if words[0] in STOPPING and self.recorded else []
+        marks_before = self.netrev.marks() if words[0] in STOPPING and self.recorded else []
         reply = self.stop_of(sent) if words[0] in STOPPING else self.netrev.ask(sent)
         self.show(line, reply, words[0] == "dump")
         if MOVED.fullmatch(reply.first):
             move = move_of(sent, reply.first)
-            self.arrive(move.position, self.holding(move.marks), stood)
-            self.tell_breaks(words[0], move.position)
+            self.arrive(move.position, self.holding(move.marks), marks_before)
+            self.report_breaks(words[0], move.position)
         elif reply.first.startswith("fault"):
             self.printer.note(hint(words, reply.first))
         elif words == ["info", "breakpoints"]:
@@ -218,7 +218,7 @@ class Session:
                 return reply
             if self.holding(move.marks) or self.breaks.at(move.position):
                 return reply
-            self.stood = move.position
+            self.known_position = move.position
             self.interrupts.check()
 
     def holding(self, marks: Sequence[str]) -> list[str]:
@@ -237,12 +237,12 @@ class Session:
         if not self.breaks.standing or not MOVED.fullmatch(reply.first):
             return reply
         position = move_of(sent, reply.first).position
-        near = self.breaks.nearest(self.stood, position > self.stood)
-        if near is None or (near - position) * (position - self.stood) >= 0:
+        near = self.breaks.nearest(self.known_position, position > self.known_position)
+        if near is None or (near - position) * (position - self.known_position) >= 0:
             return reply
         return Reply(self.go(near))
 
-    def tell_breaks(self, name: str, position: int) -> None:
+    def report_breaks(self, name: str, position: int) -> None:
         """Prints the breaks of the program that stop at a position, after a move to a break."""
         for hit in self.breaks.hit(position) if name in STOPPING else ():
             self.is_before = True
@@ -260,20 +260,20 @@ class Session:
             return absent_words(cell, self.recording.limits if self.recording else {})
         return dump_words(cell, value) if is_dump else in_words(cell, value) if cell_of(cell.split()) else ""
 
-    def arrive(self, position: int, numbers: Sequence[str] = (), stood: Sequence[ListedMark] = ()) -> None:
+    def arrive(self, position: int, numbers: Sequence[str] = (), marks_before: Sequence[ListedMark] = ()) -> None:
         """Prints the position after a move, the marks that were hit, and the changes made by the last step. `stood` are the
         marks listed before the move."""
-        self.stood, self.frame, self.is_before, self.goroutine = position, None, False, None
+        self.known_position, self.frame, self.is_before, self.goroutine = position, None, False, None
         self.attached.hits(numbers)
         self.printer.place(self.place(position))
         if self.recorded and self.recording:
-            for table in tables_beside(self.recorded, self.recording, position, self.hit(numbers, stood)):
+            for table in tables_beside(self.recorded, self.recording, position, self.hit(numbers, marks_before)):
                 self.printer.table(table)
         self.show_displays()
 
-    def hit(self, numbers: Sequence[str], stood: Sequence[ListedMark]) -> list[ListedMark]:
+    def hit(self, numbers: Sequence[str], marks_before: Sequence[ListedMark]) -> list[ListedMark]:
         """The marks with these numbers, as they are listed now or were listed before the move."""
-        listed = {mark.number: mark for mark in [*stood, *self.netrev.marks()]} if numbers else {}
+        listed = {mark.number: mark for mark in [*marks_before, *self.netrev.marks()]} if numbers else {}
         return [listed[number] for number in numbers if number in listed]
 
     def show_displays(self) -> None:
@@ -281,15 +281,15 @@ class Session:
         if self.displays:
             self.printer.table(displays_table(self.displays, self.netrev.values(self.displays), self.words_of))
 
-    def tell_of_others(self) -> None:
+    def report_others(self) -> None:
         """In a shared session, prints the position if another user has moved it."""
         if not isinstance(self.netrev, Joined):
             return
         reply = self.ask("info position")
-        if POSITION.fullmatch(reply) and (now := position_of(reply).position) != self.stood:
-            self.printer.note(messages.SOMEONE_MOVED.format(before=self.stood, now=now))
+        if POSITION.fullmatch(reply) and (now := position_of(reply).position) != self.known_position:
+            self.printer.note(messages.SOMEONE_MOVED.format(before=self.known_position, now=now))
             self.printer.place(self.place(now))
-            self.stood = now
+            self.known_position = now
 
     def go(self, position: int) -> str:
         """Goes to the position in either direction, and returns the reply to the last command."""

@@ -16,7 +16,7 @@ def source_of(file: str, beside: str) -> Path:
     return Path(file) if os.path.isfile(file) or os.path.isabs(file) else Path(beside).parent / file
 
 
-def text_round(recording: Recording, path: Path, line: int) -> list[str]:
+def text_around(recording: Recording, path: Path, line: int) -> list[str]:
     """The source around a line, which is marked, and whether the file has changed since the recording."""
     lines = lines_of(path)
     if lines is None:

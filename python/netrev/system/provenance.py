@@ -7,7 +7,7 @@ from typing import Optional
 
 from netrev.text.plain import plain
 
-from .built import BUILT, INSTALLED
+from .program_path import BUILT, INSTALLED
 from .command_lines import PACKAGES, how_to_get_netrev
 
 PROVED = (

@@ -10,7 +10,7 @@ from operator import sub
 from typing import Any, Optional
 
 from netrev.findings.evidence.waiters import is_waiting
-from netrev.findings.evidence.words import is_by_go, name_of, short
+from netrev.findings.evidence.call_words import is_by_go, name_of, short
 from netrev.recording.call import Call, Outcome
 from netrev.recording.recording import Recording
 from netrev.recording.where import OF_THE_PROGRAM, Stack

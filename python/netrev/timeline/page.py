@@ -15,12 +15,12 @@ from netrev.run.changes import read_with_changes
 from netrev.session.files import writing
 from netrev.session.session import Session, UsageError
 from netrev.system.interrupts import Interrupts
-from netrev.system.long_passes import take_all_as_kept, without_collections
+from netrev.system.garbage_collection import take_all_as_kept, without_collections
 from netrev.text.plain import plain
 
 from .calls import Data
 from .cell_runs import Window
-from .picture import MOST, PageSources, collected
+from .page_contents import MOST, PageSources, collected
 
 PAGE = Path(__file__).parents[1] / "page"
 of_json = json.JSONEncoder(separators=(",", ":")).encode

@@ -3,7 +3,7 @@ apart without colour."""
 
 from dataclasses import dataclass
 
-from netrev.recording.words import LockWord
+from netrev.recording.cell_meanings import LockWord
 from netrev.text.vocabulary import Of
 
 

@@ -5,11 +5,11 @@ from itertools import islice
 from typing import Iterator
 
 from netrev.connection.scout import Scout
-from netrev.findings.causes.failing import cause_of, failed_at
-from netrev.findings.causes.first import failures_of
-from netrev.findings.evidence.words import is_by_go
+from netrev.findings.causes.failed_calls import cause_of, failed_at
+from netrev.findings.causes.first_output import failures_of
+from netrev.findings.evidence.call_words import is_by_go
 from netrev.findings.finding import Cause
-from netrev.findings.hangs.hang_words import hang_looks, hang_says
+from netrev.findings.hangs.hang_words import hang_queries, hang_sentences
 from netrev.findings.hangs.wait_graph import Hang, WaitGraph, graph_at
 from netrev.findings.suspects.ranking import all_suspects_of
 from netrev.findings.suspects.table import shown_of, suspects_table
@@ -67,7 +67,7 @@ def hang_data(graph: WaitGraph, hang: Hang, of: set[int]) -> Data:
         "s": root.call and root.call.socket,
         "d": root.call and root.call.descriptor,
     }
-    return story_data(graph.recording, HANGS, root.since, hang_says(graph, hang), hang_looks(hang), of) | about
+    return story_data(graph.recording, HANGS, root.since, hang_sentences(graph, hang), hang_queries(hang), of) | about
 
 
 def cause_data(recording: Recording, cause: Cause, of: set[int]) -> Data:

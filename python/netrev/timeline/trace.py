@@ -27,8 +27,8 @@ from netrev.text.vocabulary import OF_A_GOROUTINE
 
 from .calls import names_data
 from .cell_runs import Window
-from .events import GOROUTINES, NETWORK, Event, of_json
-from .events_beside import beside
+from .trace_events import GOROUTINES, NETWORK, Event, of_json
+from .other_trace_events import beside
 from .searched_cells import STATUSES, STATUSES_AND_CLOCK, searched
 
 COMPARED = 64  # the number of positions at which statuses are compared

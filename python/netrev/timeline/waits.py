@@ -2,7 +2,7 @@
 
 from typing import Any
 
-from netrev.findings.evidence.words import place_in, short
+from netrev.findings.evidence.call_words import place_in, short
 from netrev.findings.http.requests import requests_of
 from netrev.recording.recording import Recording
 from netrev.recording.waits import Name, ObjectWait, waits_of

@@ -8,7 +8,7 @@ from netrev.connection.output import Row, Table, Values
 from netrev.connection.shapes import ListedMark
 from netrev.recording.changes import RecordedChanges, value_at_start
 from netrev.recording.recording import Recording
-from netrev.recording.words import in_words
+from netrev.recording.cell_meanings import in_words
 from netrev.run.timers import timer_words, timers_beside
 from netrev.text.vocabulary import CELLS, Of
 

@@ -10,7 +10,7 @@ from netrev.connection.world import PositionValues
 from netrev.recording.recording import Step
 from netrev.recording.waits import Name, ObjectWait, of_names, waits_of
 from netrev.recording.where import Stack
-from netrev.recording.words import DOING, SIDES, LockWord, status_words
+from netrev.recording.cell_meanings import DOING, SIDES, LockWord, status_words
 from netrev.run.index import run_of
 from netrev.run.searches import Lock
 from netrev.text.plurals import counted

@@ -4,7 +4,7 @@ from typing import Iterable, Optional
 
 from netrev.connection.output import Row, Table, Values
 from netrev.connection.world import PositionValues
-from netrev.recording.words import SIDES, LockWord, info_words, lock_words
+from netrev.recording.cell_meanings import SIDES, LockWord, info_words, lock_words
 from netrev.run.index import run_of
 from netrev.run.searches import Reference
 from netrev.text.plurals import counted
@@ -22,13 +22,13 @@ def sockets_table(world: PositionValues, numbers: Optional[Iterable[int]] = None
     rows = []
     for number in every:
         queues = [world.queue(dump, number) for dump in ("rq", "wq")]
-        if is_all or numbers is not None or _says_something(cells[number], queues):
+        if is_all or numbers is not None or _has_meaning(cells[number], queues):
             rows.append(_socket_row(number, cells[number], queues, owners.get(number)))
     left = len(every) - len(rows)
     return Table("sockets", rows, rest_words(every, left, "socket", "more at rest: info sockets all"))
 
 
-def _says_something(values: list[str], queues: list[list[int]]) -> bool:
+def _has_meaning(values: list[str], queues: list[list[int]]) -> bool:
     """Whether a socket isn't at rest. A socket is at rest if no goroutine holds it or waits for it, and if it is closed
     or its input is empty."""
     if values[0] == "absent":

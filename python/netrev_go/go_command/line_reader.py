@@ -40,22 +40,22 @@ def build_line_reader(go: Go) -> pathlib.Path:
     """The program, built if it is missing; raises RecorderError if Go can't build it."""
     if shipped(go).exists():
         return shipped(go)
-    made = kept(go)
+    program = kept(go)
     try:
-        made.parent.mkdir(parents=True, exist_ok=True)
-        with (made.parent / "lock").open("w") as lock:
+        program.parent.mkdir(parents=True, exist_ok=True)
+        with (program.parent / "lock").open("w") as lock:
             fcntl.flock(lock, fcntl.LOCK_EX)
-            if not made.exists():  # no other process has built it meanwhile
-                part = made.with_name("part")
-                run = quiet_go(go, made.parent, "build", "-o", str(part), PACKAGE)
+            if not program.exists():  # no other process has built it meanwhile
+                part = program.with_name("part")
+                run = quiet_go(go, program.parent, "build", "-o", str(part), PACKAGE)
                 if run.returncode != 0:
                     raise RecorderError(
                         messages.READER_NOT_BUILT.format(package=PACKAGE, why=run.stderr.strip()[-600:])
                     )
-                part.rename(made)
+                part.rename(program)
     except OSError as fault:
-        raise RecorderError(messages.READER_UNWRITABLE.format(folder=made.parent, why=fault.strerror)) from None
-    return made
+        raise RecorderError(messages.READER_UNWRITABLE.format(folder=program.parent, why=fault.strerror)) from None
+    return program
 
 
 def prepare_line_reader(go: Go) -> None:

@@ -18,17 +18,17 @@ TRIED = 65_536  # bytes written to test whether the disk has room
 
 def base_name(given: str | None, otherwise: str = "recording") -> pathlib.Path:
     """The base name of a recording; raises RecorderError if the given name can't be one."""
-    said = otherwise if given is None else given
-    base = pathlib.Path(said.removesuffix(RECORDING))
+    name = otherwise if given is None else given
+    base = pathlib.Path(name.removesuffix(RECORDING))
     is_other = os.path.exists(base) and not (os.path.isfile(base) or os.path.isdir(base))  # a device, a pipe
-    if base.name in ("", "..") or said.endswith("/") or is_other:
-        raise RecorderError(messages.NOT_A_NAME.format(name=said, ending=RECORDING))
+    if base.name in ("", "..") or name.endswith("/") or is_other:
+        raise RecorderError(messages.NOT_A_NAME.format(name=name, ending=RECORDING))
     return base
 
 
-def numbered(base: pathlib.Path, made: int) -> pathlib.Path:
+def numbered(base: pathlib.Path, number: int) -> pathlib.Path:
     """NAME.jsonl, NAME-2.jsonl, .."""
-    return base.with_name(base.name + (f"-{made}" if made > 1 else "") + RECORDING)
+    return base.with_name(base.name + (f"-{number}" if number > 1 else "") + RECORDING)
 
 
 def look(base: pathlib.Path) -> None:
@@ -58,7 +58,7 @@ def try_folder(base: pathlib.Path) -> None:
             tried.unlink()
 
 
-def look_folder(base: pathlib.Path) -> None:
+def check_folder(base: pathlib.Path) -> None:
     """Raises RecorderError if recordings can't be written into that folder, which may not exist yet."""
     try:
         if base.exists() and not base.is_dir():

@@ -48,12 +48,12 @@ def limits_of(options: argparse.Namespace) -> RunLimits:
     return RunLimits(options.n, options.procs, options.points, not options.no_lines, not options.no_orders)
 
 
-def as_a_shell_has_it(status: int) -> int:
+def shell_status(status: int) -> int:
     """The exit status as a shell reports it: the command's own status, or a status for the signal that ended the command."""
     return status if status >= 0 else 128 - status
 
 
-def behind_the_folder(words: list[str], more: list[str]) -> list[str]:
+def relative_to_folder(words: list[str], more: list[str]) -> list[str]:
     """Go's command line with more flags at its beginning, but after -C DIR, which Go expects first."""
     name, is_set, _ = words[0].partition("=") if words else ("", "", "")
     length = (1 if is_set else 2) if name in ("-C", "--C") else 0

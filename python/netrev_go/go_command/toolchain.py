@@ -56,9 +56,9 @@ def find_go() -> Go:
     run = subprocess.run([program, "env", "-json"], capture_output=True, text=True, check=False)
     if run.returncode != 0:
         raise RecorderError(messages.GO_ENV_FAILED.format(why=run.stderr.strip()))
-    told = json.loads(run.stdout)
+    variables = json.loads(run.stdout)
     go = Go(
-        program, pathlib.Path(told["GOROOT"]), told["GOVERSION"], f"{told['GOOS']}/{told['GOARCH']}", told["GOFLAGS"]
+        program, pathlib.Path(variables["GOROOT"]), variables["GOVERSION"], f"{variables['GOOS']}/{variables['GOARCH']}", variables["GOFLAGS"]
     )
     if go.system != "linux/amd64":
         raise RecorderError(messages.OTHER_SYSTEM.format(system=go.system))
@@ -132,17 +132,17 @@ def fit(go: Go) -> tuple[bool, list[str]]:
 
 def overlay(go: Go) -> pathlib.Path:
     """The overlay for this Go, which is made if it doesn't exist. It exists only after Go has compiled it."""
-    made = cache() / key_of(go)
-    if not (made / OVERLAY).exists():
+    folder = cache() / key_of(go)
+    if not (folder / OVERLAY).exists():
         try:
-            made.mkdir(parents=True, exist_ok=True)
-            with (made / "lock").open("w") as lock:
+            folder.mkdir(parents=True, exist_ok=True)
+            with (folder / "lock").open("w") as lock:
                 fcntl.flock(lock, fcntl.LOCK_EX)
-                if not (made / OVERLAY).exists():  # no other process has made it meanwhile
-                    make_overlay(go, made)
+                if not (folder / OVERLAY).exists():  # no other process has made it meanwhile
+                    make_overlay(go, folder)
         except OSError as fault:
-            raise RecorderError(messages.CACHE_UNWRITABLE.format(folder=made, why=fault.strerror)) from None
-    return made / OVERLAY
+            raise RecorderError(messages.CACHE_UNWRITABLE.format(folder=folder, why=fault.strerror)) from None
+    return folder / OVERLAY
 
 
 def left_out(go: Go) -> list[str]:
@@ -150,10 +150,10 @@ def left_out(go: Go) -> list[str]:
     return (overlay(go).parent / LEFT_OUT).read_text().splitlines()
 
 
-def make_overlay(go: Go, made: pathlib.Path) -> None:
-    program = points_program(go, made)
+def make_overlay(go: Go, folder: pathlib.Path) -> None:
+    program = points_program(go, folder)
     run = subprocess.run(
-        [program, "overlay", go.sources(), SOURCES / "log", made], capture_output=True, text=True, check=False
+        [program, "overlay", go.sources(), SOURCES / "log", folder], capture_output=True, text=True, check=False
     )
     program.unlink()
     lines = run.stdout.splitlines()
@@ -162,8 +162,8 @@ def make_overlay(go: Go, made: pathlib.Path) -> None:
         unfit = [line for line in lines if line.startswith("unfit ")]
         head = messages.RULES_DONT_FIT.format(**words, netrev_go=command("netrev-go"))
         raise RecorderError(head + "\n".join([*unfit, run.stderr]).strip())
-    compiled = quiet_go(go, made, "build", "-overlay", str(made / NEW), *CHANGED)
+    compiled = quiet_go(go, folder, "build", "-overlay", str(folder / NEW), *CHANGED)
     if compiled.returncode != 0:
         raise RecorderError(messages.DOES_NOT_COMPILE.format(**words, why=compiled.stderr.strip()))
-    (made / LEFT_OUT).write_text("".join(f"{line}\n" for line in lines if line.startswith(WITHOUT)))
-    (made / NEW).rename(made / OVERLAY)
+    (folder / LEFT_OUT).write_text("".join(f"{line}\n" for line in lines if line.startswith(WITHOUT)))
+    (folder / NEW).rename(folder / OVERLAY)

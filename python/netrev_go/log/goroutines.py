@@ -286,9 +286,9 @@ class Passing:
     def _objects(self, what: int, at: int, b: int, c: int) -> tuple[At, ...]:
         """The objects of a wait, with the key of each channel instead of its address."""
         keys, objects = self._keys, objects_of(what, at, b, c)
-        if not any([one.address in keys for one in objects]):  # (as nearly always)
+        if not any([thing.address in keys for thing in objects]):  # (as nearly always)
             return objects
-        return tuple([At(keys.get(one.address, one.address), one.use) if one.use else one for one in objects])
+        return tuple([At(keys.get(thing.address, thing.address), thing.use) if thing.use else thing for thing in objects])
 
     def _parks(self, point: Point, step: int, time: int) -> None:
         """Records that a goroutine begins to wait. If it is already waiting, the log was damaged, and the earlier wait lasts to the end."""
@@ -360,8 +360,8 @@ def goroutines_of(
     found = passing.all()
     if holders is not None:
         found.held = [
-            LoggedMutex(one.address, one.goroutine, one.is_reader, one.stack, steps[made - 1][2] if made else 0)
-            for one in holders
-            for made in [bisect_left(steps, one.passed, key=itemgetter(0))]
+            LoggedMutex(holder.address, holder.goroutine, holder.is_reader, holder.stack, steps[index - 1][2] if index else 0)
+            for holder in holders
+            for index in [bisect_left(steps, holder.passed, key=itemgetter(0))]
         ]
     return found

@@ -55,12 +55,12 @@ def looked_up(
     program: pathlib.Path, reader: list[str], addresses: Iterable[int], moved: int
 ) -> dict[int, tuple[str, str, int]]:
     """The function, the file and the line at each address, by the command that reads lines."""
-    asked = sorted(set(addresses))
-    text = "".join(f"{address - moved:#x}\n" for address in asked if address >= moved)
+    wanted = sorted(set(addresses))
+    text = "".join(f"{address - moved:#x}\n" for address in wanted if address >= moved)
     run = subprocess.run([*reader, program], input=text, capture_output=True, text=True, check=False, errors="replace")
-    told = run.stdout.split("\n")
+    output = run.stdout.split("\n")
     found = {}
-    for address, function, place in zip((a for a in asked if a >= moved), told[0::2], told[1::2]):
+    for address, function, place in zip((a for a in wanted if a >= moved), output[0::2], output[1::2]):
         file, _, line = place.rpartition(":")
         if function != "?" and line.isdigit():
             found[address] = (function, file, int(line))
@@ -136,8 +136,8 @@ def lines_of(
     calls = {}
     for number, stack in stacks.items():
         chain = [roots.call(*found[address - 1]) for address in stack.calls if address - 1 in found]
-        made = roots.call(*found[stack.made - 1]) if stack.made - 1 in found else None
-        if made and made.function.startswith("runtime."):
-            made = None  # the first goroutine
-        calls[number] = Calls(outside_the_runtime(chain), made)
+        starter = roots.call(*found[stack.made - 1]) if stack.made - 1 in found else None
+        if starter and starter.function.startswith("runtime."):
+            starter = None  # the first goroutine
+        calls[number] = Calls(outside_the_runtime(chain), starter)
     return calls

@@ -86,9 +86,9 @@ def read_stacks(file: BinaryIO, count: int) -> dict[int, PointStack]:
         text = file.read(STACK_BYTES)
         if len(text) < STACK_BYTES:
             break
-        filled, calls, made, started = struct.unpack_from("<4Q", text)
+        filled, calls, go_statement, started = struct.unpack_from("<4Q", text)
         if filled and calls <= STACK_WORDS - 4:
-            stacks[slot + 1] = PointStack(made, started, struct.unpack_from(f"<{calls}Q", text, 4 * WORD))
+            stacks[slot + 1] = PointStack(go_statement, started, struct.unpack_from(f"<{calls}Q", text, 4 * WORD))
     return stacks
 
 
@@ -219,7 +219,7 @@ def as_one(column: array[int]) -> int:
     return int.from_bytes(column.tobytes(), sys.byteorder)
 
 
-def behind_the_last_gap(points: list[Point]) -> list[Point]:
+def after_last_gap(points: list[Point]) -> list[Point]:
     """The points after the last gap that is too large to be explained by unfinished points."""
     if points and points[-1].number - points[0].number < len(points) - 1 + UNDER_WAY:
         return points  # all missing points may be unfinished ones
@@ -271,7 +271,7 @@ def log_of(file: BinaryIO, is_written: bool = False) -> Log:
     stacks = read_stacks(file, header.stacks)
     holders = read_holders(file, header.holders, stacks)
     read, held = whole_points(file, header)
-    points = behind_the_last_gap(read)
+    points = after_last_gap(read)
     kept = min(header.passed, header.points)
     log = Log(points, stacks, header.begin, header.process, header.text, header.program)
     log.has_orders = header.has_orders

@@ -93,7 +93,7 @@ class Note:
 
     def goroutines(self) -> set[int]:
         """The goroutines that wait on the socket."""
-        return {one.goroutine for one in self.inside.values()} | {one.goroutine for one in self.queued}
+        return {holder.goroutine for holder in self.inside.values()} | {holder.goroutine for holder in self.queued}
 
     def known(self) -> set[int]:
         """The goroutines that had the socket's locks and references."""
@@ -132,7 +132,7 @@ class Debts:
         self.had: Counter[int] = Counter()
         self.owes: Counter[int] = Counter()
         self.locked: set[int] = set()
-        self.queued = {one.goroutine for one in note.queued}
+        self.queued = {waiter.goroutine for waiter in note.queued}
         self.waits: set[int] = set()
 
     def point(self, point: Point) -> None:

@@ -85,7 +85,7 @@ class Leading:
         """The steps; raises UnreachableStateError if none lead to the note."""
         note = self.note
         flags = note.flags
-        if flags is None or any(one.place not in PLACES for one in note.inside.values()):
+        if flags is None or any(holder.place not in PLACES for holder in note.inside.values()):
             raise UnreachableStateError("its note is cut short or damaged")
         if note.is_in_motion or flags & UNQUEUED and any(note.field(waiting) for waiting in WAITING):
             raise UnreachableStateError("a goroutine passed its lock on to another")
@@ -281,25 +281,25 @@ def _difference(note: Note, machine: Machine, numbers: dict[int, int], begin: in
     """The differences between the model's state and the note, as cells; None if they are equal."""
     socket, descriptor, flags = machine.sockets[0], machine.descs[0], note.flags or 0
     words: dict[int, Any] = {NIL: "nil", READY: "ready", WAIT: "wait"}
-    inside = {side: one._replace(goroutine=numbers[one.goroutine]) for side, one in note.inside.items()}
-    parked = {side: one.goroutine for side, one in inside.items()}
+    inside = {side: holder._replace(goroutine=numbers[holder.goroutine]) for side, holder in note.inside.items()}
+    parked = {side: holder.goroutine for side, holder in inside.items()}
     expected: dict[str, tuple[object, object]] = {
         "lock": (socket.lock.number, note.word),
         "semaphore": (socket.counts, note.counts),
-        "queue": (socket.queues, tuple(tuple(numbers[one.goroutine] for one in note.queued if one.side == side) for side in BOTH)),
+        "queue": (socket.queues, tuple(tuple(numbers[holder.goroutine] for holder in note.queued if holder.side == side) for side in BOTH)),
         "word": (descriptor.words, tuple(words.get(note.word_of(side), parked.get(side)) for side in BOTH)),
         "mark of closing": (descriptor.closing, bool(flags & CLOSING)),
         "event error": (descriptor.error, bool(flags & EVENT_ERROR)),
-        "deadline": (descriptor.deadlines, tuple(max(1, one - begin) if 0 < one < GREATEST_TIME else one for one in note.deadlines)),
+        "deadline": (descriptor.deadlines, tuple(max(1, holder - begin) if 0 < holder < GREATEST_TIME else holder for holder in note.deadlines)),
         "timer": (descriptor.running, tuple(note.runs(side) for side in BOTH)),
         "shut side": (socket.shut, bool(flags & SHUT)),
     }  # fmt: skip
     for name, (found, wanted) in expected.items():
         if found != wanted:
             return name
-    for side, one in inside.items():
-        place = SWAPPING if one.place == PARKED and note.word_of(side) != GOROUTINE else one.place
-        if machine.goroutines[one.goroutine] != (PLACES[place], 0, SIDES[side]):
+    for side, holder in inside.items():
+        place = SWAPPING if holder.place == PARKED and note.word_of(side) != GOROUTINE else holder.place
+        if machine.goroutines[holder.goroutine] != (PLACES[place], 0, SIDES[side]):
             return "place of a goroutine"
     return None
 

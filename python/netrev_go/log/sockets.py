@@ -188,10 +188,10 @@ class Owners:
 
 def of_few(point: Point) -> Point:
     """The point of a read or a write, with at most FEW_BYTES bytes."""
-    number, kind, goroutine, at, asked, moved, failed, time, stack = point
+    number, kind, goroutine, at, requested, moved, failed, time, stack = point
     if kind == WRITE:
-        asked = min(asked, FEW_BYTES)
-    return Point(number, kind, goroutine, at, asked, min(moved, FEW_BYTES), failed, time, stack)
+        requested = min(requested, FEW_BYTES)
+    return Point(number, kind, goroutine, at, requested, min(moved, FEW_BYTES), failed, time, stack)
 
 
 def points_of_call(point: Point, socket: LoggedSocket) -> list[tuple[Point, LoggedSocket]]:
@@ -208,13 +208,13 @@ def points_of_call(point: Point, socket: LoggedSocket) -> list[tuple[Point, Logg
 def count_bytes(socket: LoggedSocket, point: Point) -> None:
     """Counts a read or a write for its socket: the characters of its text, and the steps of a read or the bytes of a
     write. A write also updates the last and the largest write, and whether the output is full."""
-    _, kind, _, _, asked, got, failed, _, _ = point
+    _, kind, _, _, requested, got, failed, _, _ = point
     got = max(got, 0)
     if kind == READ:
         socket.text += 2 * got
         socket.steps += 2 * -(-got // BUFFER) - 1
         return
-    socket.text += 2 * (got or min(max(asked, 1), BUFFER))
+    socket.text += 2 * (got or min(max(requested, 1), BUFFER))
     socket.written += got
     if got or failed == AGAIN:
         socket.last_write = point

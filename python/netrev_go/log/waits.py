@@ -30,7 +30,7 @@ def waits_of(found: Goroutines, numbers: dict[int, int], since: Mapping[int, int
     waits = []
     for park in (
         *(found.parks[place] for place in found.finished),
-        *(one for one in found.parks if one.last == UNENDED),
+        *(park for park in found.parks if park.last == UNENDED),
     ):
         is_own = park.goroutine in numbers and park.first >= since.get(park.goroutine, 0)
         if is_own and park.what != SLEEP and not park.first == park.last:

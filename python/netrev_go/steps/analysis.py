@@ -61,7 +61,7 @@ class Analysis:
 
     def causes(self) -> FirstFindings:
         """Why calls failed or hang. If netrev is slow, the library computes the changes. Raises LateError if that takes too long."""
-        from netrev.findings.causes.first import first_findings
+        from netrev.findings.causes.first_output import first_findings
 
         with time_limit(OF_CAUSES, messages.LATE_CAUSES), self._read() as recording:
             return first_findings(recording)

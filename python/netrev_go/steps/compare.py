@@ -10,7 +10,7 @@ from collections import defaultdict
 from netrev.machine.observer import Observer
 from netrev.machine.replay import positions
 from netrev.text.jsontext import DoubtfulNumberError
-from netrev.text.reading import FaultError, read_text
+from netrev.text.parser import FaultError, read_text
 
 # A session has room for 65,536 commands that move, so longer recordings need several sessions.
 AT_ONCE = 30_000
@@ -39,22 +39,22 @@ def asked(netrev: str, recording: pathlib.Path, words: list[Word]) -> list[str]:
     return [reply for reply in run.stdout.splitlines() if " = " in reply]
 
 
-def sentence(step: int, cell: str, value: str, said: str) -> str:
+def sentence(step: int, cell: str, value: str, recorded: str) -> str:
     """The message about a lock word that differs."""
-    return f"step {step}: Go had {cell} = {value}, netrev says {said}"
+    return f"step {step}: Go had {cell} = {value}, netrev says {recorded}"
 
 
 def differing(netrev: str, recording: pathlib.Path) -> tuple[int, list[str]]:
     """The number of compared lock words, and a message for each word that differs."""
     words = read_words(recording.with_suffix(".words"))
-    told: list[str] = []
+    sentences: list[str] = []
     for first in range(0, len(words), AT_ONCE):
-        told += asked(netrev, recording, words[first : first + AT_ONCE])
-    if len(told) != len(words):
-        return len(words), [f"netrev gave {len(told)} values of {len(words)}"]
+        sentences += asked(netrev, recording, words[first : first + AT_ONCE])
+    if len(sentences) != len(words):
+        return len(words), [f"netrev gave {len(sentences)} values of {len(words)}"]
     return len(words), [
         sentence(step, cell, value, reply)
-        for (step, cell, value), reply in zip(words, told)
+        for (step, cell, value), reply in zip(words, sentences)
         if reply != f"{cell} = {value}"
     ]
 
@@ -68,9 +68,9 @@ def by_the_model(recording: pathlib.Path) -> tuple[bool, str]:
     try:
         for position, (world, _) in enumerate(positions(read_text(recording.read_bytes()), Observer())):
             for step, cell, value in words.get(position, ()):
-                said = world.sockets[int(cell.split()[1])].lock.number
-                if str(said) != value:
-                    return False, f"{DIFFERS}: {sentence(step, cell, value, f'{cell} = {said}')}"
+                number_now = world.sockets[int(cell.split()[1])].lock.number
+                if str(number_now) != value:
+                    return False, f"{DIFFERS}: {sentence(step, cell, value, f'{cell} = {number_now}')}"
     except FaultError as fault:
         return False, f"{REFUSES}: {fault}"
     except DoubtfulNumberError as doubt:

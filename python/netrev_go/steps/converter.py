@@ -13,15 +13,15 @@ from netrev.machine.deadlines import READING, WRITING, Deadlines
 from netrev.machine.machine import SIDES
 from netrev.machine.polling import deadline_of
 from netrev.messages import recorder as messages
-from netrev_go.log.answering import BROKEN_PIPE, UnconvertibleError, can_answer, mode_of, parts
-from netrev_go.log.beside import OF_UNIX, Beside
+from netrev_go.log.point_answers import BROKEN_PIPE, UnconvertibleError, can_answer, mode_of, parts
+from netrev_go.log.socket_facts import OF_UNIX, Beside
 from netrev_go.log.orders import Made
 from netrev_go.log.points import LOCKING, Point, PointKind
 from netrev_go.log.prelude import NOBODY, Lead, passing
 from netrev_go.log.sockets import AGAIN, BUFFER, FEW_BYTES, LoggedSocket
 
-from .leading import close_write, lead
-from .repeated import REPEATED, read_line, repeated_line
+from .lead_ins import close_write, lead
+from .single_step_lines import REPEATED, read_line, repeated_line
 from .zeros import Line, arrival, drained, put_line, written
 
 CURRENT_READ, STALE = 1, 4
@@ -74,25 +74,25 @@ class Converter:
 
     def convert(self) -> None:
         """Makes the steps of all points."""
-        lines, stacks, made, ended = self.lines, self.stacks, self.made, self.ended
+        lines, stacks, makers, ended = self.lines, self.stacks, self.made, self.ended
         last_steps = self.last_steps
         others, known = self._others(), dict[tuple[object, ...], Repeated]()
         # (there may be a million points: repeated lines are formatted once, and need no function call afterwards)
         for point, socket in self.points:
             number, kind, identity, _, a, b, c, _, stack = point
-            said: tuple[object, ...]
+            key: tuple[object, ...]
             if kind in LOCKING:
-                said = kind, identity, socket, a == b, c
+                key = kind, identity, socket, a == b, c
             elif kind in REPEATED or kind == READ and 0 < b <= FEW_BYTES:
-                said = kind, identity, socket, a, b
+                key = kind, identity, socket, a, b
             else:
                 self._number = number
                 others[kind](point, socket)
                 ended.append(len(lines))
                 continue
-            repeated = known.get(said)
+            repeated = known.get(key)
             if repeated is None:
-                repeated = known[said] = self._repeated(point, socket)
+                repeated = known[key] = self._repeated(point, socket)
             before, line, g, call = repeated
             if before:
                 lines.append(before)
@@ -104,7 +104,7 @@ class Converter:
             lines.append(line)
             stacks.append(stack)
             step = last_steps[g] = len(lines)
-            made.append((number, identity, step))
+            makers.append((number, identity, step))
             ended.append(step)
 
     def _repeated(self, point: Point, socket: LoggedSocket) -> Repeated:
@@ -220,13 +220,13 @@ class Converter:
                 close_write(self, socket, closing)
 
     def make_write(self, point: Point, socket: LoggedSocket) -> None:
-        _, _, identity, _, asked, put, error, _, stack = point
+        _, _, identity, _, requested, put, error, _, stack = point
         g, number = self.goroutine(identity), socket.number
         if put <= 0:
             if not can_answer(socket, point):
                 return self.beside.failed(self.last_steps[g], point)
             answer = '"pipe"' if error == BROKEN_PIPE else '"again"'
-            self.of(g, socket, stack, written(g, number, min(max(asked, 1), BUFFER), answer))
+            self.of(g, socket, stack, written(g, number, min(max(requested, 1), BUFFER), answer))
             return
         capacity = socket.capacity()
         for count in parts(put, capacity):
@@ -351,7 +351,7 @@ class Converter:
         the clock lags Go's by the time that the steps of the remaining notes will add. So deadlines set between the
         notes equal Go's."""
         if not self.clock:
-            sockets = {socket for one, socket in self.points if one.kind == PointKind.NOTED}
+            sockets = {socket for point, socket in self.points if point.kind == PointKind.NOTED}
             dues = [due - 1 for socket in sockets if socket.note for due in socket.note.deadlines if due > 0]
             self.go_on_to(min([point.time, *dues]) - self.begin - self.behind)
         lead(self, socket)

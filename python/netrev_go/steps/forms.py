@@ -8,7 +8,7 @@ from dataclasses import asdict, dataclass, field
 from xml.etree import ElementTree
 
 from netrev.text.plain import plain
-from netrev_go.log.ran import Ran, Went
+from netrev_go.log.tests_in_log import Ran, Went
 
 from .report import Conversion, Shown
 
@@ -82,9 +82,9 @@ def causes_in(findings: list[Shown]) -> list[Cause]:
     return list(lines.values())
 
 
-def json_lines(told: Iterable[TestResult]) -> str:
+def json_lines(results: Iterable[TestResult]) -> str:
     """A line for each test."""
-    return "".join(json.dumps(asdict(one)) + "\n" for one in told)
+    return "".join(json.dumps(asdict(result)) + "\n" for result in results)
 
 
 def of_data(text: str) -> str:
@@ -97,57 +97,57 @@ def of_property(text: str) -> str:
     return of_data(text).replace(":", "%3A").replace(",", "%2C")
 
 
-def annotation(one: TestResult) -> str:
+def annotation(result: TestResult) -> str:
     """The GitHub annotation for a failed test."""
-    title = f"title={of_property(plain(f'{one.package} {one.test}'))}"
-    words = [one.outcome(), *one.says]
-    place = one.place()
+    title = f"title={of_property(plain(f'{result.package} {result.test}'))}"
+    words = [result.outcome(), *result.says]
+    place = result.place()
     where = f"file={of_property(plain(place[0]))},line={place[1]}," if place else ""
     return f"::error {where}{title}::{of_data(chr(10).join(map(plain, words)))}"
 
 
-def github_lines(told: Iterable[TestResult]) -> list[str]:
+def github_lines(results: Iterable[TestResult]) -> list[str]:
     """Annotations for the failed tests, without those that have a failed subtest."""
-    red = [one for one in told if one.is_red()]
-    parts = [(one.package, one.test) for one in red]
+    red = [result for result in results if result.is_red()]
+    parts = [(result.package, result.test) for result in red]
     return [
-        annotation(one)
-        for one in red
-        if not any(package == one.package and test.startswith(f"{one.test}/") for package, test in parts)
+        annotation(result)
+        for result in red
+        if not any(package == result.package and test.startswith(f"{result.test}/") for package, test in parts)
     ]
 
 
-def junit(told: list[TestResult]) -> str:
+def junit(results: list[TestResult]) -> str:
     """JUnit XML: a suite for each package, and a case for each test."""
-    top = ElementTree.Element("testsuites", counts(told))
-    for package in dict.fromkeys(one.package for one in told):
-        cases = [one for one in told if one.package == package]
+    top = ElementTree.Element("testsuites", counts(results))
+    for package in dict.fromkeys(result.package for result in results):
+        cases = [result for result in results if result.package == package]
         suite = ElementTree.SubElement(top, "testsuite", {"name": plain(package), **counts(cases)})
-        for one in cases:
-            add_case(suite, one)
+        for result in cases:
+            add_case(suite, result)
     ElementTree.indent(top)
     return '<?xml version="1.0" encoding="UTF-8"?>\n' + ElementTree.tostring(top, encoding="unicode") + "\n"
 
 
-def counts(told: list[TestResult]) -> dict[str, str]:
-    how = [Went(one.status) for one in told]
+def counts(results: list[TestResult]) -> dict[str, str]:
+    how = [Went(result.status) for result in results]
     return {
-        "tests": str(len(told)),
+        "tests": str(len(results)),
         "failures": str(how.count(Went.FAILED)),
         "errors": str(how.count(Went.UNFINISHED)),
         "skipped": str(how.count(Went.SKIPPED)),
-        "time": f"{sum(one.seconds for one in told):.6f}",
+        "time": f"{sum(result.seconds for result in results):.6f}",
     }
 
 
-def add_case(suite: ElementTree.Element, one: TestResult) -> None:
+def add_case(suite: ElementTree.Element, result: TestResult) -> None:
     """Adds a test. A failed test has a failure, and a test that never ended has an error."""
-    words = {"classname": plain(one.package), "name": plain(one.test), "time": f"{one.seconds:.6f}"}
+    words = {"classname": plain(result.package), "name": plain(result.test), "time": f"{result.seconds:.6f}"}
     case = ElementTree.SubElement(suite, "testcase", words)
-    if one.status == Went.SKIPPED.value:
+    if result.status == Went.SKIPPED.value:
         ElementTree.SubElement(case, "skipped")
-    if not one.is_red():
+    if not result.is_red():
         return
-    sort = "failure" if one.status == Went.FAILED.value else "error"
-    message = one.outcome()
-    ElementTree.SubElement(case, sort, {"message": message}).text = "\n".join(map(plain, one.says))
+    sort = "failure" if result.status == Went.FAILED.value else "error"
+    message = result.outcome()
+    ElementTree.SubElement(case, sort, {"message": message}).text = "\n".join(map(plain, result.says))

@@ -9,7 +9,7 @@ from collections.abc import Callable, Iterable, Iterator
 from dataclasses import dataclass, field
 from itertools import compress
 
-from netrev_go.log.beside import address_words
+from netrev_go.log.socket_facts import address_words
 
 from netrev_go.log.goroutines import ADDED, CONDITION, DONE, MUTEX, OF_A_WAIT_GROUP, OTHER, READ_LOCK, ROOM, SEMAPHORE, UNENDED, VALUE, WAIT_GROUP, WRITE_LOCK, LoggedDial, Goroutines, LoggedMutex, LoggedPark, UseSpan, LoggedTimer, Used  # fmt: skip
 from netrev_go.log.lines import OF_GO, OF_THE_PROGRAM, Calls
@@ -57,7 +57,7 @@ def waited_for(what: int, calls: Calls | None) -> int:
     if what not in (OTHER, SEMAPHORE):
         return what if what < len(REASONS) else OTHER
     plain = [name.removeprefix("internal/") for name in names]
-    return next((found for name, found in FUNCTIONS if any(one.startswith(name) for one in plain)), what)
+    return next((found for name, found in FUNCTIONS if any(function.startswith(name) for function in plain)), what)
 
 
 def semaphore_at(what: int, found: int, calls: Calls | None) -> int:
@@ -108,33 +108,33 @@ def kept(found: Goroutines, numbers: dict[int, int], calls: dict[int, Calls], mo
     def is_concerned(goroutine: int, stack: int) -> bool:
         return not knows or goroutine in numbers or stack in of_program
 
-    made = KeptData()
+    data = KeptData()
     parks = [park for park in found.parks if is_concerned(park.goroutine, park.stack)]
     choice = list(newest([park.last == UNENDED for park in parks], most))
-    made.parks = list(compress(parks, choice))
-    made.left.update(
+    data.parks = list(compress(parks, choice))
+    data.left.update(
         (park.what, park.stack, park.last != UNENDED) for park, is_kept in zip(parks, choice) if not is_kept
     )
-    waited = {at.address for park in made.parks for at in park.objects}
-    at_end = {at.address for park in made.parks if park.last == UNENDED for at in park.objects}
+    waited = {at.address for park in data.parks for at in park.objects}
+    at_end = {at.address for park in data.parks if park.last == UNENDED for at in park.objects}
     uses = [
         (use, span)
-        for use, span in sorted(found.uses.items(), key=lambda one: (one[1].last, one[1].end))
+        for use, span in sorted(found.uses.items(), key=lambda item: (item[1].last, item[1].end))
         if use.address in waited or is_concerned(use.goroutine, use.stack)
     ]
-    made.uses = list(compress(uses, newest([use.address in at_end for use, _ in uses], most)))
+    data.uses = list(compress(uses, newest([use.address in at_end for use, _ in uses], most)))
     timers = [timer for timer in found.timers if is_concerned(timer.goroutine, timer.stack)]
-    made.timers = list(compress(timers, newest([timer.address in at_end for timer in timers], most)))
-    made.dials = [dial for dial in found.dials if is_concerned(dial.goroutine, dial.stack)][-most:]
+    data.timers = list(compress(timers, newest([timer.address in at_end for timer in timers], most)))
+    data.dials = [dial for dial in found.dials if is_concerned(dial.goroutine, dial.stack)][-most:]
     if found.held is not None:
-        mutexes = {park.stack: calls.get(park.stack) for park in made.parks if park.last == UNENDED}
+        mutexes = {park.stack: calls.get(park.stack) for park in data.parks if park.last == UNENDED}
         waited_at = {
-            mutex_at(at.address, park.what, mutexes[park.stack]) for park in made.parks if park.last == UNENDED for at in park.objects
+            mutex_at(at.address, park.what, mutexes[park.stack]) for park in data.parks if park.last == UNENDED for at in park.objects
         }  # fmt: skip
-        made.held = [
+        data.held = [
             held for held in found.held if held.address in waited_at or is_concerned(held.goroutine, held.stack)
         ][-most:]
-    return made
+    return data
 
 
 def why_words(number: int) -> str:
@@ -189,30 +189,30 @@ class Everybody:
             for use, span in self.kept.uses
         ]
         timers: list[tuple[object, ...]] = [
-            (objects.number(one.address, CHANNEL) if one.address else 0, one.goroutine, stack(one.stack), *one[3:])
-            for one in self.kept.timers
+            (objects.number(item.address, CHANNEL) if item.address else 0, item.goroutine, stack(item.stack), *item[3:])
+            for item in self.kept.timers
         ]
-        made: list[tuple[object, ...]] = [
-            (objects.numbers[address], one.goroutine, stack(one.stack), one.step, one.time)
-            for address, one in self.found.made.items() if address in objects.numbers
+        makers: list[tuple[object, ...]] = [
+            (objects.numbers[address], item.goroutine, stack(item.stack), item.step, item.time)
+            for address, item in self.found.made.items() if address in objects.numbers
         ]  # fmt: skip
         dials: list[tuple[object, ...]] = [
             (
-                one.goroutine, stack(one.stack), one.step, one.time, why_words(one.why), address_words(one.address),
-                objects.number(one.context, CHANNEL) if one.context else 0,
+                item.goroutine, stack(item.stack), item.step, item.time, why_words(item.why), address_words(item.address),
+                objects.number(item.context, CHANNEL) if item.context else 0,
             )
-            for one in self.kept.dials
+            for item in self.kept.dials
         ]  # fmt: skip
         held: list[tuple[object, ...]] = [
-            (objects.number(one.address, SORTS[MUTEX]), one.goroutine, "read" if one.is_reader else "", stack(one.stack), one.step)
-            for one in self.kept.held or ()
+            (objects.number(item.address, SORTS[MUTEX]), item.goroutine, "read" if item.is_reader else "", stack(item.stack), item.step)
+            for item in self.kept.held or ()
         ]  # fmt: skip
         yield "goroutines", [self.goroutine(goid, call(key)) for goid, key in self.goroutines(most).items()]
         yield "objects", list(objects.lines())
         yield "parks", parks
         yield "uses", uses
         yield "timers", timers
-        yield "channels", made
+        yield "channels", makers
         yield "failed_dials", dials
         if self.kept.held is not None:
             yield HELD, held
@@ -237,7 +237,7 @@ class Everybody:
         found = waited_for(park.what, calls)
         back = semaphore_at(park.what, found, calls)
         sort = SORTS.get(found, CHANNEL)
-        at = [(objects.number(one.address - back, sort), FOR.get(one.use, "")) for one in park.objects]
+        at = [(objects.number(thing.address - back, sort), FOR.get(thing.use, "")) for thing in park.objects]
         return (*park[:5], REASONS[found], stack, park.by, at, *([park.due] if park.due else []))
 
     def goroutines(self, most: int) -> dict[int, int]:
@@ -262,8 +262,8 @@ class Everybody:
         choice = newest([goid in self.numbers or goid in waiting for goid in in_order], most)
         return {goid: stacks[goid] for goid in compress(in_order, choice)}
 
-    def goroutine(self, goid: int, made: int) -> tuple[object, ...]:
+    def goroutine(self, goid: int, starter: int) -> tuple[object, ...]:
         """A goroutine in the file's form."""
         maker, first, begin = self.found.born.get(goid, (0, UNENDED, UNENDED))
         last, end = self.found.ended.get(goid, (UNENDED, UNENDED))
-        return goid, self.numbers.get(goid, -1), made, maker, first, last, begin, end
+        return goid, self.numbers.get(goid, -1), starter, maker, first, last, begin, end

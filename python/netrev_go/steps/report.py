@@ -23,7 +23,7 @@ from netrev.findings.finding import (
 from netrev.messages import recorder as messages
 from netrev.recording import recording as library
 from netrev.recording.waits import Name
-from netrev.system.built import netrev_program
+from netrev.system.program_path import netrev_program
 from netrev.system.command_lines import command_line, file_word, how_to_get_netrev
 from netrev.system.time_limits import LateError
 from netrev.text.plain import plain
@@ -31,7 +31,7 @@ from netrev.text.plurals import counted
 from netrev_go.log.lines import OF_GO, Calls, LineCall
 
 from .analysis import Analysis, hanging, never_closed
-from .making import NewRecording
+from .recording_builder import NewRecording
 from .where import own_line
 
 MOST_TOLD, MOST_SUSPECTS = 20, 12

@@ -7,7 +7,7 @@ import pathlib
 from collections.abc import Iterable, Sequence
 
 from netrev.text.files import written_whole
-from netrev_go.log.beside import Beside
+from netrev_go.log.socket_facts import Beside
 from netrev_go.log.lines import OF_A_LIBRARY, OF_THE_PROGRAM, Calls, LineCall
 from netrev_go.log.orders import parts
 from netrev_go.log.times import deltas
@@ -44,9 +44,9 @@ class NumberedLines:
         if key not in self.numbers:
             known = self.stacks[key]
             calls = [self.call(call) for call in known.calls]
-            made = {"made": self.call(known.made)} if known.made else {}
+            starter = {"made": self.call(known.made)} if known.made else {}
             self.numbers[key] = len(self.numbers) + 1
-            self.add({"stack": self.numbers[key], "calls": calls, **made})
+            self.add({"stack": self.numbers[key], "calls": calls, **starter})
         return self.numbers[key]
 
     def made(self, key: int) -> int:

@@ -15,16 +15,16 @@ from netrev.session.session import UsageError
 from netrev.system.interrupts import Interrupts, SearchInterruptedError, SessionAbandonedError
 from netrev.text.plain import plain
 
-from . import breakpoints, looks
-from .hearing import CANCEL, Source
-from .moving import Stop, text_of
+from . import breakpoints, inspection
+from .message_reader import CANCEL, Source
+from .moves import Stop, text_of
 from .target import DebugTarget, Launch
 from .view.capabilities import CAPABILITIES
 from .view.debuggee import debuggee
-from .view.looking import maker_of, thread_of
+from .view.presentation import maker_of, thread_of
 from .view.messages import Body, EditorGoneError, EditorStreams, Request, UnanswerableError
 from .view.numbering import Numbering
-from .working import Work
+from .progress import Work
 
 CANCELLED, ENDS = "cancelled", "the editor ends the session"
 
@@ -65,11 +65,11 @@ class Adapter:
             "dataBreakpointInfo": of_target(breakpoints.data_info),
             "setExceptionBreakpoints": of_target(breakpoints.set_filters),
             "exceptionInfo": of_target(breakpoints.exception_info),
-            "breakpointLocations": of_target(breakpoints.locations), "threads": of_target(looks.threads),
-            "stackTrace": of_target(looks.stack), "scopes": of_target(looks.scopes),
-            "variables": of_target(looks.variables), "readMemory": of_target(looks.read_memory),
-            "completions": of_target(looks.completions), "setVariable": of_target(looks.refuse_change),
-            "setExpression": of_target(looks.refuse_change), "evaluate": self._evaluate, CANCEL: self._cancel,
+            "breakpointLocations": of_target(breakpoints.locations), "threads": of_target(inspection.threads),
+            "stackTrace": of_target(inspection.stack), "scopes": of_target(inspection.scopes),
+            "variables": of_target(inspection.variables), "readMemory": of_target(inspection.read_memory),
+            "completions": of_target(inspection.completions), "setVariable": of_target(inspection.refuse_change),
+            "setExpression": of_target(inspection.refuse_change), "evaluate": self._evaluate, CANCEL: self._cancel,
         }  # fmt: skip
 
     def serve(self, begun: Sequence[Request] = ()) -> None:
@@ -129,12 +129,12 @@ class Adapter:
         if request.command in ("launch", "attach"):
             self._interrupts = Interrupts()
         if self._target_or_none:
-            self._look_for_others(request)
+            self._check_for_others(request)
             self._target_or_none.moves.tells = work.tells
         with self._source.work(request, self._interrupts):
             return self._outcome(request)
 
-    def _look_for_others(self, request: Request) -> None:
+    def _check_for_others(self, request: Request) -> None:
         """Reports the new position if another front has moved the shared session."""
         with self._source.work(request, self._interrupts):
             moved = self._target.debuggee.others_moved()
@@ -287,7 +287,7 @@ class Adapter:
 
     def _evaluate(self, request: Request) -> Response:
         text, context = request.text("expression"), request.arguments.get("context")
-        return self._typed(text) if context == "repl" else Response(looks.value(self._target, text, context))
+        return self._typed(text) if context == "repl" else Response(inspection.value(self._target, text, context))
 
     def _typed(self, text: str) -> Response:
         """Runs a line of nrdb that was typed in the console."""

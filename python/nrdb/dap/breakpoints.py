@@ -9,7 +9,7 @@ from .marks import BreakpointKind
 from .target import DebugTarget
 from .view.messages import Body, Request, UnanswerableError
 from .view.numbering import Numbering
-from .wishes import BreakpointError, BreakpointRequest, cell_wish, kind_wish, positions_of, wish_of
+from .breakpoint_requests import BreakpointError, BreakpointRequest, cell_wish, kind_wish, positions_of, wish_of
 
 MOST_TARGETS = 1_000  # the maximum number of lines searched for steps
 
@@ -32,13 +32,13 @@ def of_steps(target: DebugTarget, path: str, wishes: list[BreakpointRequest | Br
     session = target.debuggee.session
     target.logpoints.clear(path)
     answers = [
-        target.logpoints.set(path, positions_of(session, wish.what), wish)
-        if isinstance(wish, BreakpointRequest) and wish.message
+        target.logpoints.set(path, positions_of(session, breakpoint.what), breakpoint)
+        if isinstance(breakpoint, BreakpointRequest) and breakpoint.message
         else None
-        for wish in wishes
+        for breakpoint in wishes
     ]
     of_marks = iter(
-        target.marks.replace(BreakpointKind.LINE, [wish for wish, answer in zip(wishes, answers) if answer is None])
+        target.marks.replace(BreakpointKind.LINE, [breakpoint for breakpoint, answer in zip(wishes, answers) if answer is None])
     )
     return [answer or next(of_marks) for answer in answers]
 

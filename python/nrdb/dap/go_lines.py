@@ -15,7 +15,7 @@ from .logpoints import LogPoints
 from .view.debuggee import Debuggee
 from .view.messages import Body, UnanswerableError
 from .view.roots import Roots
-from .wishes import BreakpointError, BreakpointRequest, is_in, refused
+from .breakpoint_requests import BreakpointError, BreakpointRequest, is_in, refused
 
 FIRST = 1_000_000  # the number of the first of these breakpoints; marks have smaller numbers
 FUNCTIONS = "functions"  # used in place of a file name for breakpoints on functions
@@ -25,9 +25,9 @@ class Hits:
     """A breakpoint: its number, the positions at which a goroutine reaches it, in ascending order, and its condition,
     hit count and message."""
 
-    def __init__(self, number: int, session: Session, reached: Sequence[int], wish: BreakpointRequest):
+    def __init__(self, number: int, session: Session, reached: Sequence[int], breakpoint: BreakpointRequest):
         self.number = number
-        self._session, self._reached, self._wish = session, reached, wish
+        self._session, self._reached, self._wish = session, reached, breakpoint
 
     @cached_property
     def positions(self) -> list[int]:
@@ -65,25 +65,25 @@ class GoLines:
             raise UnanswerableError(no_step_from(f"{name}:{line}", near_lines(name, line, lines)))
         return lines[line]
 
-    def set_line(self, path: str, line: int, wish: "BreakpointRequest | BreakpointError") -> Body:
+    def set_line(self, path: str, line: int, breakpoint: "BreakpointRequest | BreakpointError") -> Body:
         """Sets a breakpoint at a line from which steps come, and returns the protocol's object for the breakpoint."""
         try:
-            return self._set(path, self.positions(path, line), wish)
+            return self._set(path, self.positions(path, line), breakpoint)
         except UnanswerableError as why:
             return refused(str(why))
 
-    def set_function(self, name: str, wish: "BreakpointRequest | BreakpointError") -> Optional[Body]:
+    def set_function(self, name: str, breakpoint: "BreakpointRequest | BreakpointError") -> Optional[Body]:
         """Sets a breakpoint at a function; returns None if no step comes from a function of that name."""
         place = places_of(self._debuggee.recording).place(name)
-        return self._set(FUNCTIONS, place.positions, wish) if place else None
+        return self._set(FUNCTIONS, place.positions, breakpoint) if place else None
 
-    def _set(self, path: str, positions: list[int], wish: "BreakpointRequest | BreakpointError") -> Body:
-        if isinstance(wish, BreakpointError):
-            return refused(str(wish))
-        if wish.message:
-            return self._logpoints.set(path, positions, wish)
+    def _set(self, path: str, positions: list[int], breakpoint: "BreakpointRequest | BreakpointError") -> Body:
+        if isinstance(breakpoint, BreakpointError):
+            return refused(str(breakpoint))
+        if breakpoint.message:
+            return self._logpoints.set(path, positions, breakpoint)
         self._given += 1
-        self._of.setdefault(path, []).append(Hits(self._given, self._debuggee.session, positions, wish))
+        self._of.setdefault(path, []).append(Hits(self._given, self._debuggee.session, positions, breakpoint))
         return {"id": self._given, "verified": True}
 
     def nearest(self, position: int, forwards: bool) -> Optional[int]:

@@ -7,7 +7,7 @@ from typing import Iterator, NamedTuple, Sequence
 from netrev.session.session import Session
 
 from .view.messages import Body
-from .wishes import HERE, IN_BRACES, BreakpointRequest
+from .breakpoint_requests import HERE, IN_BRACES, BreakpointRequest
 
 FIRST = 2_000_000  # the first number of these breakpoints, above all other breakpoints
 MOST = 1_000  # the maximum number of messages that a move prints
@@ -32,10 +32,10 @@ class LogPoints:
         """Removes the logpoints of a file."""
         self._of[path] = []
 
-    def set(self, path: str, positions: Sequence[int], wish: BreakpointRequest) -> Body:
+    def set(self, path: str, positions: Sequence[int], breakpoint: BreakpointRequest) -> Body:
         """Sets a logpoint at these positions, and returns the protocol's object for it."""
         self._given += 1
-        self._of.setdefault(path, []).append(LogPoint(wish.message, wish.stops(self._session, positions)))
+        self._of.setdefault(path, []).append(LogPoint(breakpoint.message, breakpoint.stops(self._session, positions)))
         return {"id": self._given, "verified": True}
 
     def messages(self, begun: int, ended: int) -> Iterator[str]:

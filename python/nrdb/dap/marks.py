@@ -8,7 +8,7 @@ from netrev.session.line_hints import hint
 from netrev.session.session import Session
 
 from .view.messages import Body
-from .wishes import BreakpointError, BreakpointRequest, is_in, positions_of, refused
+from .breakpoint_requests import BreakpointError, BreakpointRequest, is_in, positions_of, refused
 
 
 class BreakpointKind(Enum):
@@ -35,50 +35,50 @@ class Marks:
         # some marks may have been deleted in the console
         standing = {mark.number for mark in self._session.netrev.marks()}
         self._numbers = {mark: number for mark, number in self._numbers.items() if number in standing}
-        wanted = {wish.what for wish in wishes if isinstance(wish, BreakpointRequest)}
+        wanted = {breakpoint.what for breakpoint in wishes if isinstance(breakpoint, BreakpointRequest)}
         for mark in [mark for mark in self._numbers if mark[0] is sort and mark[1] not in wanted]:
             self._session.ask(f"delete {self._numbers.pop(mark)}")
         for mark in [mark for mark in self._wishes if mark[0] is sort]:
             del self._wishes[mark]
-        return [self._set(sort, wish) for wish in wishes]
+        return [self._set(sort, breakpoint) for breakpoint in wishes]
 
-    def _set(self, sort: BreakpointKind, wish: "BreakpointRequest | BreakpointError") -> Body:
+    def _set(self, sort: BreakpointKind, breakpoint: "BreakpointRequest | BreakpointError") -> Body:
         """Sets a breakpoint, and returns the protocol's object for it."""
         try:
-            if isinstance(wish, BreakpointError):
-                raise wish
-            number = self._number(sort, wish)
+            if isinstance(breakpoint, BreakpointError):
+                raise breakpoint
+            number = self._number(sort, breakpoint)
         except BreakpointError as why:
             return refused(str(why))
-        self._wishes.setdefault((sort, wish.what), []).append(wish)
+        self._wishes.setdefault((sort, breakpoint.what), []).append(breakpoint)
         return {"id": int(number), "verified": True}
 
-    def _number(self, sort: BreakpointKind, wish: BreakpointRequest) -> str:
+    def _number(self, sort: BreakpointKind, breakpoint: BreakpointRequest) -> str:
         """The number of the mark for a breakpoint; sets the mark if it doesn't exist."""
-        if (sort, wish.what) not in self._numbers:
-            line = f"{'watch' if sort is BreakpointKind.DATA else 'break'} {wish.what}"
+        if (sort, breakpoint.what) not in self._numbers:
+            line = f"{'watch' if sort is BreakpointKind.DATA else 'break'} {breakpoint.what}"
             reply = self._session.ask(line)
             if (mark := MARK.fullmatch(reply)) is None:
                 raise BreakpointError(f"{reply}: {hint(line.split(), reply)}")
-            self._numbers[sort, wish.what] = mark[1]
-        return self._numbers[sort, wish.what]
+            self._numbers[sort, breakpoint.what] = mark[1]
+        return self._numbers[sort, breakpoint.what]
 
     def holding(self, numbers: Sequence[str]) -> list[str]:
         """The marks that are hit at the session's position, except marks with a condition that isn't true."""
         marks = {number: mark for mark, number in self._numbers.items()}
-        met = self._session.holding(numbers)  # according to the conditions that were set in the console
-        return [number for number in met if number not in marks or self._holds(marks[number])]
+        true_marks = self._session.holding(numbers)  # according to the conditions that were set in the console
+        return [number for number in true_marks if number not in marks or self._holds(marks[number])]
 
     def _holds(self, mark: tuple[BreakpointKind, str]) -> bool:
-        return any(self._stops(wish) for wish in self._wishes[mark])
+        return any(self._stops(breakpoint) for breakpoint in self._wishes[mark])
 
-    def _stops(self, wish: BreakpointRequest) -> bool:
+    def _stops(self, breakpoint: BreakpointRequest) -> bool:
         """Whether a breakpoint that is reached at the session's position stops there."""
-        if wish.times is None:
-            return wish.condition is None or self._session.holds(wish.condition)
-        if wish not in self._counted:
-            self._counted[wish] = wish.stops(self._session, positions_of(self._session, wish.what))
-        return is_in(self._counted[wish], self._session.stands().position)
+        if breakpoint.times is None:
+            return breakpoint.condition is None or self._session.holds(breakpoint.condition)
+        if breakpoint not in self._counted:
+            self._counted[breakpoint] = breakpoint.stops(self._session, positions_of(self._session, breakpoint.what))
+        return is_in(self._counted[breakpoint], self._session.current_position().position)
 
     def reason(self, number: str) -> str:
         """The protocol's reason for a stop at a mark."""

@@ -12,10 +12,10 @@ from .admission import TOKEN
 from .go_lines import GoLines
 from .logpoints import LogPoints
 from .marks import Marks
-from .moving import Moves, Stop
+from .moves import Moves, Stop
 from .view.debuggee import Debuggee
 from .view.filters import Filters
-from .view.looking import Looks
+from .view.presentation import Looks
 from .view.messages import Request, UnanswerableError
 from .view.roots import Roots
 

@@ -17,11 +17,11 @@ from netrev.views.changes import history_table
 from netrev.views.goroutines import goroutines_table
 from netrev.views.places import descriptors_table, holders_table, sockets_table, timers_table
 
-from .answers_of_calls import OF_CALLS, answer_errors, arrive, taken_most, usage
-from .answers_of_files import answer_explore, answer_reduce, answer_report, answer_timeline, answer_trace
-from .answers_of_goroutines import OF_GOROUTINES
-from .answers_of_program import OF_FRAMES, OF_PLACES, of_place
-from .saving import answer_save
+from .call_answers import OF_CALLS, answer_errors, arrive, taken_most, usage
+from .file_answers import answer_explore, answer_reduce, answer_report, answer_timeline, answer_trace
+from .goroutine_answers import OF_GOROUTINES
+from .program_answers import OF_FRAMES, OF_PLACES, of_place
+from .saved_breakpoints import answer_save
 
 ROUND = 5
 TIME = re.compile(r"(\d+(?:\.\d+)?)(ns|us|ms|s)")
@@ -113,7 +113,7 @@ def described() -> Iterator[str]:
 
 
 def answer_list(session: Session, words: list[str]) -> None:
-    position = session.stands().position
+    position = session.current_position().position
     middle = taken_number("list", words) if words else position + 1
     text = session.text()
     rows = []
@@ -181,7 +181,7 @@ def answer_until(session: Session, words: list[str], name: str = "until") -> Non
             for now, (cell, value) in zip(shown, wanted.items())
         )
 
-    found = session.changes().nearest(list(wanted), are_wanted, session.stands().position, is_back)
+    found = session.changes().nearest(list(wanted), are_wanted, session.current_position().position, is_back)
     if found is None:
         values = " and ".join(messages.VALUE_OF_CELL.format(cell=cell, value=value) for cell, value in wanted.items())
         session.printer.note(messages.NO_STEP_GIVES.format(way="earlier" if is_back else "later", values=values))
@@ -218,7 +218,7 @@ def answer_undisplay(session: Session, words: list[str]) -> None:
 def answer_history(session: Session, words: list[str]) -> None:
     cell, rest = taken_cell("history", words)
     most = taken_most("history", rest)
-    table = history_table(session.changes(), session.text(), cell, session.stands().position, most)
+    table = history_table(session.changes(), session.text(), cell, session.current_position().position, most)
     session.printer.table(table)
 
 
@@ -250,7 +250,7 @@ def answer_info(session: Session, words: list[str]) -> None:
     if topic == "hangs" and not rest:
         from netrev.findings.causes import hangs_table
 
-        return session.printer.table(hangs_table(session.text(), session.stands().position))
+        return session.printer.table(hangs_table(session.text(), session.current_position().position))
     if topic == "requests" and not rest:
         from netrev.findings.causes import requests_table
 

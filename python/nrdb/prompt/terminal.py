@@ -17,7 +17,7 @@ from netrev.system.interrupts import SearchInterruptedError
 from netrev.text.vocabulary import Of
 
 from .completion import candidates, numbers_in, places_in
-from .paging import Paged
+from .pager import Paged
 
 try:
     import readline

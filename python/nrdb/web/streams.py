@@ -31,7 +31,7 @@ class BrowserStream:
 
     def __init__(self, number: int) -> None:
         self.number = number
-        self.is_behind = False
+        self.is_after = False
         self._waiting: deque[bytes] = deque()
         self._bytes = 0
         self._arrival = asyncio.Event()
@@ -45,7 +45,7 @@ class BrowserStream:
         """Queues data for the browser. If too much data is queued already, the browser is too slow, and its stream
         ends."""
         if self._waiting and self._bytes + len(data) > WAITING_BYTES:
-            self.is_behind = True
+            self.is_after = True
         else:
             self._waiting.append(data)
             self._bytes += len(data)
@@ -104,14 +104,14 @@ class Streams:
         you = {"event": "you", "who": stream.name, "number": stream.number, "recording": self._recording or None}
         stream.put(b"".join([message(you), *self._kept, *self._states.values()]))
         self._streams[stream.number] = stream
-        self._tell_browsers()
+        self._notify_browsers()
         try:
             yield stream
         finally:
             del self._streams[stream.number]
-            self._tell_browsers()
+            self._notify_browsers()
 
-    def _tell_browsers(self) -> None:
+    def _notify_browsers(self) -> None:
         data = message({"event": "browsers", "here": [stream.name for stream in self._streams.values()]})
         for stream in self._streams.values():
             stream.put(data)

@@ -9,16 +9,16 @@ import pytest
 from netrev.connection.shapes import Move
 from netrev.recording.call import Outcome
 from netrev.run.index import RunIndex
-from nrdb.dap import breakpoints, looks
+from nrdb.dap import breakpoints, inspection
 from nrdb.dap import marks as dap_marks
-from nrdb.dap import moving
+from nrdb.dap import moves
 from nrdb.dap.marks import BreakpointKind, Marks
-from nrdb.dap.moving import AT_THE_END, Moves, Stop, text_of
+from nrdb.dap.moves import AT_THE_END, Moves, Stop, text_of
 from nrdb.dap.view import filters, memory
 from nrdb.dap.view.filters import Failure, Filter, Filters
 from nrdb.dap.view.messages import Request, UnanswerableError
 from nrdb.dap.view.numbering import Numbering
-from nrdb.dap.wishes import wish_of
+from nrdb.dap.breakpoint_requests import wish_of
 
 
 class Asked:
@@ -80,7 +80,7 @@ def test_the_buffer_whose_bytes_a_cell_counts(cell: str, buffer: Optional[str]) 
     ],
 )  # fmt: skip
 def test_the_text_of_a_stop(reason: str, says: str, length: int, text: str, monkeypatch: pytest.MonkeyPatch) -> None:
-    monkeypatch.setattr(moving, "root_sentence", lambda recording: "what hangs")
+    monkeypatch.setattr(moves, "root_sentence", lambda recording: "what hangs")
     assert text_of(Stop(reason, says), cast(Any, Made(length=length))) == text
 
 
@@ -89,8 +89,8 @@ def test_a_step_of_an_editor_is_netrev_s(line: str, reply: str) -> None:
     arrived: list[Any] = []
     faced: list[str] = []
     own = Made(
-        _face_forwards=lambda: faced.append(line), _session=Made(ask=lambda asked: {line: reply}[asked]), _end_or=lambda *why: why,
-        _arrived=lambda *came: arrived.append(came),
+        _face_forwards=lambda: faced.append(line), _session=Made(ask=lambda asked_line: {line: reply}[asked_line]), _end_or=lambda *why: why,
+        _arrived=lambda *arrival: arrived.append(arrival),
     )  # fmt: skip
     Moves.step(cast(Any, own), line)
     move = Move(int(reply.split()[1]), False, ())
@@ -136,21 +136,21 @@ def test_what_went_wrong_by_filters(monkeypatch: pytest.MonkeyPatch) -> None:
 )  # fmt: skip
 def test_completions_of_a_word(text: str, column: int, first: int, labels: list[str], start: int) -> None:
     target = cast(Any, Made(debuggee=Made(numbers=lambda of: [])))
-    found = cast(Any, looks.completions(target, cast(Any, Made(first=first)), request(text=text, column=column)))
-    assert [one["label"] for one in found["targets"]] == labels
-    assert {(one["start"], one["length"]) for one in found["targets"]} == (
+    found = cast(Any, inspection.completions(target, cast(Any, Made(first=first)), request(text=text, column=column)))
+    assert [target["label"] for target in found["targets"]] == labels
+    assert {(target["start"], target["length"]) for target in found["targets"]} == (
         {(start, column - start)} if labels else set()
     )
 
 
 def test_completions_before_the_first_column_are_those_of_an_empty_line() -> None:
     target = cast(Any, Made(debuggee=Made(numbers=lambda of: [])))
-    found = cast(Any, looks.completions(target, cast(Any, Made(first=1)), request(text="info go", column=0)))
-    assert {"info", "stepi"} <= {one["label"] for one in found["targets"]}
+    found = cast(Any, inspection.completions(target, cast(Any, Made(first=1)), request(text="info go", column=0)))
+    assert {"info", "stepi"} <= {target["label"] for target in found["targets"]}
 
 
 @pytest.mark.parametrize(
-    "asked, is_true, position, stops",
+    "requested, is_true, position, stops",
     [
         ({}, False, 5, True), ({"condition": "lock 0 8"}, True, 5, True), ({"condition": "lock 0 8"}, False, 5, False), ({"hitCondition": "2"}, False, 5, True),
         ({"hitCondition": "2"}, False, 3, False), ({"hitCondition": "2"}, False, 6, False), ({"hitCondition": "> 1"}, False, 9, True),
@@ -158,20 +158,20 @@ def test_completions_before_the_first_column_are_those_of_an_empty_line() -> Non
     ],
 )  # fmt: skip
 def test_a_breakpoint_stops_by_its_condition_and_hit_count(
-    asked: dict[str, str], is_true: bool, position: int, stops: bool, monkeypatch: pytest.MonkeyPatch
+    requested: dict[str, str], is_true: bool, position: int, stops: bool, monkeypatch: pytest.MonkeyPatch
 ) -> None:
     """The steps of this kind are at positions 3, 5 and 9."""
     monkeypatch.setattr(dap_marks, "positions_of", lambda session, what: [3, 5, 9])
     session = Made(
         netrev=Made(marks=lambda: []), ask=lambda line: {"break rwlock": "mark 4", "break acquire": "mark 7"}[line], holding=lambda numbers: numbers,
-        holds=lambda condition, at=0: is_true, stands=lambda: Made(position=position),
+        holds=lambda condition, at=0: is_true, current_position=lambda: Made(position=position),
     )  # fmt: skip
     marks = Marks(cast(Any, session))
     set_ones = marks.replace(
         BreakpointKind.FUNCTION,
-        [wish_of("rwlock", asked), wish_of("acquire", {}), wish_of("rwlock", {"condition": "x"})],
+        [wish_of("rwlock", requested), wish_of("acquire", {}), wish_of("rwlock", {"condition": "x"})],
     )
-    assert [one.get("id") for one in set_ones] == [4, 7, None] and not set_ones[2]["verified"]
+    assert [set_one.get("id") for set_one in set_ones] == [4, 7, None] and not set_ones[2]["verified"]
     assert marks.holding(["4", "7", "9"]) == [*(["4"] if stops else []), "7", "9"]  # (9 was set in the console)
     assert [marks.reason(number) for number in ("4", "9")] == ["function breakpoint", "breakpoint"]
 
@@ -195,14 +195,14 @@ def test_breakpoints_of_a_kind_are_replaced() -> None:
     marks = Marks(cast(Any, Made(ask=ask, netrev=Made(marks=lambda: standing))))
     marks.replace(BreakpointKind.FUNCTION, [wish_of("rwlock", {}), wish_of("acquire", {}), wish_of("spawn", {})])
     assert [
-        one["verified"] for one in marks.replace(BreakpointKind.DATA, [wish_of("lock 0", {}), wish_of("x", {})])
+        answer["verified"] for answer in marks.replace(BreakpointKind.DATA, [wish_of("lock 0", {}), wish_of("x", {})])
     ] == [
         True,
         False,
     ]
     lines.clear()
     assert [
-        one["id"] for one in marks.replace(BreakpointKind.FUNCTION, [wish_of("acquire", {}), wish_of("spawn", {})])
+        answer["id"] for answer in marks.replace(BreakpointKind.FUNCTION, [wish_of("acquire", {}), wish_of("spawn", {})])
     ] == [2, 5]
     assert lines == ["delete 1", "break spawn"]  # (3 had been deleted)
     lines.clear()
@@ -224,17 +224,17 @@ def test_the_lines_that_have_a_step(
     """Steps are at lines 3, 5 and 9 of the program, and at lines 2 to 5 of the recording. The editor counts lines from `first`."""
     steps = {number: Made(number=number, line=number + 1) for number in (1, 2, 3, 4)}
     debuggee = Made(
-        is_at=lambda path: is_recording, step=steps.get, step_at=lambda line: next((one for one in steps.values() if one.line >= line), None)
+        is_at=lambda path: is_recording, step=steps.get, step_at=lambda line: next((step for step in steps.values() if step.line >= line), None)
     )  # fmt: skip
     target = Made(debuggee=debuggee, go_lines=Made(lines=lambda path: {9, 3, 5}))
     shift = 1 - first
-    asked = Request(
+    request = Request(
         1,
         "breakpointLocations",
         {"source": {"path": "main.go"}, "line": line - shift} | ({"endLine": end - shift} if end else {}),
     )
-    found = breakpoints.locations(cast(Any, target), Numbering(first == 1), asked)
-    assert [one["line"] + shift for one in found["breakpoints"]] == wanted
+    found = breakpoints.locations(cast(Any, target), Numbering(first == 1), request)
+    assert [step["line"] + shift for step in found["breakpoints"]] == wanted
 
 
 @pytest.mark.parametrize("last, count", [(999, 999), (1_000, 1_000), (1_001, 1_000), (2_000, 1_000)])
@@ -244,6 +244,6 @@ def test_a_thousand_lines_that_have_a_step(last: int, count: int, is_recording: 
         is_at=lambda path: is_recording, step=lambda number: Made(number=number, line=number), step_at=lambda line: Made(number=line, line=line)
     )  # fmt: skip
     target = Made(debuggee=debuggee, go_lines=Made(lines=lambda path: set(range(1, 3_000))))
-    asked = Request(1, "breakpointLocations", {"source": {"path": "main.go"}, "line": 1, "endLine": last})
-    found = breakpoints.locations(cast(Any, target), Numbering(True), asked)
-    assert [one["line"] for one in found["breakpoints"]] == list(range(1, count + 1))
+    request = Request(1, "breakpointLocations", {"source": {"path": "main.go"}, "line": 1, "endLine": last})
+    found = breakpoints.locations(cast(Any, target), Numbering(True), request)
+    assert [breakpoint["line"] for breakpoint in found["breakpoints"]] == list(range(1, count + 1))

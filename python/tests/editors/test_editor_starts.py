@@ -13,21 +13,21 @@ from typing import Any, Optional
 import pytest
 
 from netrev.connection.collected_output import Collecting
-from nrdb.dap import adapter, handshakes, serving
+from nrdb.dap import adapter, handshakes, server
 from nrdb.dap.adapter import Adapter
 from nrdb.dap.admission import NAMED_BY
 from nrdb.dap.handshakes import Connection
-from nrdb.dap.hearing import Reading
-from nrdb.dap.looks import page
+from nrdb.dap.message_reader import Reading
+from nrdb.dap.inspection import page
 from nrdb.dap.target import AT_END, AT_START, Launch
 from nrdb.dap.view import debuggee
 from nrdb.dap.view.debuggee import Debuggee
-from nrdb.dap.view.looking import GOIDS, NETWORK, maker_of, thread_of
+from nrdb.dap.view.presentation import GOIDS, NETWORK, maker_of, thread_of
 from nrdb.dap.view.messages import EditorStreams, Request, UnanswerableError
 from tests.support.stubs import raising, stub
 from tests.suspects.test_suspects import COMES, OPEN, READ, recording_of
 
-from .test_dap_heard import framed, messages_in
+from .test_message_reader import framed, messages_in
 
 TOKEN = "right"
 INITIALIZE, LAUNCH, STRANGE = (
@@ -144,10 +144,10 @@ def test_an_editor_is_told_what_a_recording_lacks(monkeypatch: pytest.MonkeyPatc
 def test_the_exit_status(
     monkeypatch: pytest.MonkeyPatch, sent: bytes, status: int, says: str, capsys: pytest.CaptureFixture[str]
 ) -> None:
-    assert serving.serve(EditorStreams(io.BytesIO(sent), io.BytesIO()), "netrev") == status
+    assert server.serve(EditorStreams(io.BytesIO(sent), io.BytesIO()), "netrev") == status
     assert capsys.readouterr().err.startswith(says)
     monkeypatch.setattr(Adapter, "serve", raising(BrokenPipeError))
-    assert serving.serve(EditorStreams(io.BytesIO(), io.BytesIO()), "netrev") == 3
+    assert server.serve(EditorStreams(io.BytesIO(), io.BytesIO()), "netrev") == 3
 
 
 def test_an_editor_is_served_over_the_standard_streams(monkeypatch: pytest.MonkeyPatch) -> None:
@@ -158,7 +158,7 @@ def test_an_editor_is_served_over_the_standard_streams(monkeypatch: pytest.Monke
         patch.setattr(sys, "stdin", stdin)
         written = io.BytesIO()
         patch.setattr(sys, "stdout", stub(buffer=written))
-        assert serving.serve_streams("netrev") == 0
+        assert server.serve_streams("netrev") == 0
         assert not stdin.closed
     (answer, *_) = messages_in(written.getvalue())
     assert (answer["command"], answer["success"]) == ("initialize", True)
@@ -188,10 +188,10 @@ def test_of_many_who_say_nothing_the_oldest_is_ended(monkeypatch: pytest.MonkeyP
         silent = [opened.enter_context(socket.create_connection(listening.getsockname())) for _ in range(3)]
         silent[0].settimeout(60)
         assert silent[0].recv(1) == b""
-        for one in silent[1:]:
-            one.settimeout(0.05)
+        for connection in silent[1:]:
+            connection.settimeout(0.05)
             with pytest.raises(TimeoutError):
-                one.recv(1)
+                connection.recv(1)
 
 
 def test_a_port_can_be_served_again_at_once(capsys: pytest.CaptureFixture[str]) -> None:
@@ -210,8 +210,8 @@ def test_a_port_can_be_served_again_at_once(capsys: pytest.CaptureFixture[str]) 
 
         ports: list[int] = []
         with pytest.MonkeyPatch.context() as patch:
-            patch.setattr(serving, "Handshakes", connected)
-            return serving.serve_port("netrev", port), ports[-1] if ports else 0
+            patch.setattr(server, "Handshakes", connected)
+            return server.serve_port("netrev", port), ports[-1] if ports else 0
 
     status, port = served(0)
     assert status == 0
@@ -221,14 +221,14 @@ def test_a_port_can_be_served_again_at_once(capsys: pytest.CaptureFixture[str]) 
 
 @pytest.mark.parametrize("port", [65_536, -1])
 def test_a_port_that_cannot_be_served(port: int, capsys: pytest.CaptureFixture[str]) -> None:
-    assert serving.serve_port("netrev", port) == 3
+    assert server.serve_port("netrev", port) == 3
     assert capsys.readouterr().err.startswith(f"nrdb --dap-port {port}: ")
 
 
 @pytest.mark.parametrize("token", ["short", "\u00e4" * 40, "line\n" * 10])
 def test_a_token_that_is_none(monkeypatch: pytest.MonkeyPatch, token: str, capsys: pytest.CaptureFixture[str]) -> None:
     monkeypatch.setenv(NAMED_BY, token)
-    assert serving.serve_port("netrev", 0) == 2
+    assert server.serve_port("netrev", 0) == 2
     assert capsys.readouterr().err.startswith("nrdb --dap-port: ")
 
 
@@ -237,7 +237,7 @@ def test_a_token_that_is_none(monkeypatch: pytest.MonkeyPatch, token: str, capsy
 
 def debugged(position: int) -> Debuggee:
     recording = recording_of(OPEN + READ + COMES + [["tick", 5]] + [["rwunlock", 1, 0, "r"], ["tick", 9], ["tick", 12]])
-    return Debuggee(stub(stood=position), recording, Collecting(), "x.jsonl")
+    return Debuggee(stub(known_position=position), recording, Collecting(), "x.jsonl")
 
 
 MAKERS = [None, None, None, 0, 1, 1, 1, None, None, None, 1, None, None]  # of the steps from 1 on
@@ -249,8 +249,8 @@ def test_the_steps_of_a_thread(monkeypatch: pytest.MonkeyPatch, position: int) -
     assert [shown.maker(number) for number in range(1, len(MAKERS))] == MAKERS[1:]
     assert shown.maker_here() == MAKERS[min(position + 1, len(MAKERS) - 1)]
     for maker in (None, 0, 1, 2):
-        made = [number for number in range(1, position + 1) if MAKERS[number] == maker]
-        assert shown.last_step_of(maker) == max(made, default=0)
+        steps = [number for number in range(1, position + 1) if MAKERS[number] == maker]
+        assert shown.last_step_of(maker) == max(steps, default=0)
     monkeypatch.setattr(debuggee, "FAR", 2)
     near = [number for number in range(max(position - 1, 1), position + 1) if MAKERS[number] is None]
     assert shown.last_step_of(None) == max(near, default=0)

@@ -27,7 +27,7 @@ from netrev.session.session import UsageError
 from netrev.system.interrupts import SearchInterruptedError
 from netrev.text.contents import Limits
 from netrev.text.vocabulary import KINDS
-from netrev.text.writing import line_of
+from netrev.text.writer import line_of
 from tests.support.stubs import stub
 from tests.suspects.test_suspects import COMES, LOOKS, OPEN, PARK, READ, recording_of
 

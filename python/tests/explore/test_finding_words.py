@@ -11,7 +11,7 @@ from netrev.explore.commands import FindingFiles
 from netrev.explore.schedules import Delay
 from netrev.explore.script import script_of
 from netrev.explore.sentences import FindingSentences, summary
-from netrev.findings.suspects.found import Suspect, Weight
+from netrev.findings.suspects.suspect import Suspect, Weight
 from netrev.reduce import report
 from netrev.reduce.reduced import Reduced, Wanted
 from netrev.reduce.units import UnitKind

@@ -16,7 +16,7 @@ from netrev.reduce.targets import CellTarget, HangTarget, StepsTarget
 from netrev.reduce.units import Unit, units_of
 from netrev.reduce.writing import where_text, write_recording
 from netrev.text.contents import Limits
-from netrev.text.writing import line_of
+from netrev.text.writer import line_of
 from nrdb.prompt.completion import candidates
 from tests.suspects.test_suspects import (
     BACK,

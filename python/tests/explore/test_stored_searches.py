@@ -21,7 +21,7 @@ from netrev.model.program import printed
 from netrev.recording.recording import Recording
 from netrev.system.interrupts import Interrupts
 from tests.session.test_stored_views import ROOT, session_of
-from tests.support.modelled import Modelled, changes_at, recording_at
+from tests.support.model_sessions import Modelled, changes_at, recording_at
 
 STORED = Path(__file__).with_name("searches.json")
 RACES = sorted(path.stem for path in (ROOT / "examples/races").glob("*.jsonl"))

@@ -9,11 +9,11 @@ from typing import Any
 import pytest
 
 from netrev.findings.datagrams.datagrams import dropped_datagram
-from netrev.findings.http.cancels import cancel_before, deferred_says
+from netrev.findings.http.cancellations import cancel_before, deferred_sentence
 from netrev.findings.http.late_answers import is_of_write_timeout, late_answers
 from netrev.findings.locks.new_readers import thrown_away
 from netrev.findings.streams.exchanges import perhaps_why
-from netrev.findings.streams.flushes import ways_round_a_flush, writes_through_a_buffer
+from netrev.findings.streams.flushes import paths_around_flush, writes_through_a_buffer
 from netrev.recording.recording import Recording
 from netrev.recording.where import OF_GO
 from netrev.recording.where import SourceCall as LineCall
@@ -66,7 +66,7 @@ def file_of(folder: Path, source: str) -> str:
 def ways(folder: Path, source: str) -> str:
     recording, file = with_lines(TWO_ENDS), file_of(folder, source)
     recording.lines.written = float("inf")
-    return ways_round_a_flush(recording, Stack((line(5, "(*session).loop", file),), None)).replace(file, "a.go")
+    return paths_around_flush(recording, Stack((line(5, "(*session).loop", file),), None)).replace(file, "a.go")
 
 
 def test_a_continue_behind_what_is_written(folder: Path) -> None:
@@ -215,7 +215,7 @@ def test_one_that_was_read_and_not_answered() -> None:
         for call in index.by_goroutine[0]
         if call.name == "Read" and call.moved and index.other_end(call.socket) is None
     ]
-    assert [says for one in answered for says in dropped_datagram(index, one)] == []
+    assert [says for item in answered for says in dropped_datagram(index, item)] == []
 
 
 def test_the_line_that_defers_a_cancel_and_the_one_that_makes_the_context() -> None:
@@ -226,7 +226,7 @@ def test_the_line_that_defers_a_cancel_and_the_one_that_makes_the_context() -> N
     cancel = next(item for item in found if item)
     with in_the_folder_of_the_source(source_of("cancelled")):
         assert re.search(
-            r"^main.go:\d+ defers that, of the context that main.go:\d+ makes\.$", deferred_says(index, cancel)[0]
+            r"^main.go:\d+ defers that, of the context that main.go:\d+ makes\.$", deferred_sentence(index, cancel)[0]
         )
     recording.lines.written = 0
-    assert deferred_says(index, cancel) == []
+    assert deferred_sentence(index, cancel) == []

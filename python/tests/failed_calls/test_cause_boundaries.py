@@ -61,13 +61,13 @@ def test_several_goroutines_have_waited_for_a_condition(waits: str, have: bool, 
 
 
 @pytest.mark.parametrize(
-    "line, made", [(2, ""), (3, " (a.go:3)"), (6, " (a.go:3)"), (7, " (a.go:7)"), (9, " (a.go:7)")]
+    "line, maker", [(2, ""), (3, " (a.go:3)"), (6, " (a.go:3)"), (7, " (a.go:7)"), (9, " (a.go:7)")]
 )
-def test_the_last_line_before_a_read_that_makes_its_buffer(line: int, made: str, monkeypatch: Patch) -> None:
+def test_the_last_line_before_a_read_that_makes_its_buffer(line: int, maker: str, monkeypatch: Patch) -> None:
     monkeypatch.setattr(cut_datagrams, "text_at", lambda recording, call: "\tn, _, err := c.ReadFrom(buf)")
     monkeypatch.setattr(cut_datagrams, "found_in", lambda recording, call, makes: [(3, None), (7, None), (10, None)])
     index = cast(RunIndex, Made(recording=stacks(line_of(line))))
-    assert cut_datagrams.buffer_place(index, cast(Any, Made(first=5))) == made
+    assert cut_datagrams.buffer_place(index, cast(Any, Made(first=5))) == maker
 
 
 @pytest.mark.parametrize(
@@ -110,17 +110,17 @@ def test_a_function_literal_of_one_line(text: str, is_whole: bool) -> None:
 
 
 @pytest.mark.parametrize(
-    "made, next_one",
+    "statements, next_one",
     [("f9 f10 f12", 10), ("f12 f11", 11), ("f9 g11", None), ("f9 g10 f13", 13), ("", None)],
 )
-def test_the_next_go_statement_of_the_function_that_added(made: str, next_one: int | None) -> None:
-    kinds = [Made(statement=line_of(int(one[1:]), one[0])) for one in made.split()]
+def test_the_next_go_statement_of_the_function_that_added(statements: str, next_one: int | None) -> None:
+    kinds = [Made(statement=line_of(int(word[1:]), word[0])) for word in statements.split()]
     recording = Made(lines=Made(stacks={4: Made(own=lambda: [line_of(10, "f")])}))
-    found = group_counts.next_behind(cast(Any, recording), cast(Any, Made(added=[Made(stack=4)])), cast(Any, kinds))
+    found = group_counts.next_after(cast(Any, recording), cast(Any, Made(added=[Made(stack=4)])), cast(Any, kinds))
     assert [kind.statement.line for kind in found] == ([next_one] if next_one else [])
     recording.lines.stacks[4] = Made(own=lambda: None)
     assert (
-        group_counts.next_behind(cast(Any, recording), cast(Any, Made(added=[Made(stack=4)])), cast(Any, kinds)) == []
+        group_counts.next_after(cast(Any, recording), cast(Any, Made(added=[Made(stack=4)])), cast(Any, kinds)) == []
     )
 
 
@@ -179,7 +179,7 @@ def test_the_close_after_a_request_was_cancelled(
     every = [Made(goid=7, time=time, name=name, socket=socket) for time, socket in ((3, 4), (5, 2), (20, 6))]
     close = Made(begin=20, last=9, goid=1, stack=0)
     found = list(http_requests.cancelled(cast(Any, index), cast(Any, every), cast(Any, Made(goid=7)), cast(Any, close)))
-    assert [(one.closed.first, one.request) for one in found] == ([(closed, every[1])] if closed else [])
+    assert [(cancel.closed.first, cancel.request) for cancel in found] == ([(closed, every[1])] if closed else [])
 
 
 def test_the_function_of_the_program_that_makes_a_call() -> None:
@@ -237,13 +237,13 @@ def test_connections_that_a_goroutine_has_dialed_since_and_never_used(monkeypatc
         Made(name=name, first=step, socket=socket)
         for name, step, socket in ((OPEN, 5, 2), (OPEN, 6, 3), (OPEN, 7, 4), (OPEN, 8, 5), ("Read", 9, 3), (OPEN, 10, 6), (OPEN, 11, 7))
     ]}))  # fmt: skip
-    monkeypatch.setattr(unused_sockets, "is_dialed", lambda one, socket: one is index and socket != 4)
-    monkeypatch.setattr(unused_sockets, "is_used", lambda one, socket: one is index and socket == 5)
+    monkeypatch.setattr(unused_sockets, "is_dialed", lambda given_index, socket: given_index is index and socket != 4)
+    monkeypatch.setattr(unused_sockets, "is_used", lambda given_index, socket: given_index is index and socket == 5)
     monkeypatch.setattr(
         unused_sockets, "place_in", lambda step: "" if step == 11 else " at a.go:1" if step < 10 else " at a.go:2"
     )
-    said = unused_sockets.unused_since(index, cast(Any, Made(goroutine=1)), 5)
-    assert said == [
+    sentences = unused_sockets.unused_since(index, cast(Any, Made(goroutine=1)), 5)
+    assert sentences == [
         "Goroutine 1 has dialed since at a.go:1, and never used socket 3.",
         "Goroutine 1 has dialed since at a.go:2, and never used socket 6.",
     ]
@@ -350,19 +350,19 @@ def test_the_lines_of_the_function_around_a_line(line: int, within: range | None
 
 
 @pytest.mark.parametrize(
-    "size, asked, moved, cut",
+    "size, requested, moved, cut",
     [(9, 8, 8, True), (8, 8, 8, False), (7, 8, 7, False), (9, 8, 7, False), (9, None, 8, False)],
 )
 def test_a_datagram_that_is_longer_than_the_buffer(
-    size: int, asked: int | None, moved: int, cut: bool, monkeypatch: Patch
+    size: int, requested: int | None, moved: int, cut: bool, monkeypatch: Patch
 ) -> None:
     read, wrote = Made(name="Read", moved=moved, last=6, first=5), Made(name="Write", moved=size, first=3, last=4)
-    monkeypatch.setattr(cut_datagrams, "read_sizes_of", lambda recording: Made(of=lambda call: asked))
+    monkeypatch.setattr(cut_datagrams, "read_sizes_of", lambda recording: Made(of=lambda call: requested))
     monkeypatch.setattr(cut_datagrams, "size_of", lambda index, call: call.moved)
     monkeypatch.setattr(cut_datagrams, "is_datagram", lambda index, socket: socket == 3)
     monkeypatch.setattr(cut_datagrams, "sent_to", lambda index, socket: [wrote])
     index = cast(Any, Made(recording=None, by_socket={3: [wrote, read], 4: [read]}))
-    assert [(one.write, one.read) for one in cut_datagrams.cut_at(index, 3)] == ([(wrote, read)] if cut else [])
+    assert [(cut_datagram.write, cut_datagram.read) for cut_datagram in cut_datagrams.cut_at(index, 3)] == ([(wrote, read)] if cut else [])
     assert not list(cut_datagrams.cut_at(index, 4))
 
 
@@ -380,13 +380,13 @@ def test_one_cause_for_each_line_that_read_cut_datagrams(monkeypatch: Patch) -> 
      (5, 21, "main.run", False), (5, -1, "main.run", False), (5, 9, "main.other", False)],
 )  # fmt: skip
 def test_all_goroutines_that_a_waiter_started_have_ended(first: int, last: int, function: str, says: bool) -> None:
-    made, none = line_of(4, function), Made(made=None, first=1, last=2)
-    known = {7: none, 8: Made(made=made, first=first, last=last)}
+    starter, none = line_of(4, function), Made(made=None, first=1, last=2)
+    known = {7: none, 8: Made(made=starter, first=first, last=last)}
     own = Made(
-        _recording=Made(lines=Made(goroutines=known)), _position=20, _ended_words=lambda made, goids: [(made, goids)]
+        _recording=Made(lines=Made(goroutines=known)), _position=20, _ended_words=lambda starter, goids: [(starter, goids)]
     )
     waiter = Made(stack=Made(calls=[line_of(9, "sync.Wait", of=OF_GO), line_of(9, "main.run")]), since=5)
-    assert groups.Groups._of_ended(cast(Any, own), cast(Any, waiter)) == ([(made, [8])] if says else [])
+    assert groups.Groups._of_ended(cast(Any, own), cast(Any, waiter)) == ([(starter, [8])] if says else [])
     waiter.stack.calls[1] = line_of(9, "main.run", of=OF_GO)
     assert groups.Groups._of_ended(cast(Any, own), cast(Any, waiter)) == []
 
@@ -424,8 +424,8 @@ def test_a_handler_whose_client_has_gone(
 def test_a_case_that_a_select_lacks(
     mine: int, name: int, use: str, function: str, lacks: bool, monkeypatch: Patch
 ) -> None:
-    def waiting(number: int, made: str, *at: Any) -> Any:
-        return Made(name=number, objects=at, stack=Made(own=lambda: (line_of(3, made), "")))
+    def waiting(number: int, starter: str, *at: Any) -> Any:
+        return Made(name=number, objects=at, stack=Made(own=lambda: (line_of(3, starter), "")))
 
     wait = waiting(1, "main.(*hub).run", Made(object=mine, use=FOR_VALUE))
     other = waiting(name, function, Made(object=7, use=FOR_VALUE), Made(object=9, use=use))
@@ -450,7 +450,7 @@ def test_a_read_that_passes_by_a_reader_with_a_buffer(change: dict[str, Any], sa
     monkeypatch.setattr(new_readers, "is_buffered", lambda stack: stack.name in case.buffered.split())
     monkeypatch.setattr(new_readers, "maker_line", lambda index, frame: case.made)
     monkeypatch.setattr(new_readers, "text_of_call", lambda recording, call: "it")
-    monkeypatch.setattr(new_readers, "lost_with", lambda index, file, made, read, last, why: f"{file}:{made}, {why}")
+    monkeypatch.setattr(new_readers, "lost_with", lambda index, file, maker, read, last, why: f"{file}:{maker}, {why}")
     stacks = {
         9: Made(name="first", calls=[line_of(9, "main.run.func1"), line_of(9, "os.f", of=OF_GO)]),
         5: Made(name="last", calls=[line_of(9, "bufio.f", of=OF_GO), line_of(9, case.function, of=case.of)]),
@@ -501,7 +501,7 @@ def test_a_reply_that_is_not_whole(change: dict[str, Any], says: bool, monkeypat
     }  # fmt: skip
     case = Made(**(usual | change))
     wrote = case.wrote and Made(first=7, last=10, moved=case.moved, goroutine=9)
-    asked = case.asked and Made(first=3, goroutine=case.by)
+    requested = case.asked and Made(first=3, goroutine=case.by)
     now = case.now and Made(name=case.now_name, socket=case.now_socket, first=case.now_first)
     read = case.read and Made(goroutine=case.reader, last=case.read_last)
     part = Made(file="a.go", loop=4, ways=[], writes=8, is_inside=True)
@@ -509,8 +509,8 @@ def test_a_reply_that_is_not_whole(change: dict[str, Any], says: bool, monkeypat
     monkeypatch.setattr(unfinished_replies, "reader_of", lambda index, socket, wrote, position: read)
     monkeypatch.setattr(unfinished_replies, "parts_of", lambda index, wrote, now: iter([part] if case.part else []))
     monkeypatch.setattr(unfinished_replies, "place_of", lambda recording, step: " at a.go:8 in menu, called at a.go:2")
-    monkeypatch.setattr(unfinished_replies, "ways_words", lambda file, ways: "a.go:6 goes on")
-    last = {4: wrote, 2: asked}
+    monkeypatch.setattr(unfinished_replies, "paths_text", lambda file, ways: "a.go:6 goes on")
+    last = {4: wrote, 2: requested}
     index = Made(
         recording=None, last_use=lambda socket, position, names: last[socket], call_at=lambda goroutine, at: now
     )

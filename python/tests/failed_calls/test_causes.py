@@ -13,12 +13,12 @@ import pytest
 
 from dev.fuzz.generators.injections import Traffic
 from netrev.findings.causes import errors_table, first_words
-from netrev.findings.causes.failing import cause_of
+from netrev.findings.causes.failed_calls import cause_of
 from netrev.findings.causes.tables import hangs_table
-from netrev.findings.evidence.words import duration
-from netrev.findings.source.source import behind
+from netrev.findings.evidence.call_words import duration
+from netrev.findings.source.later_source import behind
 from netrev.findings.streams.unpassed_ends import SETTLED
-from netrev.findings.suspects.loading import RULES_OF_CALLS
+from netrev.findings.suspects.rule_loader import RULES_OF_CALLS
 from netrev.findings.suspects.ranking import all_suspects_of
 from netrev.findings.suspects.rules_of_calls.left_open import SINCE
 from netrev.findings.suspects.rules_of_calls.timeout_again import MANY
@@ -228,7 +228,7 @@ def test_of_calls_that_fail_alike_one_cause_is_looked_for(monkeypatch: pytest.Mo
         calls.append(arguments)
         return cause_of(*arguments)
 
-    monkeypatch.setattr("netrev.findings.causes.first.cause_of", counted)
+    monkeypatch.setattr("netrev.findings.causes.first_output.cause_of", counted)
     text = first_words(recording, "spin")
     assert len(calls) == 1
     assert "499 more like it." in text[2]

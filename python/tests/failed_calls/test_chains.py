@@ -7,7 +7,7 @@ from pathlib import Path
 
 import pytest
 
-from netrev.findings.causes.first import first_words
+from netrev.findings.causes.first_output import first_words
 from netrev.findings.evidence.need import Need
 from netrev.findings.evidence.waiters import Waiter
 from netrev.findings.hangs.chains import is_elsewhere, is_still_so
@@ -78,8 +78,8 @@ def test_no_cause_of_a_good_run_has_the_reason(name: str) -> None:
 
 def test_the_limit_of_a_context_had_passed() -> None:
     first = causes_of(stored("handshake-bad"))[0]
-    made = r"the limit of a context, 200 ms, had passed since that was made at main\.go:\d+ in handshake \(goroutine 0, step \d+\)\."
-    assert re.search(rf"context\.AfterFunc called that as its context ended: {made}", first)
+    sentence = r"the limit of a context, 200 ms, had passed since that was made at main\.go:\d+ in handshake \(goroutine 0, step \d+\)\."
+    assert re.search(rf"context\.AfterFunc called that as its context ended: {sentence}", first)
     assert "had cancelled it" not in first
 
 
@@ -187,8 +187,8 @@ def test_channels_of_a_function_alone(tmp_path: Path, line: str, is_so: bool) ->
     file.write_text(f"func first() string {{\n\tanswers := make(chan string)\n\t{line}\n}}\n", encoding="utf-8")
     recording = stored("fanned-bad")
     recording.lines.written = float("inf")
-    made = SourceCall("main.first", str(file), 2, OF_THE_PROGRAM)
-    assert is_local(run_of(recording), made) is is_so
+    source_call = SourceCall("main.first", str(file), 2, OF_THE_PROGRAM)
+    assert is_local(run_of(recording), source_call) is is_so
 
 
 def edited(recording: Recording, folder: Path, line: str, new: str) -> str:

@@ -3,7 +3,7 @@ during the call."""
 
 import pytest
 
-from netrev.findings.causes.failing import causes_of
+from netrev.findings.causes.failed_calls import causes_of
 from tests.suspects.test_suspects import OPEN, PARK, READ, Steps, recording_of
 
 CLOSES: Steps = [["increfclose", 0, 0], ["evict", 0, 0], ["decref", 0, 0]]

@@ -27,7 +27,7 @@ def recording(name: str = "requests") -> Recording:
     return Recording.read(str(CAUSED / f"{name}.jsonl"))
 
 
-def says_with(change: Callable[[Any], None]) -> list[str]:
+def sentence_with(change: Callable[[Any], None]) -> list[str]:
     """The text about the requests that ended, with changed lines."""
     changed = recording()
     change(changed.lines)
@@ -79,7 +79,7 @@ def test_one_that_the_program_cancelled_is_no_failure() -> None:
     assert line_of("cancelled") not in "\n".join(first_words(recording(), "requests.jsonl"))
     assert any(
         re.search(rf"cancelled at {line_of('cancelled')} in main.func1 \(goid \d+", says)
-        for says in says_with(lambda _: None)
+        for says in sentence_with(lambda _: None)
     )
 
 
@@ -94,7 +94,7 @@ def test_of_two_deadlines_none_is_named() -> None:
         some = [timer for timer in lines.timers[0] if lines.stacks[timer.stack].own()]
         lines.timers[0] += [timer._replace(goid=99, due=timer.due - 1) for timer in some]
 
-    says = says_with(twice)
+    says = sentence_with(twice)
     # the request's own goroutine made only one of the two timers
     assert re.search(r"its client's Timeout passed .* It counts from the call at", says[0])
     assert re.search(r"ended because a deadline of its context passed \(step \d+\)\.$", says[1])
@@ -104,7 +104,7 @@ def test_a_deadline_that_is_later_is_not_the_one() -> None:
     def later(lines: Any) -> None:
         lines.timers[0] = [timer._replace(due=timer.due + 10**12) for timer in lines.timers[0]]
 
-    for says in says_with(later)[:2]:
+    for says in sentence_with(later)[:2]:
         assert re.search(r"ended because a deadline of its context passed \(step \d+\)\.$", says)
 
 
@@ -113,4 +113,4 @@ def test_a_channel_that_was_closed_twice_is_two_channels() -> None:
         for number, uses in lines.uses.items():
             lines.uses[number] = [*uses, *(use for use in uses if use.what == CLOSED)]
 
-    assert says_with(again) == []
+    assert sentence_with(again) == []

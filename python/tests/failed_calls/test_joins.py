@@ -6,11 +6,11 @@ import re
 
 import pytest
 
-from netrev.findings.causes.first import failures_of, first_words, hangs_of, opening_words
+from netrev.findings.causes.first_output import failures_of, first_words, hangs_of, opening_words
 from netrev.findings.evidence.deadlines_ahead import deadline_ahead
 from netrev.findings.evidence.need import Certainty, Need
 from netrev.findings.evidence.waiters import Waiter
-from netrev.findings.hangs.hang_words import hang_says
+from netrev.findings.hangs.hang_words import hang_sentences
 from netrev.findings.hangs.joins import because_of
 from netrev.findings.hangs.wait_graph import Hang, WaitGraph, graph_at, order, waiters_of
 from netrev.recording.goroutines import CLOSED, PUT
@@ -177,7 +177,7 @@ OTHER: Steps = [["incref", 0, 0], ["setdeadline", 0, 0, "r", 5], ["decref", 0, 0
 def test_calls_with_a_deadline_are_no_deadlock(sets: Steps, is_timed: bool) -> None:
     graph = graph_of(with_lines(TWO_ENDS + sets + writes(0) + writes(1)))
     (hang,) = graph.shown
-    first, *says = hang_says(graph, hang)
+    first, *says = hang_sentences(graph, hang)
     ahead = deadline_ahead(run_of(graph.recording), hang.until, graph.position) if hang.until else None
     assert (ahead is not None) is is_timed
     if is_timed:

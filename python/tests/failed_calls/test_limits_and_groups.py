@@ -8,10 +8,10 @@ from typing import Any
 
 import pytest
 
-from netrev.findings.causes.failing import causes_of
+from netrev.findings.causes.failed_calls import causes_of
 from netrev.findings.evidence.responses import contains
 from netrev.findings.evidence.waiters import Waiter
-from netrev.findings.http.cancels import Cancel, cancel_says
+from netrev.findings.http.cancellations import Cancel, cancel_sentence
 from netrev.findings.http.requests import CLIENT_TIMEOUT
 from netrev.findings.locks.groups import Groups
 from netrev.recording.goroutines import GoGoroutine
@@ -22,7 +22,7 @@ from tests.hangs.test_needs import line
 from tests.suspects.test_suspects import OPEN
 
 from .test_causes import LATE, PASSES, SETS, TWO_ENDS, with_lines
-from .test_http_requests import recording, says_with
+from .test_http_requests import recording, sentence_with
 
 SETTER = ("internal/poll.setDeadlineImpl", "net.(*conn).SetReadDeadline")
 SERVES = ("net/http.(*conn).serve", "net/http.(*Server).Serve.gowrap3")
@@ -31,7 +31,7 @@ CONTROLLER = ("net/http.(*response).SetReadDeadline", "net/http.(*ResponseContro
 MILLISECOND = 10**6
 
 
-def timeout_says(functions: tuple[str, ...]) -> str:
+def timeout_sentence(functions: tuple[str, ...]) -> str:
     """The text about a Read that timed out, whose deadline was set in these functions, the innermost first."""
     steps = OPEN + SETS + PASSES + LATE
     recording = with_lines(steps)
@@ -49,13 +49,13 @@ def timeout_says(functions: tuple[str, ...]) -> str:
 
 @pytest.mark.parametrize("by", [("net/http.(*conn).readRequest",), ("net/http.(*conn).readRequest.func1",), ()])
 def test_a_deadline_that_the_server_set_is_one_of_its_own(by: tuple[Any, ...]) -> None:
-    assert "of its http.Server" in timeout_says((*SETTER, *by, *SERVES))
+    assert "of its http.Server" in timeout_sentence((*SETTER, *by, *SERVES))
 
 
 def test_one_that_a_handler_set_is_none() -> None:
     stops = ("net/http.(*connReader).abortPendingRead", "net/http.(*response).finishRequest")
     for by in (HANDLER, CONTROLLER + HANDLER, stops, ("example.com/lib.limit", *HANDLER)):
-        says = timeout_says((*SETTER, *by, *SERVES))
+        says = timeout_sentence((*SETTER, *by, *SERVES))
         assert "ended with a timeout" in says, by
         assert "of its http.Server" not in says, by
 
@@ -68,7 +68,7 @@ def says(*earlier: tuple[int, int]) -> str:
     timer = next(timer for timer in lines.timers[0] if contains(lines.stacks[timer.stack], CLIENT_TIMEOUT))
     lines.timers[0] += [timer._replace(time=timer.time - time, due=timer.due - due) for time, due in earlier]
     use = next(use for uses in lines.uses.values() for use in uses)
-    return cancel_says(run_of(made), Cancel(1, use, [timer]))
+    return cancel_sentence(run_of(made), Cancel(1, use, [timer]))
 
 
 def test_what_a_redirect_left_is_no_limit() -> None:
@@ -87,8 +87,8 @@ def test_a_request_that_ended_names_no_rest_either() -> None:
             timer._replace(time=timer.time - 5 * MILLISECOND, due=timer.due + 90) for timer in lines.timers[0]
         ]
 
-    assert re.search(r"It counts from the call at main.go:\d+ .* \d+ ms earlier\.$", says_with(lambda lines: None)[0])
-    assert re.search(r"It counts from the call at main.go:\d+ in \w+\.$", says_with(redirected)[0])
+    assert re.search(r"It counts from the call at main.go:\d+ .* \d+ ms earlier\.$", sentence_with(lambda lines: None)[0])
+    assert re.search(r"It counts from the call at main.go:\d+ in \w+\.$", sentence_with(redirected)[0])
 
 
 def text_of_group(*others: tuple[int, int], waiter: int = 0, maker: int = 1) -> str:

@@ -11,7 +11,7 @@ from pathlib import Path
 import pytest
 
 from netrev.connection.output import Table
-from netrev.findings.causes.first import first_words
+from netrev.findings.causes.first_output import first_words
 from netrev.findings.causes.tables import errors_table, hangs_table, requests_table
 from netrev.findings.suspects.ranking import suspects_of
 from netrev.recording.recording import Recording
@@ -34,16 +34,16 @@ def said_of(name: str) -> dict[str, list[str]]:
     recording.lines.written = float("inf")  # (a clone's files are newer than the recording)
     program = name.rpartition("-")[0]
     with in_the_folder_of_the_source(source_of(program) if program in PROGRAMS else SOURCE):
-        suspects = [one for one in suspects_of(recording).suspects if one.is_shown]
+        suspects = [suspect for suspect in suspects_of(recording).suspects if suspect.is_shown]
         first = [line for line in first_words(recording, f"{name}.jsonl") if not line.startswith("next:")]
-        said = {
+        sentences = {
             "first": first,  # (without the command that starts nrdb here)
             "hangs in the middle": lines_of(hangs_table(recording, recording.length // 2)),
             "errors": lines_of(errors_table(recording, recording.length, None)),
             "requests": lines_of(requests_table(recording)),
-            "suspects": [f"{one.rule} {one.step} {one.weight} {one.steps}: {one.sentence()}" for one in suspects],
+            "suspects": [f"{suspect.rule} {suspect.step} {suspect.weight} {suspect.steps}: {suspect.sentence()}" for suspect in suspects],
         }
-    return {part: lines for part, lines in said.items() if lines}
+    return {part: lines for part, lines in sentences.items() if lines}
 
 
 def stored() -> dict[str, dict[str, list[str]]]:
@@ -59,13 +59,13 @@ def test_nrdb_says_what_is_stored(name: str) -> None:
 def test_what_is_stored_is_of_these_recordings_and_says_something() -> None:
     found = stored()
     assert sorted(found) == RECORDINGS
-    parts = Counter(part for said in found.values() for part in said)
+    parts = Counter(part for output in found.values() for part in output)
     assert len(parts) == 5 and parts["first"] > 80 and parts["errors"] > 30, parts
 
 
 def main() -> int:
-    said = {name: said_of(name) for name in RECORDINGS}
-    STORED.write_text(json.dumps(said, indent=1, ensure_ascii=False) + "\n", encoding="utf-8")
+    sentences = {name: said_of(name) for name in RECORDINGS}
+    STORED.write_text(json.dumps(sentences, indent=1, ensure_ascii=False) + "\n", encoding="utf-8")
     return 0
 
 

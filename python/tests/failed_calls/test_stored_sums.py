@@ -16,7 +16,7 @@ from pathlib import Path
 
 import pytest
 
-from netrev.findings.causes.first import first_words
+from netrev.findings.causes.first_output import first_words
 from netrev.findings.causes.tables import errors_table, hangs_table
 from netrev.recording.recording import Recording
 from tests.trials.go_caused import SOURCE, source_of
@@ -132,8 +132,8 @@ def test_nrdb_says_what_the_sums_are_of(name: str) -> None:
 def test_comments_change_nothing(name: str) -> None:
     program = name.rpartition("-")[0]
     with in_the_folder_of_the_source(source_of(program) if program in PROGRAMS else SOURCE):
-        said = [line.replace(COMMENTS, "") for line in with_source(name, commented)]
-        assert said == with_source(name, lambda _, line: line)
+        lines_of_source = [line.replace(COMMENTS, "") for line in with_source(name, commented)]
+        assert lines_of_source == with_source(name, lambda _, line: line)
 
 
 def main(words: list[str]) -> None:

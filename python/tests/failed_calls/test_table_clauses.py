@@ -40,7 +40,7 @@ def test_the_failed_calls_of_a_table(most: int | None, shown: str, rest: str, of
     monkeypatch.setattr(tables, "error_rows", lambda recording, call, row: [row])
     table = tables.errors_table(cast(Any, None), 8, most)
     more = f"{of_go} more are waits of Go's own code, which it ended itself" if of_go else ""
-    assert (" ".join(map(str, table.rows)), table.rest) == (shown, "; ".join(one for one in (rest, more) if one))
+    assert (" ".join(map(str, table.rows)), table.rest) == (shown, "; ".join(part for part in (rest, more) if part))
 
 
 @pytest.mark.parametrize(
@@ -71,14 +71,14 @@ def test_hands_that_have_ended(change: dict[str, Any], says: bool, monkeypatch: 
     }  # fmt: skip
     case = Made(**(usual | ({"last": 6} if "what" in change or "object" in change else {}) | change))
     monkeypatch.setattr(ended_hands, "channel_since", lambda recording, wait: 5)
-    monkeypatch.setattr(ended_hands, "hands_at", lambda index, line: [Made(name=Name(one)) for one in case.hands])
+    monkeypatch.setattr(ended_hands, "hands_at", lambda index, line: [Made(name=Name(hand)) for hand in case.hands])
     monkeypatch.setattr(ended_hands, "has_ended", lambda recording, name: name.number in case.ended)
-    monkeypatch.setattr(ended_hands, "says_of", lambda index, hands: ["They ended."])
+    monkeypatch.setattr(ended_hands, "sentence_of", lambda index, hands: ["They ended."])
     uses = {case.object: [ObjectUse(case.object, 3, case.what, 1, 1, 1, case.last, 1, 1)]}
     stack = Stack((line_of(3, of=case.of),) if case.own else (), None)
     wait = ObjectWait(Name(case.name), 5, None, "a value", stack, None, (At(5, case.use),) * case.objects)
     need = ended_hands.ended_hand(cast(Any, Made(recording=Made(lines=Made(uses=uses)))), wait)
-    names = tuple(Name(one) for one in case.hands)
+    names = tuple(Name(hand) for hand in case.hands)
     found = (need.says, need.ended, need.gone, need.is_odd) if need else None
     assert found == ((["They ended."], names, names[0] if len(names) == 1 else None, True) if says else None)
 
@@ -108,11 +108,11 @@ def test_a_request_that_was_cut(change: dict[str, Any], says: str, monkeypatch: 
     monkeypatch.setattr(cut_datagrams, "is_datagram", lambda index, socket: case.datagram)
     monkeypatch.setattr(cut_datagrams, "cut_datagrams", lambda index: (other, pair))
     monkeypatch.setattr(cut_datagrams, "last_cut", lambda index, call: ["last"])
-    monkeypatch.setattr(cut_datagrams, "ways_without_an_answer", lambda recording, stack, writes: case.ways)
+    monkeypatch.setattr(cut_datagrams, "paths_without_answer", lambda recording, stack, writes: case.ways)
     monkeypatch.setattr(cut_datagrams, "writes_of", lambda index, read: set())
     index = Made(
         recording=Made(lines=Made(of=lambda step: None)), last_use=lambda socket, step, names: wrote if case.wrote else None,
         by_goroutine={7: [read, Made(first=case.first, name=case.next, socket=case.socket)]},
     )  # fmt: skip
-    found = cut_datagrams.cut_says(cast(Any, index), cast(Any, Made(socket=3, first=10, goroutine=1)), 20)
+    found = cut_datagrams.cut_sentence(cast(Any, index), cast(Any, Made(socket=3, first=10, goroutine=1)), 20)
     assert found[-1].endswith(says) and len(found) == (2 if "read on" in says else 1)

@@ -9,7 +9,7 @@ from typing import Any
 
 import pytest
 
-from netrev.findings.causes import first
+from netrev.findings.causes import first_output
 from netrev.findings.suspects import table
 from netrev.recording.recording import Recording
 from netrev.run import changes
@@ -117,7 +117,7 @@ def test_if_netrev_is_slow_the_causes_are_the_models_and_the_rest_is_netrevs(
 
 def test_a_library_that_fails_loses_nothing_else(stand_in: StandIn, monkeypatch: pytest.MonkeyPatch) -> None:
     for module, name, kept in (
-        (first, "first_findings", "no suspect; 1 call ended with a timeout"),
+        (first_output, "first_findings", "no suspect; 1 call ended with a timeout"),
         (table, "suspect_findings", "cause:  Read at main.go:55"),
     ):
         for fault, says in ((KeyError(7), "KeyError: 7"), (RecursionError("deep"), "RecursionError: deep")):
@@ -138,7 +138,7 @@ def test_what_takes_too_long_is_said_and_the_rest_is_computed(
         time.sleep(60)
 
     for module, name, limit, says, kept in (
-        (first, "first_findings", "OF_CAUSES", "for the causes: `", "no suspect"),
+        (first_output, "first_findings", "OF_CAUSES", "for the causes: `", "no suspect"),
         (table, "suspect_findings", "PATIENCE", "for the suspects: `", "cause:  Read"),
     ):
         with monkeypatch.context() as patch:
@@ -154,7 +154,7 @@ def test_what_was_interrupted_is_computed_from_new_tables(stand_in: StandIn, mon
         found.values()
         before = found.recording
         with monkeypatch.context() as patch, pytest.raises(LateError):
-            patch.setattr(first, "first_findings", raising(LateError))
+            patch.setattr(first_output, "first_findings", raising(LateError))
             found.causes()
         assert found.recording is None
         found.values()

@@ -12,13 +12,13 @@ import pytest
 
 from dev.recorder.readiness import Readiness
 from netrev.messages import recorder as messages
-from netrev_go import cli, doctor, options, tested, testing
+from netrev_go import cli, doctor, options, go_test_results, go_test
 from netrev_go.go_command import outputs, status
 from netrev_go.go_command.toolchain import RecorderError
 from netrev_go.log import lines
 from netrev_go.steps import goroutine_lines
 from netrev_go.steps.goroutine_lines import Everybody
-from netrev_go.tested import Recordings
+from netrev_go.go_test_results import Recordings
 
 from .test_go_line_reader import elf
 
@@ -70,8 +70,8 @@ def test_logs_of_a_shell_go_to_memory_if_there_is_a_folder_for_it(
 def test_doctor_names_the_netrev_that_checks(program: str, monkeypatch: Patch, capsys: Output) -> None:
     go = Made(version="go1.27", system="linux/amd64", root="/go")
     fakes: dict[str, Callable[..., object]] = {
-        "find_go": lambda: go, "tried": lambda version: "tried", "rules_fit": lambda one: True, "has_room": lambda: True,
-        "can_write": lambda: True, "netrev_program": lambda: program, "how_to_get_netrev": lambda: "how", "tries_well": lambda one: True,
+        "find_go": lambda: go, "tried": lambda version: "tried", "rules_fit": lambda item: True, "has_room": lambda: True,
+        "can_write": lambda: True, "netrev_program": lambda: program, "how_to_get_netrev": lambda: "how", "tries_well": lambda item: True,
     }  # fmt: skip
     for name, fake in fakes.items():
         monkeypatch.setattr(doctor, name, fake)
@@ -91,7 +91,7 @@ def test_doctor_fails_if_one_requirement_isn_t_met(unmet: str, monkeypatch: Patc
 
 
 def test_exit_statuses() -> None:
-    assert {one.name: one.value for one in status.ExitStatus} == {
+    assert {exitstatu.name: exitstatu.value for exitstatu in status.ExitStatus} == {
         "DONE": 0, "REFUSED": 1, "USAGE": 2, "SUSPECTED": 3, "TROUBLE": 4, "UNRECORDED": 5, "INTERRUPTED": 130,
     }  # fmt: skip
 
@@ -159,7 +159,7 @@ def test_a_process_that_failed_without_a_failed_test(
 def test_only_a_test_that_failed_is_reported_while_its_recording_is_made(
     is_red: bool, is_empty: bool, monkeypatch: Patch, capsys: Output
 ) -> None:
-    monkeypatch.setattr(tested, "head_of", lambda test: f"FAIL {test.name}")
+    monkeypatch.setattr(go_test_results, "head_of", lambda test: f"FAIL {test.name}")
     kept: list[str] = []
 
     def made(read: object, name: Path, test: Any, hear: Callable[[list[str]], None]) -> Made:
@@ -168,7 +168,7 @@ def test_only_a_test_that_failed_is_reported_while_its_recording_is_made(
 
     own = Made(
         read=lambda log, tests: None, of=lambda test: None, name_of=lambda package, test: Path(package, test), made=made, _names={Path("p", "T")},
-        keep=lambda told, name, outcome, saying: kept.append(str(name)),
+        keep=lambda reports, name, outcome, saying: kept.append(str(name)),
     )  # fmt: skip
     test = Made(package="p", name="T", is_red=lambda: is_red)
     Recordings.of_each(cast(Any, own), Path("log"), cast(Any, None), cast(Any, [test]))
@@ -188,35 +188,35 @@ class Runner:
         return self._status
 
 
-def run_of(folder: Path, runner: Runner, monkeypatch: Patch) -> testing.GoRun:
+def run_of(folder: Path, runner: Runner, monkeypatch: Patch) -> go_test.GoRun:
     """A run that makes its recordings in `new`, a folder that doesn't exist yet."""
     fakes: dict[str, Callable[..., object]] = {
-        "claim": lambda one: one, "logs_folder": lambda points: folder, "limits_of": lambda options: None, "replace": lambda limits, **more: limits,
-        "GoRunner": lambda *words: runner, "still_written": lambda one: [], "leave": lambda *words: None, "report_unrecorded": lambda one: False,
-        "report_no_log": lambda one, failed: False, "RecordingMaker": lambda *words: Made(so_far=lambda: (folder / "new/here").touch()),
+        "claim": lambda item: item, "logs_folder": lambda points: folder, "limits_of": lambda options: None, "replace": lambda limits, **more: limits,
+        "GoRunner": lambda *words: runner, "still_written": lambda item: [], "leave": lambda *words: None, "report_unrecorded": lambda item: False,
+        "report_no_log": lambda item, failed: False, "RecordingMaker": lambda *words: Made(so_far=lambda: (folder / "new/here").touch()),
     }  # fmt: skip
     for name, fake in fakes.items():
-        monkeypatch.setattr(testing, name, fake)
-    recordings = Made(base=folder / "new", all_recorded=True, take=lambda one, failed: None)
-    return testing.GoRun(argparse.Namespace(points=1, keep=False), *cast(Any, (None, ["go", "test"], None, recordings)))
+        monkeypatch.setattr(go_test, name, fake)
+    recordings = Made(base=folder / "new", all_recorded=True, take=lambda item, failed: None)
+    return go_test.GoRun(argparse.Namespace(points=1, keep=False), *cast(Any, (None, ["go", "test"], None, recordings)))
 
 
 @pytest.mark.parametrize("is_cancelled", [True, False])
 def test_no_run_follows_a_cancelled_one(is_cancelled: bool, tmp_path: Path, monkeypatch: Patch) -> None:
     run = run_of(tmp_path, Runner(0, is_cancelled), monkeypatch)
-    assert run.once(testing.Round(0, None, 0)) == 0
+    assert run.once(go_test.Round(0, None, 0)) == 0
     assert run.is_last is is_cancelled and (tmp_path / "new/here").exists()
 
 
 @pytest.mark.parametrize(
-    "number, processors, delays, status_of_go, said",
+    "number, processors, delays, status_of_go, output",
     [(0, None, 0, 1, ""), (0, 2, 0, 1, "run 1 (GOMAXPROCS=2)"), (1, None, 0, 1, "run 2"), (1, None, 0, 0, ""), (2, 4, 9, 1, "run 3 (GOMAXPROCS=4, --delays 9)")],
 )  # fmt: skip
 def test_a_failed_run_is_named_unless_it_is_the_first_as_usual(
-    number: int, processors: int | None, delays: int, status_of_go: int, said: str, tmp_path: Path, monkeypatch: Patch, capsys: Output
+    number: int, processors: int | None, delays: int, status_of_go: int, output: str, tmp_path: Path, monkeypatch: Patch, capsys: Output
 ) -> None:  # fmt: skip
-    run_of(tmp_path, Runner(status_of_go, False), monkeypatch).once(testing.Round(number, processors, delays))
-    assert capsys.readouterr().err == (messages.RUN_FAILED.format(run=said) + "\n" if said else "")
+    run_of(tmp_path, Runner(status_of_go, False), monkeypatch).once(go_test.Round(number, processors, delays))
+    assert capsys.readouterr().err == (messages.RUN_FAILED.format(run=output) + "\n" if output else "")
 
 
 def test_the_user_s_words_come_after_go_s_command_and_the_added_ones(monkeypatch: Patch) -> None:
@@ -227,15 +227,15 @@ def test_the_user_s_words_come_after_go_s_command_and_the_added_ones(monkeypatch
         yield ["-json"]
 
     fakes: dict[str, Callable[..., object]] = {
-        "base_name": lambda name, usual: Path("x"), "look_folder": lambda base: None, "kept": kept, "tell": lambda *words: None,
+        "base_name": lambda name, usual: Path("x"), "check_folder": lambda base: None, "kept": kept, "tell": lambda *words: None,
         "Recordings": lambda *words: Made(all_recorded=True, suspected=False), "most_runs": lambda options: 1,
         "run_all": lambda options, go, command, *rest: commands.append(command),
     }  # fmt: skip
     for name, fake in fakes.items():
-        monkeypatch.setattr(testing, name, fake)
+        monkeypatch.setattr(go_test, name, fake)
     options = argparse.Namespace(o="", all=False, explore=None, html=False, words_of_go=["./..."])
     with contextlib.redirect_stderr(io.StringIO()):
-        testing.record_tests(options, cast(Any, None), ["go", "test", "-C", "d", "-v", "./..."], cast(Any, None))
+        go_test.record_tests(options, cast(Any, None), ["go", "test", "-C", "d", "-v", "./..."], cast(Any, None))
     assert commands == [["go", "test", "-C", "d", "-json", "-v", "./..."]]
 
 
@@ -247,7 +247,7 @@ def test_only_the_log_of_a_process_is_still_written(
 ) -> None:
     written: list[bool] = []
 
-    def convert(log: Path, base: Path, go: object, wish: object, known: object, hear: object, is_written: bool) -> Made:
+    def convert(log: Path, base: Path, go: object, options: object, known: object, hear: object, is_written: bool) -> Made:
         written.append(is_written)
         return Made(lines=[], taken=True)
 
@@ -255,7 +255,7 @@ def test_only_the_log_of_a_process_is_still_written(
     monkeypatch.setattr(cli, "go_if_any", lambda: None)
     monkeypatch.setattr(cli, "wish_of", lambda options: None)
     monkeypatch.setattr(cli, "convert", convert)
-    assert cli.convert_one(argparse.Namespace(words_of_go=logs, pid=pid, o=None)) == 0
+    assert cli.convert_log(argparse.Namespace(words_of_go=logs, pid=pid, o=None)) == 0
     assert "".join("1" if is_written else "0" for is_written in written) == running
 
 
@@ -268,26 +268,26 @@ def test_how_far_a_program_s_code_is_moved(tmp_path: Path, size: int, moved: int
 
 def test_a_folder_without_room_for_recordings_is_refused() -> None:
     with pytest.raises(RecorderError, match="/proc/nowhere"):
-        outputs.look_folder(Path("/proc/nowhere"))
+        outputs.check_folder(Path("/proc/nowhere"))
 
 
 def test_output_for_machines_goes_to_a_file_or_to_standard_output(tmp_path: Path, capsys: Output) -> None:
-    came = cast(Any, Made(all_recorded=True))
-    testing.put("-", "one\ntwo\n", came)
-    testing.put(str(tmp_path / "out"), "three\n", came)
-    assert (capsys.readouterr().out, (tmp_path / "out").read_text(), came.all_recorded) == (
+    reply = cast(Any, Made(all_recorded=True))
+    go_test.put("-", "one\ntwo\n", reply)
+    go_test.put(str(tmp_path / "out"), "three\n", reply)
+    assert (capsys.readouterr().out, (tmp_path / "out").read_text(), reply.all_recorded) == (
         "one\ntwo\n",
         "three\n",
         True,
     )
-    testing.put(str(tmp_path), "four\n", came)
-    assert not came.all_recorded
+    go_test.put(str(tmp_path), "four\n", reply)
+    assert not reply.all_recorded
 
 
 def test_a_search_that_fails_is_reported(tmp_path: Path, monkeypatch: Patch, capsys: Output) -> None:
-    monkeypatch.setattr(tested, "netrev_program", lambda: "")
+    monkeypatch.setattr(go_test_results, "netrev_program", lambda: "")
     recording = str(tmp_path / "nowhere.jsonl")
-    assert tested.findings(recording, 60) == []
+    assert go_test_results.findings(recording, 60) == []
     why = f"{recording}: No such file or directory"
     assert f"{recording}: other schedules weren't explored: {why}" in capsys.readouterr().err
 

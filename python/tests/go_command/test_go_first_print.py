@@ -10,10 +10,10 @@ from dev.fuzz.generators.logs import from_text
 from netrev.findings.finding import SuspectFindings
 from netrev.run import changes
 from netrev.system.time_limits import LateError
-from netrev_go import keeping
+from netrev_go import recordings
 from netrev_go.steps.analysis import Analysis
 
-from .test_go_keeping import PYTHON, Run
+from .test_go_kept_runs import PYTHON, Run
 
 HUNG = PYTHON.parent / "examples/real/hung.log"
 CAUSE = "cause:  "
@@ -48,7 +48,7 @@ class FirstPrint(Run):
             raise ends("it takes long")
 
         with pytest.MonkeyPatch.context() as patch:
-            patch.setattr(keeping, "say", self.hear)
+            patch.setattr(recordings, "say", self.hear)
             patch.setattr(Analysis, "suspects", suspects)
             patch.setattr(changes, "AT_LEAST", 0.1)
             patch.setattr(changes, "A_STEP", 0)
@@ -83,7 +83,7 @@ def test_causes_of_a_recording_that_netrev_refuses_may_be_wrong(
     monkeypatch: pytest.MonkeyPatch, run: FirstPrint
 ) -> None:
     run.netrev.write_text("#!/bin/sh\necho refused\nexit 1\n")
-    monkeypatch.setattr(keeping, "say", run.hear)
+    monkeypatch.setattr(recordings, "say", run.hear)
     run.called("-o", "hung", "run", "main.go", status=3, netrev=str(run.netrev))
     printed = [line for lines in run.said for line in lines]
     assert printed[0].startswith(CAUSE), printed
@@ -94,7 +94,7 @@ def test_the_causes_ask_the_same_netrev_what_the_steps_changed(
     monkeypatch: pytest.MonkeyPatch, run: FirstPrint
 ) -> None:
     run.netrev.write_text('#!/bin/sh\necho "$@" >> asked\necho refused\nexit 1\n')
-    monkeypatch.setattr(keeping, "say", run.hear)
+    monkeypatch.setattr(recordings, "say", run.hear)
     run.called("-o", "hung", "run", "main.go", status=3, netrev=str(run.netrev))
     assert "changes hung.jsonl" in (run.folder / "asked").read_text().splitlines()
     assert run.said[0][0].startswith(CAUSE), run.said[0]

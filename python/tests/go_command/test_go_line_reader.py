@@ -7,10 +7,10 @@ from pathlib import Path
 import pytest
 
 from dev.fuzz.generators.logs import from_text
-from netrev_go import doctor, trying
+from netrev_go import doctor, release_check
 from netrev_go.go_command.line_reader import build_line_reader, kept, line_reader, shipped
 from netrev_go.go_command.toolchain import Go, RecorderError
-from netrev_go.steps.converting import RecordingOptions, convert
+from netrev_go.steps.conversion import RecordingOptions, convert
 from tests.logs.test_go_logs import REAL
 
 BUILDS = """echo "$@" >> {folder}/called
@@ -64,10 +64,10 @@ def test_before_the_first_recording_it_is_built_and_lines_are_read_by_it(
 ) -> None:
     go = go_of(folder, BUILDS)
     with monkeypatch.context() as patch:
-        patch.setattr(trying, "overlay", lambda _: folder / "overlay.json")
-        patch.setattr(trying, "kept", lambda _: trying.Trial(True, ""))
-        patch.setattr(trying, "left_out", lambda _: [])
-        trying.ready(go)
+        patch.setattr(release_check, "overlay", lambda _: folder / "overlay.json")
+        patch.setattr(release_check, "kept", lambda _: release_check.Trial(True, ""))
+        patch.setattr(release_check, "left_out", lambda _: [])
+        release_check.ready(go)
     assert len(written(folder, "called")) == 1
     log, name = folder / "log.1", folder / "made.jsonl"
     log.write_bytes(from_text((REAL / "past.log").read_text())[0])

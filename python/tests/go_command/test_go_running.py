@@ -8,7 +8,7 @@ from typing import NamedTuple
 
 import pytest
 
-from netrev_go.go_command.running import MOST_POINTS, behind_the_folder, logs_folder, logs_in, process_of
+from netrev_go.go_command.running import MOST_POINTS, relative_to_folder, logs_folder, logs_in, process_of
 from netrev_go.go_command.toolchain import RecorderError
 
 
@@ -70,7 +70,7 @@ def test_gos_folder_comes_before_other_flags() -> None:
         ([], ["-x"]),
     ]
     for words, expected in cases:
-        assert behind_the_folder(words, ["-x"]) == expected
+        assert relative_to_folder(words, ["-x"]) == expected
 
 
 def test_a_processes_logs_are_those_of_its_number(folder: Path) -> None:

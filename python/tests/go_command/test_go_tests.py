@@ -28,17 +28,17 @@ from netrev_go.go_command.running import FROM_THE_TERMINAL, GoRunner, RunLimits
 from netrev_go.go_command.toolchain import Go
 from netrev_go.log.goroutines import goroutines_of as everybody
 from netrev_go.log.points import Log, PointKind
-from netrev_go.log.ran import Ran, Tests, Went, of_log
+from netrev_go.log.tests_in_log import Ran, Tests, Went, of_log
 from netrev_go.log.sockets import owned
-from netrev_go.steps import converting, forms, report
-from netrev_go.steps.converting import RecordingOptions
-from netrev_go.steps.cutting import goroutines_of, sockets_of
+from netrev_go.steps import conversion, forms, report
+from netrev_go.steps.conversion import RecordingOptions
+from netrev_go.steps.scopes_of_tests import goroutines_of, sockets_of
 from netrev_go.steps.forms import Cause, TestResult
 from netrev_go.steps.report import Conversion, Shown
-from netrev_go.tested import Recordings, file_name, short_name
+from netrev_go.go_test_results import Recordings, file_name, short_name
 from tests.logs.test_go_converting import Points
 
-from .test_go_keeping import PYTHON, Run, restore_signals
+from .test_go_kept_runs import PYTHON, Run, restore_signals
 
 MAIN, RED, PART, GREEN, CHILD = 1, 10, 11, 20, 12  # goroutines
 PACKAGE = "example.org/toy/v2"
@@ -271,7 +271,7 @@ def test_again_and_again(package: Tested) -> None:
 
 def test_suspects_fail_where_that_is_wanted(monkeypatch: pytest.MonkeyPatch, package: Tested) -> None:
     text = Conversion(True, ["x.jsonl: ok"], shown=[SUSPECTED])
-    monkeypatch.setattr(converting, "report", lambda *_: text)
+    monkeypatch.setattr(conversion, "report", lambda *_: text)
     for what, wanted in (("suspects", ExitStatus.SUSPECTED), ("possible", 0)):
         assert package.told("--fail-on", what, "test", ".", status=0)[0] == wanted
     assert package.told("test", ".", status=0)[0] == 0
@@ -285,7 +285,7 @@ def test_each_form_is_read_as_its_consumer_does(monkeypatch: pytest.MonkeyPatch,
     wait = Shown(Finding(FindingKind.WAIT, (sentence,)), [sentence])
     text = Conversion(True, printed, shown=[wait, SUSPECTED])
     with monkeypatch.context() as patch:
-        patch.setattr(converting, "report", lambda *_: text)
+        patch.setattr(conversion, "report", lambda *_: text)
         _, out, _ = package.told("--json", "a.json", "--junit", "a.xml", "--github", "test", ".")
     lines = [json.loads(line) for line in (package.folder / "a.json").read_text().splitlines()]
     assert [sorted(line) for line in lines] == [sorted(keys_of_the_page())] * 4
@@ -359,22 +359,22 @@ NOWHERE = Path("/nowhere")
 
 
 def test_what_a_page_or_a_terminal_would_obey_is_written_out() -> None:
-    one = TestResult("p", "T\x1b[31m", "failed", 1, 1, says=["a\x07b"], causes=[Cause("x,y:z.go", 3, "")])
-    assert forms.annotation(one) == "::error file=x%2Cy%3Az.go,line=3,title=p T\\x1b[31m::failed%0Aa\\x07b"
-    case = ElementTree.fromstring(forms.junit([one]))[0][0]
+    test_result = TestResult("p", "T\x1b[31m", "failed", 1, 1, says=["a\x07b"], causes=[Cause("x,y:z.go", 3, "")])
+    assert forms.annotation(test_result) == "::error file=x%2Cy%3Az.go,line=3,title=p T\\x1b[31m::failed%0Aa\\x07b"
+    case = ElementTree.fromstring(forms.junit([test_result]))[0][0]
     assert case.get("name") == "T\\x1b[31m"
 
 
 def test_whatever_is_said_is_read_again_as_it_was() -> None:
     strange = '100%, 50%25: a::b, c=d %0A %2C %3A </failure> & <!-- ]]> "x" ::error::'
-    one = TestResult("p", strange, "failed", 1, 1, file=strange, line=3, says=[strange, "b"], suspects=[strange])
-    properties, message = as_github_reads(forms.annotation(one))
+    test_result = TestResult("p", strange, "failed", 1, 1, file=strange, line=3, says=[strange, "b"], suspects=[strange])
+    properties, message = as_github_reads(forms.annotation(test_result))
     assert properties == {"file": strange, "line": "3", "title": f"p {strange}"}
     assert message == f"failed\n{strange}\nb"
-    (case,) = ElementTree.fromstring(forms.junit([one])).iter("testcase")
+    (case,) = ElementTree.fromstring(forms.junit([test_result])).iter("testcase")
     assert (case.get("name"), case[0].text) == (strange, f"{strange}\nb")
-    (line,) = forms.json_lines([one]).splitlines()
-    assert json.loads(line) == asdict(one)
+    (line,) = forms.json_lines([test_result]).splitlines()
+    assert json.loads(line) == asdict(test_result)
 
 
 def test_one_that_never_ended_is_an_error() -> None:

@@ -8,27 +8,27 @@ from typing import Iterator, Optional
 import pytest
 
 from netrev.findings.causes import first_words
-from netrev.findings.causes.first import failures_of, has_to_do_with, in_order
-from netrev.findings.datagrams.unheard import is_same, unheard
+from netrev.findings.causes.first_output import failures_of, concerns, in_order
+from netrev.findings.datagrams.undelivered_datagrams import is_same, unheard
 from netrev.findings.evidence.ended_goroutines import leaves_of
 from netrev.findings.evidence.ledger import Ledger
-from netrev.findings.handovers.dropped_answers import conditions_round, defaults_behind
+from netrev.findings.handovers.dropped_answers import conditions_around, defaults_after
 from netrev.findings.handovers.dropped_requests import dropped_request
-from netrev.findings.handovers.handed_over import puts_of, written_for
+from netrev.findings.handovers.handed_over_requests import puts_of, written_for
 from netrev.findings.handovers.needs_of_channels import NeedsOfChannels
 from netrev.findings.hangs.wait_graph import Hang, WaitGraph, graph_at
 from netrev.findings.http.unsent_requests import unsent_requests
-from netrev.findings.locks.group_counts import Count, count_of, count_says, ended_says
+from netrev.findings.locks.group_counts import Count, count_of, count_sentence, ended_sentence
 from netrev.findings.locks.needs_of_mutexes import of_once
 from netrev.findings.pools.slots import slot_holders
-from netrev.findings.pools.stopped_timers import of_timers, silent_at, silent_says
-from netrev.findings.pools.uncancelled import uncancelled
+from netrev.findings.pools.stopped_timers import of_timers, silent_at, silent_sentence
+from netrev.findings.pools.uncancelled_contexts import uncancelled
 from netrev.recording.goroutines import ADDED, DONE, FOR_VALUE, PUT, TOOK, At, GoGoroutine, ObjectUse, Timer
 from netrev.recording.recording import Recording
 from netrev.recording.waits import Name, ObjectWait, waits_of
 from netrev.recording.where import SourceCall, SourceLines, Stack
 from netrev.run.index import run_of
-from netrev_go.log.beside import GOES_TO, OF_DATAGRAMS, Beside, address_words
+from netrev_go.log.socket_facts import GOES_TO, OF_DATAGRAMS, Beside, address_words
 from netrev_go.log.points import Point, PointKind
 from tests.failed_calls.test_causes import TWO_ENDS, in_the_folder_of_the_source, with_lines
 from tests.trials.go_caused import GONE, NAMES, bug_line
@@ -113,7 +113,7 @@ def test_a_request_that_nobody_took_yet_isnt_left_without_an_answer() -> None:
         wait = graph.waiters[Name(2)].wait
         assert wait is not None and dropped_request(recording, wait, graph.waiters)
         for uses in recording.lines.uses.values():
-            uses[:] = [one._replace(often=one.often + 1) if one.what == PUT else one for one in uses]
+            uses[:] = [use._replace(often=use.often + 1) if use.what == PUT else use for use in uses]
         assert dropped_request(recording, wait, graph.waiters) is None
 
 
@@ -125,7 +125,7 @@ SELECT = ["	select {", "	case out <- v:", "	default:", "	}"]
     [(SELECT, 2, [3]), (["	out <- v"], 1, []), (SELECT[:2] + ["	}"], 2, []), (["	switch {", *SELECT[1:]], 2, [3])],
 )
 def test_the_default_of_a_select(lines: list[str], number: int, expected: list[int]) -> None:
-    assert defaults_behind(tuple(lines), number) == expected
+    assert defaults_after(tuple(lines), number) == expected
 
 
 @pytest.mark.parametrize(
@@ -133,7 +133,7 @@ def test_the_default_of_a_select(lines: list[str], number: int, expected: list[i
 )
 def test_the_condition_round_a_line(begin: int, number: int, expected: list[int]) -> None:
     lines = "for {", "	read()", "	if ok {", "		out <- v", "	}"
-    assert conditions_round(lines, begin, number) == expected
+    assert conditions_around(lines, begin, number) == expected
 
 
 LOOPS = {
@@ -203,8 +203,8 @@ GROUPS = {
 def test_calls_of_done_that_are_missing(name: str) -> None:
     recording, counted, ended = GROUPS[name]
     count = count_in(recording)
-    assert counted in count_says(recording, count)
-    says = " ".join(ended_says(recording, count))
+    assert counted in count_sentence(recording, count)
+    says = " ".join(ended_sentence(recording, count))
     assert ended in says if ended else not says
 
 
@@ -260,7 +260,7 @@ def test_a_timer_that_was_due_before_its_stop(setting: Timer, time: int, words: 
         lines.stacks[number] = of_go(function)
     lines.timers[1] = [setting, STOPS._replace(time=time)]
     silent = silent_at(recording, 1)
-    assert silent and words in silent_says(recording, silent)
+    assert silent and words in silent_sentence(recording, silent)
 
 
 @pytest.mark.parametrize("is_given_back", [False, True])
@@ -272,21 +272,21 @@ def test_a_slot_is_had_until_it_is_given_back(is_given_back: bool) -> None:
         (at,) = {wait.objects for wait in waits}
         uses = recording.lines.uses[at[0].object]
         if is_given_back:
-            uses += [one._replace(what=TOOK) for one in uses if one.what == PUT]
+            uses += [use._replace(what=TOOK) for use in uses if use.what == PUT]
         stacks = [(name, waiter.stack) for name, waiter in graph.waiters.items()]
         holders = {slot.name for slot in slot_holders(recording, waits[0], stacks)}
     assert bool(holders) != is_given_back
 
 
 @pytest.mark.parametrize(
-    "one, other, expected",
+    "address, other, expected",
     [
         ("127.0.0.1:5", "127.0.0.1:5", True), ("127.0.0.1:5", "127.0.0.2:5", False), ("127.0.0.1:5", "127.0.0.1:6", False),
         ("0.0.0.0:5", "127.0.0.1:5", True), ("127.0.0.1:5", "[::]:6", False),
     ],
 )  # fmt: skip
-def test_addresses_that_may_be_the_same(one: str, other: str, expected: bool) -> None:
-    assert is_same(one, other) is expected
+def test_addresses_that_may_be_the_same(address: str, other: str, expected: bool) -> None:
+    assert is_same(address, other) is expected
 
 
 @pytest.mark.parametrize("peer, is_heard", [("", True), ("the sender's", True), ("another", False)])
@@ -296,7 +296,7 @@ def test_a_datagram_from_another_address(peer: str, is_heard: bool) -> None:
     own, connected = addresses[2]
     addresses[2] = own, {"": "", "the sender's": addresses[1][0], "another": connected}[peer]
     index = run_of(recording)
-    (call,) = [one for one in index.by_socket[2] if one.name == "Read"]
+    (call,) = [call for call in index.by_socket[2] if call.name == "Read"]
     assert (unheard(index, call, recording.length) is None) == is_heard
 
 
@@ -337,7 +337,7 @@ def test_a_request_that_was_written(has_written: bool) -> None:
     (unsent,) = unsent_requests(index)
     assert unsent.before
     if has_written:
-        writes = next(one for one in index.by_goroutine[unsent.closed.goroutine] if one.name == "Write")
+        writes = next(call for call in index.by_goroutine[unsent.closed.goroutine] if call.name == "Write")
         writes.first = unsent.use.last
         assert not list(unsent_requests(index))
 
@@ -355,14 +355,14 @@ def test_a_hang_comes_before_a_failure_that_it_has_nothing_to_do_with() -> None:
     graph, causes, hang = ordered("outlived-bad")
     failed = failures_of(graph.recording)
     assert causes[0] is hang and len(causes) == 2
-    assert not has_to_do_with(graph, hang, failed[0].call)
+    assert not concerns(graph, hang, failed[0].call)
 
 
 def test_a_failure_of_a_goroutine_that_hangs_comes_first() -> None:
     graph, _, hang = ordered("outlived-bad")
     (failed,) = failures_of(graph.recording)
     failed.call.goroutine = hang.root.name.number
-    assert has_to_do_with(graph, hang, failed.call)
+    assert concerns(graph, hang, failed.call)
     assert in_order(graph, [failed], [hang]) == [failed, hang]
 
 
@@ -437,7 +437,7 @@ def test_a_request_that_another_goroutine_wrote() -> None:
     with in_source(recording):
         wait = main_wait(graph_at(recording, recording.length))
         index = run_of(recording)
-        wrote = next(one for one in reversed(index.by_goroutine[0]) if one.name == "Write")
+        wrote = next(call for call in reversed(index.by_goroutine[0]) if call.name == "Write")
         lines, step = recording.lines, wrote.first - 1
         lines.stacks[10_000] = wait.stack
         put, took = (

@@ -5,7 +5,7 @@ import re
 from typing import Any
 
 from netrev.findings.causes.leftovers import leftovers_of
-from netrev.findings.evidence.asked import read_sizes_of
+from netrev.findings.evidence.read_sizes import read_sizes_of
 from netrev.findings.evidence.waiters import waiters_at
 from netrev.findings.hangs.hang_words import reader_words
 from netrev.findings.streams.exchanges import begin_of_full, lacking
@@ -87,16 +87,16 @@ def test_its_number_may_be_another_s_since_then() -> None:
 
 def test_the_next_read_says_how_many_bytes_one_got() -> None:
     recording = stored("longer-bad")
-    index, asked = run_of(recording), read_sizes_of(recording)
+    index, request = run_of(recording), read_sizes_of(recording)
     calls = [waiter.call for waiter in waiters_at(index, recording.length).values() if waiter.call]
     (call,) = [call for call in calls if lacking(index, call, index.other_end(call.socket) or 0)]
-    before, other = asked.before(call), index.other_end(call.socket) or 0
+    before, other = request.before(call), index.other_end(call.socket) or 0
     assert before is not None
     recording.lines.bytes = before.moved or 0
-    asked._sizes.update({before.first: 8_800, call.first: 8_719})
-    assert begin_of_full(index, asked, call) is before
+    request._sizes.update({before.first: 8_800, call.first: 8_719})
+    assert begin_of_full(index, request, call) is before
     assert re.search(
         r"^Perhaps fewer bytes .* asked for 8800 and has 81, so 8719 more must come\.", lacking(index, call, other)[0]
     )
-    asked._sizes.update({before.first: 8_800, call.first: 8_799})
+    request._sizes.update({before.first: 8_800, call.first: 8_799})
     assert lacking(index, call, other) == []

@@ -6,7 +6,7 @@ from pathlib import Path
 
 import pytest
 
-from netrev.findings.causes.first import first_words
+from netrev.findings.causes.first_output import first_words
 from netrev.findings.evidence.loop_variables import shared_at, shared_variables
 from netrev.findings.streams.partial_reads import partial_lines
 from netrev.recording.recording import Recording
@@ -76,8 +76,8 @@ func watch(all []*backend) {
     "line, shared", [(5, [(4, "one")]), (11, []), (16, []), (21, [(20, "i")]), (23, [])]
 )  # fmt: skip
 def test_variables_of_loops_that_goroutines_share(line: int, shared: list[tuple[int, str]]) -> None:
-    made = SourceCall("main.watch", "a.go", line, OF_THE_PROGRAM)
-    assert list(shared_at(tuple(LOOPS.splitlines()), made)) == shared
+    source_call = SourceCall("main.watch", "a.go", line, OF_THE_PROGRAM)
+    assert list(shared_at(tuple(LOOPS.splitlines()), source_call)) == shared
 
 
 @pytest.mark.parametrize("module, is_shared", [("go 1.21\n", True), ("go 1.22\n", False), ("", False)])
@@ -88,8 +88,8 @@ def test_the_language_of_a_module(tmp_path: Path, module: str, is_shared: bool) 
     recording = stored("severed-bad")
     recording.lines.written = float("inf")
     goid, known = next(iter(recording.lines.goroutines.items()))
-    made = SourceCall("main.watch", str(file), 5, OF_THE_PROGRAM)
-    recording.lines.goroutines[goid] = known._replace(made=made)
+    source_call = SourceCall("main.watch", str(file), 5, OF_THE_PROGRAM)
+    recording.lines.goroutines[goid] = known._replace(made=source_call)
     says = [f"Perhaps all goroutines started at {file}:5 use the last one of the loop at {file}:4: the module's language is Go 1.21, in which they share it."]  # fmt: skip
     assert shared_variables(recording, str(file)) == (says if is_shared else [])
 

@@ -75,8 +75,8 @@ class Book:
         }  # fmt: skip
         lines.stacks.update({number: Stack((call, main), None) for number, call in calls.items()})
         lines.held = {}
-        for one in held:
-            lines.held.setdefault(one.object, []).append(one)
+        for holder in held:
+            lines.held.setdefault(holder.object, []).append(holder)
         self.waiters: dict[Name, Waiter] = {}
         self.does: dict[Name, str] = {}
 
@@ -246,13 +246,13 @@ def test_they_are_known_at_the_end_alone(tmp_path: Path) -> None:
 def test_before_the_end_it_is_guessed() -> None:
     recording = stored("abandoned-bad")
     recording.lines.written = float("inf")
-    said = dict[int, str]()
+    words = dict[int, str]()
     with in_the_folder_of_the_source(CHAINS):
         for position in (recording.length - 1, recording.length):
             waiters = waiters_at(run_of(recording), position)
-            waiter = next(one for one in waiters.values() if one.wait and one.wait.kind == A_MUTEX)
+            waiter = next(waiter for waiter in waiters.values() if waiter.wait and waiter.wait.kind == A_MUTEX)
             need = Needs(run_of(recording), waiters, position).of(waiter)
-            said[position] = " ".join([*need.says, *need.more])
-    assert "without unlocking it" in said[recording.length]
-    assert "Perhaps nobody unlocked it: (*meter).count locks it at" in said[recording.length - 1]
-    assert "without unlocking it" not in said[recording.length - 1]
+            words[position] = " ".join([*need.says, *need.more])
+    assert "without unlocking it" in words[recording.length]
+    assert "Perhaps nobody unlocked it: (*meter).count locks it at" in words[recording.length - 1]
+    assert "without unlocking it" not in words[recording.length - 1]

@@ -6,17 +6,17 @@ from typing import Any, cast
 
 import pytest
 
-from netrev.findings.causes import first, tables  # fmt: skip
+from netrev.findings.causes import first_output, tables  # fmt: skip
 from netrev.findings.datagrams import datagrams  # fmt: skip
 from netrev.findings.evidence import loop_variables  # fmt: skip
 from netrev.findings.evidence.need import Certainty, Need
 
 from netrev.findings.handovers import dropped_answers  # fmt: skip
 from netrev.findings.hangs import hang_words, needs, needs_elsewhere  # fmt: skip
-from netrev.findings.http import cancels, unsent_requests  # fmt: skip
+from netrev.findings.http import cancellations, unsent_requests  # fmt: skip
 from netrev.findings.locks import skipped_done  # fmt: skip
-from netrev.findings.pools import kept_ways, unclosed  # fmt: skip
-from netrev.findings.streams import ends_of_reads, failed_dials, unpassed_ends, unread  # fmt: skip
+from netrev.findings.pools import leaking_paths, unclosed_channels  # fmt: skip
+from netrev.findings.streams import ends_of_reads, failed_dials, unpassed_ends, unread_bytes  # fmt: skip
 from netrev.recording.call import CLOSE, OPEN
 from netrev.recording.goroutines import ENDED, FOR_ROOM, FOR_VALUE, PUT, TOOK, At, ObjectUse
 from netrev.recording.waits import Name
@@ -75,20 +75,20 @@ def test_sentences_beside_those_of_a_need(monkeypatch: Patch) -> None:
 )  # fmt: skip
 def test_bytes_that_nobody_reads(change: dict[str, Any], count: int | None, monkeypatch: Patch) -> None:
     case = Made(**({"read": 2, "wrote_last": 7, "calls": [], "of_go": False, "known": True, "cut": False} | change))
-    case.calls = [one if one[2] != 9 or one[0] == CLOSE else (*one[:2], 25, one[3]) for one in case.calls]
+    case.calls = [unread_bytes if unread_bytes[2] != 9 or unread_bytes[0] == CLOSE else (*unread_bytes[:2], 25, unread_bytes[3]) for unread_bytes in case.calls]
     wrote = Made(name="Write", socket=3, first=5, last=case.wrote_last, goroutine=1)
     calls = [wrote, *(Made(name=n, socket=s, last=last, first=begin) for n, s, last, begin in case.calls)]
     moved = {(3, "Write"): 5, (4, "Read"): case.read}
-    monkeypatch.setattr(unread, "moved_at", lambda index, socket, name, until: moved.get((socket, name), 0))
-    monkeypatch.setattr(unread, "is_of_go", lambda recording, call: case.of_go)
-    monkeypatch.setattr(unread, "are_known", lambda index: case.known)
-    monkeypatch.setattr(unread, "is_cut", lambda recording, index, ends: case.cut)
+    monkeypatch.setattr(unread_bytes, "moved_at", lambda index, socket, name, until: moved.get((socket, name), 0))
+    monkeypatch.setattr(unread_bytes, "is_of_go", lambda recording, call: case.of_go)
+    monkeypatch.setattr(unread_bytes, "are_known", lambda index: case.known)
+    monkeypatch.setattr(unread_bytes, "is_cut", lambda recording, index, ends: case.cut)
     index = Made(
         recording=Made(lines=Made(peers={3: 4})),
-        by_socket={s: [one for one in calls if one.socket == s] for s in (3, 4)},
+        by_socket={s: [unread_bytes for unread_bytes in calls if unread_bytes.socket == s] for s in (3, 4)},
         last_use=lambda socket, until, names: wrote,
     )
-    found = [(one.write, one.bytes, one.socket) for one in unread.unread(cast(Any, index), 20)]
+    found = [(unread_bytes.write, unread_bytes.bytes, unread_bytes.socket) for unread_bytes in unread_bytes.unread(cast(Any, index), 20)]
     assert found == ([(wrote, count, 4)] if count else [])
 
 
@@ -96,7 +96,7 @@ LOOP = ["func run() {", "\tfor _, v := range xs {", "\t\tgo func() {", "\t\t\tus
 
 
 @pytest.mark.parametrize(
-    "changed, made, found",
+    "changed, start_line, found",
     [
         ({}, 3, [(2, "v")]), ({4: "\t\t\tuse(v.name) // v"}, 3, [(2, "v")]), ({4: "\t\t\tuse(x.v) // v"}, 3, []), ({4: "\t\t\tv := v"}, 3, []),
         ({3: "\t\tv := v; go func() {"}, 3, []), ({3: "\t\tgo use(v)", 5: ""}, 3, []), ({3: "\t\teach(func() {", 4: "\t\t\tgo use(v)"}, 4, []),
@@ -104,9 +104,9 @@ LOOP = ["func run() {", "\tfor _, v := range xs {", "\t\tgo func() {", "\t\t\tus
         ({2: "\tif v := x; v {"}, 3, []), ({2: "\tfor v, w := range xs {"}, 3, [(2, "v")]), ({1: "\tx = 1"}, 3, []),
     ],
 )  # fmt: skip
-def test_variables_that_a_loop_shares(changed: dict[int, str], made: int, found: list[tuple[int, str]]) -> None:
+def test_variables_that_a_loop_shares(changed: dict[int, str], start_line: int, found: list[tuple[int, str]]) -> None:
     lines = tuple(changed.get(number, text) for number, text in enumerate(LOOP, 1))
-    assert list(loop_variables.shared_at(lines, line_of(made, "main.run"))) == found
+    assert list(loop_variables.shared_at(lines, line_of(start_line, "main.run"))) == found
 
 
 @pytest.mark.parametrize(
@@ -125,9 +125,9 @@ def test_channels_that_a_goroutine_found_closed(use: tuple[int, int], found: boo
     recording = with_lines(TWO_ENDS)
     recording.lines.stacks[4] = Stack((line_of(3, "main.look"),), None)
     recording.lines.uses[5] = [ObjectUse(5, 7, what, 4, 1, *use, 30, 40) for what in (ENDED, TOOK)]
-    says = [(one.object, one.looker) for one in cancels.found_closed(recording, 7, 3, 6)]
+    says = [(closed_channel.object, closed_channel.looker) for closed_channel in cancellations.found_closed(recording, 7, 3, 6)]
     assert says == ([(5, "main.look")] if found else [])
-    assert not list(cancels.found_closed(recording, 8, 3, 6))
+    assert not list(cancellations.found_closed(recording, 8, 3, 6))
 
 
 @pytest.mark.parametrize(
@@ -140,10 +140,10 @@ def test_channels_that_a_goroutine_found_closed(use: tuple[int, int], found: boo
 def test_a_limit_closes_a_channel_if_no_line_of_the_program_does(
     calls: list[SourceCall], expected: list[str], monkeypatch: Patch
 ) -> None:
-    monkeypatch.setattr(cancels, "limits_before", lambda recording, time, goid: ["timer"] if time == 8 else [])
-    monkeypatch.setattr(cancels, "OF_A_LIMIT", ("context.WithTimeout",))
+    monkeypatch.setattr(cancellations, "limits_before", lambda recording, time, goid: ["timer"] if time == 8 else [])
+    monkeypatch.setattr(cancellations, "OF_A_LIMIT", ("context.WithTimeout",))
     recording = Made(lines=Made(stacks={4: Stack(tuple(calls), None)}))
-    assert cancels.limits_of(cast(Any, recording), cast(Any, Made(stack=4, begin=8)), 7) == expected
+    assert cancellations.limits_of(cast(Any, recording), cast(Any, Made(stack=4, begin=8)), 7) == expected
 
 
 @pytest.mark.parametrize(
@@ -153,7 +153,7 @@ def test_a_limit_closes_a_channel_if_no_line_of_the_program_does(
 def test_what_to_type_after_a_hang(socket: int | None, is_deadlock: bool, look: str) -> None:
     roots = [Made(since=since, call=Made(socket=socket) if socket else None) for since in (5, 9, 7)]
     hang = cast(Any, Made(root=roots[0], roots=roots, is_deadlock=is_deadlock))
-    assert hang_words.hang_looks(hang) == ["goto 9", look]
+    assert hang_words.hang_queries(hang) == ["goto 9", look]
 
 
 SELECTS = [
@@ -172,10 +172,10 @@ SELECTS = [
     "line, use, case", [(1, FOR_VALUE, 2), (1, FOR_ROOM, 1), (4, FOR_ROOM, 5), (4, FOR_VALUE, 7), (2, FOR_VALUE, 2), (6, FOR_ROOM, 6)]
 )  # fmt: skip
 def test_the_case_of_a_select_at_which_a_goroutine_waits(line: int, use: str, case: int, monkeypatch: Patch) -> None:
-    monkeypatch.setattr(kept_ways, "source_of", lambda recording, file: tuple(SELECTS))
-    assert kept_ways.case_of(NOTHING, line_of(line), use) == line_of(case)
-    monkeypatch.setattr(kept_ways, "source_of", lambda recording, file: None)
-    assert kept_ways.case_of(NOTHING, line_of(line), use) == line_of(line)
+    monkeypatch.setattr(leaking_paths, "source_of", lambda recording, file: tuple(SELECTS))
+    assert leaking_paths.case_of(NOTHING, line_of(line), use) == line_of(case)
+    monkeypatch.setattr(leaking_paths, "source_of", lambda recording, file: None)
+    assert leaking_paths.case_of(NOTHING, line_of(line), use) == line_of(line)
 
 
 @pytest.mark.parametrize(
@@ -209,7 +209,7 @@ def test_goroutines_that_pass_on_what_they_read(change: dict[str, Any], found: A
     names = {id(waiter): name.number for name, waiter in waiters.items()}
     recording = Made(lines=Made(uses=uses, stacks=stacks))
     hands: Any = dropped_answers.hands_of(cast(Any, recording), cast(Any, Made(stack=stacks[3])), cast(Any, waiters))
-    assert (hands if hands == "source" else [(names[id(one.reader)], one.line.line) for one in hands]) == found
+    assert (hands if hands == "source" else [(names[id(hand.reader)], hand.line.line) for hand in hands]) == found
 
 
 def test_requests_are_listed_with_what_ended_them(monkeypatch: Patch) -> None:
@@ -236,14 +236,14 @@ def test_requests_are_listed_with_what_ended_them(monkeypatch: Patch) -> None:
 def test_what_a_read_looks_for(change: dict[str, Any], says: list[str], monkeypatch: Patch) -> None:
     case = Made(**({"name": "Read", "of_go": False, "bound": "", "wrote": 0} | change))
     monkeypatch.setattr(ends_of_reads, "is_of_go", lambda recording, call: case.of_go)
-    monkeypatch.setattr(ends_of_reads, "bound_says", lambda functions, other: case.bound)
+    monkeypatch.setattr(ends_of_reads, "bound_sentence", lambda functions, other: case.bound)
     monkeypatch.setattr(ends_of_reads, "half_closes", lambda index, other, position: ["CloseWrite is called."])
     monkeypatch.setattr(ends_of_reads, "since_begin", lambda recording, step: ", ever" if step == 2 else "")
     index = Made(
         recording=Made(lines=Made(of=lambda step: Stack((), None))), by_socket={3: [Made(first=2), Made(first=9)]},
         moved=lambda socket, name, until: int(socket == case.wrote and name == "Write"),
     )  # fmt: skip
-    assert ends_of_reads.end_says(cast(Any, index), cast(Any, Made(name=case.name, first=9, socket=3)), 4, 20) == says
+    assert ends_of_reads.end_sentence(cast(Any, index), cast(Any, Made(name=case.name, first=9, socket=3)), 4, 20) == says
 
 
 @pytest.mark.parametrize(
@@ -265,9 +265,9 @@ def test_a_loop_that_skips_done_or_gets_too_little(
     monkeypatch.setattr(skipped_done, "is_by", lambda recording, use, rounds: use.stack == 1)
     monkeypatch.setattr(skipped_done, "is_at", lambda recording, use, rounds: True)
     monkeypatch.setattr(skipped_done, "is_free", lambda recording, waits, use, position: True)
-    monkeypatch.setattr(skipped_done, "count_says", lambda recording, count: "count")
-    monkeypatch.setattr(skipped_done, "rounds_say", lambda *rest: ["rounds"])
-    monkeypatch.setattr(skipped_done, "unput_says", lambda *rest: ["unput"])
+    monkeypatch.setattr(skipped_done, "count_sentence", lambda recording, count: "count")
+    monkeypatch.setattr(skipped_done, "rounds_sentence", lambda *rest: ["rounds"])
+    monkeypatch.setattr(skipped_done, "unput_sentence", lambda *rest: ["unput"])
     monkeypatch.setattr(skipped_done, "perhaps_skipped", lambda *rest: ["count", "perhaps"])
     uses = {5: [use(TOOK, took, 3), use(PUT, puts, 3)] if took else []}
     recording = Made(lines=Made(stacks={1: 1, 2: 2}, uses=uses))
@@ -334,14 +334,14 @@ def test_the_last_connect_that_failed(
 
 
 def test_a_piece_of_source_is_shown_once(monkeypatch: Patch) -> None:
-    monkeypatch.setattr(first, "text_after", lambda recording, step: [f"source after {step}"] if step else [])
-    monkeypatch.setattr(first, "alike", lambda recording, step, other: step // 10 == other // 10)
-    monkeypatch.setattr(first, "hang_says", lambda graph, hang: [])
-    monkeypatch.setattr(first, "tree_lines", lambda graph, hang: [])
+    monkeypatch.setattr(first_output, "text_after", lambda recording, step: [f"source after {step}"] if step else [])
+    monkeypatch.setattr(first_output, "alike", lambda recording, step, other: step // 10 == other // 10)
+    monkeypatch.setattr(first_output, "hang_sentences", lambda graph, hang: [])
+    monkeypatch.setattr(first_output, "tree_lines", lambda graph, hang: [])
     shown = set[int]()
     hangs = [Made(is_deadlock=is_deadlock, needs=[Made(stopped=step)]) for is_deadlock, step in ((False, 41), (False, 42), (True, 51), (False, 52))]  # fmt: skip
-    said = [first.hang_lines(cast(Any, Made(recording=None)), cast(Any, hang), shown) for hang in hangs]
-    assert said == [["source after 41"], [], [], ["source after 52"]]
+    lines_of_hangs = [first_output.hang_lines(cast(Any, Made(recording=None)), cast(Any, hang), shown) for hang in hangs]
+    assert lines_of_hangs == [["source after 41"], [], [], ["source after 52"]]
 
 
 @pytest.mark.parametrize(
@@ -366,16 +366,16 @@ def test_a_request_in_a_datagram_that_got_no_answer(change: dict[str, Any], says
     monkeypatch.setattr(datagrams, "is_datagram", lambda index, socket: case.is_datagram)
     monkeypatch.setattr(datagrams, "reader_of", lambda index, call, wrote, position: read)
     monkeypatch.setattr(datagrams, "text_of_call", lambda recording, call: "it")
-    for asked, whole in (
+    for requested, whole in (
         (8, ""),
         (4, " It asked for 4 bytes and got as many: perhaps the datagram was longer, and cut."),
     ):
-        monkeypatch.setattr(datagrams, "read_sizes_of", lambda recording, asked=asked: Made(of=lambda call: asked))
+        monkeypatch.setattr(datagrams, "read_sizes_of", lambda recording, requested=requested: Made(of=lambda call: requested))
         index = Made(recording=None, last_use=lambda socket, step, names: wrote, by_goroutine={2: calls})
         call = cast(Any, Made(socket=3, first=6, last=20, goroutine=1))
         found = datagrams.dropped_datagram(cast(Any, index), call)
         end = f"sent no answer to it: it read on in step {case.first}.{whole}"
-        assert [one.endswith(end) for one in found] == [True] * says
+        assert [sentence.endswith(end) for sentence in found] == [True] * says
 
 
 @pytest.mark.parametrize(
@@ -386,26 +386,26 @@ def test_a_request_in_a_datagram_that_got_no_answer(change: dict[str, Any], says
     ],
 )  # fmt: skip
 def test_the_last_write_of_a_relay(moved: str, wrote: int | None, monkeypatch: Patch) -> None:
-    monkeypatch.setattr(unpassed_ends, "is_over", lambda index, met: True)
+    monkeypatch.setattr(unpassed_ends, "is_over", lambda index, end: True)
     names = {"r": "Read", "w": "Write", "o": OPEN, "e": "Read"}
     calls = []
-    for one in moved.split():
-        at, _, socket = one.partition(":")
+    for word in moved.split():
+        at, _, socket = word.partition(":")
         default = 5 if at[0] == "w" else 4
         calls.append(
             Made(name=names[at[0]], first=int(at[1:]), moved=0 if at[0] == "e" else 3, socket=int(socket or default))
         )
-    met = Made(name="Read", first=9, moved=0, socket=4, goroutine=1)
+    end = Made(name="Read", first=9, moved=0, socket=4, goroutine=1)
     for rest, found in (
-        ([met], wrote),
-        ([met, Made(name=CLOSE, first=10, moved=0, socket=5)], wrote),
-        ([met, Made(name="Write", first=10, moved=3, socket=5)], None),
+        ([end], wrote),
+        ([end, Made(name=CLOSE, first=10, moved=0, socket=5)], wrote),
+        ([end, Made(name="Write", first=10, moved=3, socket=5)], None),
     ):
         index = cast(Any, Made(by_goroutine={1: [*calls, *rest]}))
-        last = unpassed_ends.last_write_of_relay(index, cast(Any, met))
+        last = unpassed_ends.last_write_of_relay(index, cast(Any, end))
         assert (last.first if last else None) == found
-    monkeypatch.setattr(unpassed_ends, "is_over", lambda index, met: False)
-    assert unpassed_ends.last_write_of_relay(cast(Any, Made(by_goroutine={1: [*calls, met]})), cast(Any, met)) is None
+    monkeypatch.setattr(unpassed_ends, "is_over", lambda index, end: False)
+    assert unpassed_ends.last_write_of_relay(cast(Any, Made(by_goroutine={1: [*calls, end]})), cast(Any, end)) is None
 
 
 MAKES = [
@@ -424,8 +424,8 @@ MAKES = [
 )  # fmt: skip
 def test_ways_without_closing_a_channel_that_a_function_makes(changed: dict[int, str], ways: list[int]) -> None:
     lines = tuple(changed.get(number, text) for number, text in enumerate(MAKES, 1))
-    found = unclosed.ways_without(lines, unclosed.Closing(6, False, range(1, 8)), "s.hub.jobs")
-    assert [one.number for one in found] == ways
+    found = unclosed_channels.paths_without(lines, unclosed_channels.Closing(6, False, range(1, 8)), "s.hub.jobs")
+    assert [path.number for path in found] == ways
 
 
 @pytest.mark.parametrize("number, ways", [(2, []), (7, [5])])
@@ -433,9 +433,9 @@ def test_a_close_before_the_channel_is_made_closes_another(number: int, ways: li
     lines = (
         "func run() {", "\tclose(s.jobs)", "\ts.jobs = make(chan int)", "\tif bad {", "\t\treturn", "\t}", "\tclose(s.jobs)", "}",
     )  # fmt: skip
-    found = unclosed.ways_without(lines, unclosed.Closing(number, False, range(1, 9)), "s.jobs")
-    assert [one.number for one in found] == ways
-    assert unclosed.ways_without(lines, unclosed.Closing(number, False, range(0)), "s.jobs") == []
+    found = unclosed_channels.paths_without(lines, unclosed_channels.Closing(number, False, range(1, 9)), "s.jobs")
+    assert [path.number for path in found] == ways
+    assert unclosed_channels.paths_without(lines, unclosed_channels.Closing(number, False, range(0)), "s.jobs") == []
 
 
 @pytest.mark.parametrize(

@@ -7,13 +7,13 @@ from typing import Any
 from netrev.findings.evidence.past_tense import in_the_past
 from netrev.findings.evidence.siblings import odd_goroutines
 from netrev.findings.evidence.waiters import waiters_at
-from netrev.findings.evidence.words import result_words
+from netrev.findings.evidence.call_words import result_words
 from netrev.findings.pools.balances import balances_of, give_back, has_ended
-from netrev.findings.streams.ends_of_reads import bound_says, end_says
+from netrev.findings.streams.ends_of_reads import bound_sentence, end_sentence
 from netrev.findings.streams.exchanges import unanswered, unasked
 from netrev.findings.streams.failed_dials import failed_dials
-from netrev.findings.streams.unaccepted import unaccepted
-from netrev.findings.streams.unread import unread
+from netrev.findings.streams.unaccepted_connections import unaccepted
+from netrev.findings.streams.unread_bytes import unread
 from netrev.recording.call import Call
 from netrev.recording.goroutines import FOR_VALUE, PUT, TOOK, At, GoGoroutine, Object, ObjectUse, Park, Timer
 from netrev.recording.recording import Recording
@@ -22,7 +22,7 @@ from netrev.recording.where import OF_THE_PROGRAM
 from netrev.recording.where import SourceCall as LineCall
 from netrev.recording.where import SourceLines, Stack
 from netrev.run.index import run_of
-from netrev_go.log.beside import Beside
+from netrev_go.log.socket_facts import Beside
 from netrev_go.log.points import Point, PointKind
 from tests.failed_calls.test_causes import CAUSED, GETS, TWO_ENDS, UNLOCKS, with_lines
 
@@ -108,7 +108,7 @@ def test_a_request_that_is_answered() -> None:
 def test_what_a_read_looks_for() -> None:
     index = run_of(stored("relay-bad"))
     waiting = [waiter.call for waiter in waiters_at(index, index.recording.length).values() if waiter.call]
-    words = [says for call in waiting for says in end_says(index, call, 1, index.recording.length)]
+    words = [says for call in waiting for says in end_sentence(index, call, 1, index.recording.length)]
     assert "io.Copy has met no end of the stream: nobody has closed socket 1 for writing." in words
 
 
@@ -136,7 +136,7 @@ def test_up_to_where_functions_read() -> None:
         ),
         ({"io.ReadAtLeast", read}, ""),
     ):
-        assert bound_says(functions, 4) == words, (words, sorted(functions))
+        assert bound_sentence(functions, 4) == words, (words, sorted(functions))
 
 
 def test_bytes_that_nobody_reads() -> None:

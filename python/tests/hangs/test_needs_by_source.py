@@ -6,7 +6,7 @@ import pytest
 
 from netrev.findings.locks.conditions import single_signal, unsignalled
 from netrev.findings.pools.senders import later_giver
-from netrev.findings.pools.unclosed import unclosed
+from netrev.findings.pools.unclosed_channels import unclosed
 from netrev.findings.source.functions import is_same_variable, range_of
 from netrev.findings.source.locks import held_at
 from netrev.recording.goroutines import FOR_ROOM, FOR_VALUE, At
@@ -120,10 +120,10 @@ def test_the_lines_of_a_function_and_of_a_literal(bank: Bank) -> None:
 
 
 def test_variables_that_may_be_the_same() -> None:
-    for one, other, is_near, is_same in (
+    for item, other, is_near, is_same in (
         ("a.mu", "b.mu", False, True), ("a.mu", "b.lock", True, False), ("done", "done", True, True), ("done", "done", False, False),
     ):  # fmt: skip
-        assert is_same_variable(one, other, is_near) == is_same, (one, other)
+        assert is_same_variable(item, other, is_near) == is_same, (item, other)
 
 
 def test_who_should_have_woken_a_goroutine(bank: Bank) -> None:

@@ -4,7 +4,7 @@ serves the awaited request."""
 
 import re
 
-from netrev.findings.causes.first import left_by
+from netrev.findings.causes.first_output import left_by
 from netrev.findings.evidence.need import Certainty, Need
 from netrev.findings.evidence.responses import socket_of
 from netrev.findings.hangs.wait_graph import graph_at

@@ -5,7 +5,7 @@ from pathlib import Path
 
 import pytest
 
-from netrev.findings.causes.first import first_words
+from netrev.findings.causes.first_output import first_words
 from netrev.recording.recording import Recording
 from tests.failed_calls.test_causes import in_the_folder_of_the_source
 from tests.trials.go_caused import NAMES, SIZES, SOURCES, bug_line

@@ -4,7 +4,7 @@
 
 import re
 
-from netrev.findings.causes.first import first_words
+from netrev.findings.causes.first_output import first_words
 from netrev.findings.causes.tables import hangs_table
 from netrev.recording.recording import Recording
 from tests.failed_calls.test_causes import CAUSED, in_the_folder_of_the_source

@@ -6,9 +6,9 @@ import re
 from pathlib import Path
 from typing import Any
 
-from netrev.findings.causes.first import first_words, opening_words
+from netrev.findings.causes.first_output import first_words, opening_words
 from netrev.findings.evidence.need import Certainty
-from netrev.findings.hangs.hang_words import hang_says, tree_lines
+from netrev.findings.hangs.hang_words import hang_sentences, tree_lines
 from netrev.findings.hangs.wait_graph import DEEP, MAIN, Hang, WaitGraph, graph_at
 from netrev.findings.suspects.ranking import all_suspects_of
 from netrev.recording.goroutines import GoGoroutine
@@ -77,7 +77,7 @@ def graph_of(steps: Steps, waits: list[list[Any]], wrote: int = WRITES, file: st
 
 def said(graph: WaitGraph, number: int = 0) -> str:
     hang = graph.shown[number]
-    return "\n".join([*hang_says(graph, hang), *tree_lines(graph, hang)])
+    return "\n".join([*hang_sentences(graph, hang), *tree_lines(graph, hang)])
 
 
 BLOCKED: Steps = [*TWO_ENDS, *writes(0)]
@@ -132,7 +132,7 @@ def test_those_that_may_have_nothing_to_do_come_last_and_alike_ones_together() -
     waits = [[number, 0, number, WAITS_AT, 5, -1] for number in (2, 3, 4, 5)]
     graph = graph_of(BLOCKED, waits)
     assert [hang.root.name.number for hang in graph.shown] == [0, 2]
-    assert hang_says(graph, graph.shown[1]) == [
+    assert hang_sentences(graph, graph.shown[1]) == [
         "Goroutines 2, 3, 4 and 5 wait at hub.go:15 in (*hub).names for a value from a channel since steps 2 to 5."
     ]
     assert graph.count == 1

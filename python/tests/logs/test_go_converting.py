@@ -5,9 +5,9 @@ from typing import Any, Optional
 
 import pytest
 
-from netrev_go.log.answering import UnconvertibleError, lock_answer
+from netrev_go.log.point_answers import UnconvertibleError, lock_answer
 from netrev_go.log.points import Log, Point, PointKind
-from netrev_go.steps.making import NewRecording, NothingRecordedError, make
+from netrev_go.steps.recording_builder import NewRecording, NothingRecordedError, make
 
 WORD, DESCRIPTOR = 700, 900
 

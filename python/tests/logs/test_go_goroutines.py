@@ -42,8 +42,8 @@ from netrev_go.log.goroutines import (  # fmt: skip
 )
 from netrev_go.log.lines import Calls, LineCall
 from netrev_go.log.points import Point, PointKind, PointStack
-from netrev_go.steps import converting
-from netrev_go.steps.converting import RecordingOptions, convert
+from netrev_go.steps import conversion
+from netrev_go.steps.conversion import RecordingOptions, convert
 from netrev_go.steps.goroutine_lines import MOST, Everybody, kept, newest
 from netrev_go.steps.where import write_where
 
@@ -239,8 +239,8 @@ def test_nrdb_reads_what_is_written() -> None:
     assert read.timers == {1: [where.Timer(1, 7, 1, 2, 20_000, 90_000)]}
     assert not read.timers[1][0].is_stopped
     assert read.stacks[1].words() == "main.go:7 main.work"
-    made = SourceCall(*GO_STATEMENT)
-    assert read.goroutines[7] == GoGoroutine(7, -1, made, 5, 1, 2, 3_000, 18_000)
+    source_call = SourceCall(*GO_STATEMENT)
+    assert read.goroutines[7] == GoGoroutine(7, -1, source_call, 5, 1, 2, 3_000, 18_000)
     assert read.goroutines[5] == GoGoroutine(5, 0, None, 0, -1, -1, -1, -1)
     assert read.objects == {1: Object(1, "channel", 3), 2: Object(2, "channel", -1)}
     assert read.uses == {1: [where.ObjectUse(1, 5, where.PUT, 2, 1, 2, 2, 15_000, 15_000)]}
@@ -367,7 +367,7 @@ def test_a_program_of_a_hundred_thousand_goroutines_has_room(
     with monkeypatch.context() as patch:
         patch.setattr(lines, "shift", lambda *_, **__: 0)
         patch.setattr(lines, "looked_up", lambda *_, **__: symbols)
-        patch.setattr(converting, "report", lambda *_, **__: (True, []))
+        patch.setattr(conversion, "report", lambda *_, **__: (True, []))
         convert(log, name, go, RecordingOptions())
     size = name.with_suffix(".where").stat().st_size
     read = SourceLines.beside(str(name), 2)

@@ -15,7 +15,7 @@ from netrev_go.log.lines import Calls
 from netrev_go.log.logfile import HEADER_BYTES, HOLDER_BEGUN, HOLDER_BYTES, MOST_HOLDERS, MOST_STACKS, NotALogError
 from netrev_go.log.points import Log, LoggedHolder, PointKind, PointStack
 from netrev_go.steps.goroutine_lines import HELD
-from netrev_go.steps.making import make
+from netrev_go.steps.recording_builder import make
 
 from .test_go_goroutines import OF_GO, PROGRAM, STEPS, Points, written
 from .test_go_logs import opened, read
@@ -179,7 +179,7 @@ def test_of_gos_own_mutexes_those_are_kept_at_which_a_goroutine_waits() -> None:
     found = waits(MUTEX, LOCK + 4)
     found.held = [LoggedMutex(LOCK, 7, False, 6, 1), LoggedMutex(OTHER_LOCK, 8, False, 6, 1)]
     lines = written(found, calls)
-    assert [one.goid for some in (lines.held or {}).values() for one in some] == [7]
+    assert [item.goid for some in (lines.held or {}).values() for item in some] == [7]
     assert set(lines.goroutines) == {7, 9}
 
 
@@ -187,14 +187,14 @@ def test_those_of_a_goroutine_of_the_recording_are_kept() -> None:
     found = Points().found()
     found.held = [LoggedMutex(OTHER_LOCK, 8, False, 6, 1)]
     lines = written(found, {4: Calls((PROGRAM,), None), 6: Calls((OF_GO,), None)}, {8: 0})
-    assert [one.goid for some in (lines.held or {}).values() for one in some] == [8]
+    assert [item.goid for some in (lines.held or {}).values() for item in some] == [8]
 
 
 def test_the_newest_are_kept_where_there_isnt_room_for_all() -> None:
     found = Points().found()
     found.held = [LoggedMutex(LOCK + 16 * at, 7 + at, False, 4, 1) for at in range(5)]
     lines = written(found, {4: Calls((PROGRAM,), None)}, most=2)
-    assert [one.goid for some in (lines.held or {}).values() for one in some] == [10, 11]
+    assert [item.goid for some in (lines.held or {}).values() for item in some] == [10, 11]
 
 
 def test_lines_of_no_such_form_are_a_fault() -> None:
@@ -207,6 +207,6 @@ def test_lines_of_no_such_form_are_a_fault() -> None:
         assert read_back.fault == fault, rows
         assert not fault or read_back.held is None
     two = SourceLines("\n".join(map(json.dumps, [*first, {HELD: [good]}, {HELD: [[2, 8, "", 1, 3]]}])), 3)
-    assert [one.goid for some in (two.held or {}).values() for one in some] == [7, 8]
+    assert [item.goid for some in (two.held or {}).values() for item in some] == [7, 8]
     unknown_stack = SourceLines("\n".join(map(json.dumps, [*first, {HELD: [[1, 7, "", 9, 2]]}])), 3)
     assert (unknown_stack.held or {})[1][0].stack == 0

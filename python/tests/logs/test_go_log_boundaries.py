@@ -21,20 +21,20 @@ from netrev.findings.finding import Sentence, SuspectFindings
 from netrev.messages import recorder as messages
 from netrev.recording.recording import NotARecordingError
 from netrev.system.time_limits import LateError
-from netrev_go import cli, doctor, keeping, recovery, tested, trying
+from netrev_go import cli, doctor, recordings, recovery, go_test_results, release_check
 from netrev_go.go_command import calls_of_go, run_folders, running, toolchain
 from netrev_go.go_command.status import ExitStatus
 from netrev_go.go_command.toolchain import RecorderError
 from netrev_go.log import goroutines, lines, logfile, sockets
-from netrev_go.log.answering import can_answer
-from netrev_go.log.beside import OF_UNIX, Beside
+from netrev_go.log.point_answers import can_answer
+from netrev_go.log.socket_facts import OF_UNIX, Beside
 from netrev_go.log.goroutines import NEVER, Goroutines, LoggedChannel, LoggedPark, Passing, Used, UseSpan
 from netrev_go.log.lines import Calls, LineCall
 from netrev_go.log.logfile import HEADER_WORDS, MOST_HOLDERS, MOST_POINTS, MOST_STACKS, UNDER_WAY, Header, NotALogError
 from netrev_go.log.notes import REFERENCES, WAITING, Note
 from netrev_go.log.points import Log, Point, PointKind
 from netrev_go.log.sockets import BUFFER, FEW_BYTES, OUTPUT, LoggedSocket
-from netrev_go.steps import analysis, compare, converting, forms, making, report
+from netrev_go.steps import analysis, compare, conversion, forms, recording_builder, report
 
 from .test_go_logs import opened
 
@@ -93,8 +93,8 @@ def test_doctor_says_where_logs_have_room(has_room: bool, tmp_path: Path, monkey
 
     monkeypatch.setattr(doctor, "logs_folder", folder)
     assert doctor.has_room() is has_room
-    said = messages.ROOM.format(folder=tmp_path) if has_room else messages.ROOM_MISSING.format(why="full")
-    assert capsys.readouterr().out == said + "\n" and not any(tmp_path.iterdir())
+    output = messages.ROOM.format(folder=tmp_path) if has_room else messages.ROOM_MISSING.format(why="full")
+    assert capsys.readouterr().out == output + "\n" and not any(tmp_path.iterdir())
 
 
 @pytest.mark.parametrize(
@@ -106,7 +106,7 @@ def test_a_test_has_the_steps_of_points_from_its_begin_to_its_end(
 ) -> None:
     recording = cast(Any, Made(bytes=None, prelude=0, taken=[], made=[(1, 5, 1), (2, 5, 2), (5, 5, 3), (7, 5, 4)]))
     test = Made(name="T", package="p", began=began, ended=ended)
-    lines_of = converting.of_tests(recording, cast(Any, Made(ran=[test])))
+    lines_of = conversion.of_tests(recording, cast(Any, Made(ran=[test])))
     assert lines_of == ([{"test": "T", "package": "p", "steps": steps}] if steps else [])
 
 
@@ -121,10 +121,10 @@ def test_a_trial_writes_one_log(script: str, says: str, tmp_path: Path, monkeypa
     def read(log: Path) -> None:
         raise NotALogError("empty")
 
-    monkeypatch.setattr(trying, "read_log", read)
+    monkeypatch.setattr(release_check, "read_log", read)
     monkeypatch.setattr(messages, "NO_TRIAL_RECORDING", "no recording: {why}")
     monkeypatch.setattr(messages, "TRIAL_FAILED", "status {status}, {logs} logs: {why}")
-    trial = trying.recorded(["sh", "-c", f"cd {tmp_path}/one; {script}"], tmp_path / "one", 1, True)
+    trial = release_check.recorded(["sh", "-c", f"cd {tmp_path}/one; {script}"], tmp_path / "one", 1, True)
     assert not trial.good and says in trial.said
 
 
@@ -149,7 +149,7 @@ def test_a_process_that_is_too_old_gets_one_quit_and_is_killed_later(
     "package, name", [("p", "p"), ("a/p", "p"), ("p/v2", "p"), ("a/p/v2", "p"), ("v2", "v2"), ("a/v", "v")]
 )
 def test_a_test_program_has_the_package_s_last_name(package: str, name: str) -> None:
-    assert tested.short_name(package) == name
+    assert go_test_results.short_name(package) == name
 
 
 @pytest.mark.parametrize(
@@ -164,8 +164,8 @@ def test_a_test_program_has_the_package_s_last_name(package: str, name: str) -> 
 def test_the_status_of_recorded_tests(
     status: int, suspected: bool, possible: bool, fail_on: list[str] | None, is_strict: bool, all_recorded: bool, ends: int, monkeypatch: Patch
 ) -> None:  # fmt: skip
-    came = Made(status=status, suspected=suspected, possible=possible, all_recorded=all_recorded)
-    monkeypatch.setattr(cli, "record_tests", lambda *words: came)
+    results = Made(status=status, suspected=suspected, possible=possible, all_recorded=all_recorded)
+    monkeypatch.setattr(cli, "record_tests", lambda *words: results)
     monkeypatch.setattr(cli, "flags", lambda go, words: [])
     monkeypatch.setattr(cli, "wish_of", lambda options: None)
     options = argparse.Namespace(command="test", words_of_go=[], fail_on=fail_on, strict=is_strict)
@@ -186,7 +186,7 @@ def test_the_log_that_a_process_has_mapped(path: str, is_log: bool, monkeypatch:
 
 def test_what_a_conversion_didn_t_print_yet_comes_at_its_end(monkeypatch: Patch, capsys: Output) -> None:
     def convert(
-        log: Path, name: Path, go: object, wish: object, known: object, hear: Callable[..., None], is_written: bool
+        log: Path, name: Path, go: object, options: object, known: object, hear: Callable[..., None], is_written: bool
     ) -> Made:
         hear(["first"])
         return Made(lines=["first", "second"], taken=log.name != "b")
@@ -194,21 +194,21 @@ def test_what_a_conversion_didn_t_print_yet_comes_at_its_end(monkeypatch: Patch,
     for name, fake in {"go_if_any": lambda: None, "wish_of": lambda options: None}.items():
         monkeypatch.setattr(cli, name, fake)
     monkeypatch.setattr(cli, "convert", convert)
-    assert cli.convert_one(argparse.Namespace(words_of_go=["a", "b"], pid=None, o=None)) == ExitStatus.REFUSED
+    assert cli.convert_log(argparse.Namespace(words_of_go=["a", "b"], pid=None, o=None)) == ExitStatus.REFUSED
     assert capsys.readouterr().out == 2 * "first\nsecond\n"
 
 
 def test_only_values_are_netrev_s_answers(monkeypatch: Patch) -> None:
-    asked: list[str] = []
+    queries: list[str] = []
 
     def run(words: list[object], input: str, **more: object) -> Made:
-        asked.append(input)
+        queries.append(input)
         return Made(stdout="step 3\nlock 0 = 8\nlock 1 = 9\n")
 
     monkeypatch.setattr(subprocess, "run", run)
     values = compare.asked("netrev", Path("x"), [(3, "lock 0", "8"), (3, "lock 1", "9"), (5, "lock 0", "0")])
     assert values == ["lock 0 = 8", "lock 1 = 9"]
-    assert asked == ["stepi 3\nprint lock 0\nprint lock 1\nstepi 2\nprint lock 0\n"]
+    assert queries == ["stepi 3\nprint lock 0\nprint lock 1\nstepi 2\nprint lock 0\n"]
 
 
 @pytest.mark.parametrize(
@@ -223,7 +223,7 @@ def test_the_recorder_s_own_calls(function: str, of: str, is_ours: bool) -> None
 
 
 @pytest.mark.parametrize(
-    "kind, asked, got, failed, text, steps, written, largest, full_at",
+    "kind, requested, got, failed, text, steps, written, largest, full_at",
     [
         (PointKind.READ, 9, 5, 0, 10, 1, 0, OUTPUT, 0), (PointKind.READ, 9, 0, 0, 0, -1, 0, OUTPUT, 0), (PointKind.READ, 9, -1, 1, 0, -1, 0, OUTPUT, 0),
         (PointKind.READ, 2 * BUFFER, BUFFER, 0, 2 * BUFFER, 1, 0, OUTPUT, 0), (PointKind.READ, 2 * BUFFER, BUFFER + 1, 0, 2 * BUFFER + 2, 3, 0, OUTPUT, 0),
@@ -233,23 +233,23 @@ def test_the_recorder_s_own_calls(function: str, of: str, is_ours: bool) -> None
     ],
 )  # fmt: skip
 def test_the_bytes_of_a_read_or_a_write(
-    kind: int, asked: int, got: int, failed: int, text: int, steps: int, written: int, largest: int, full_at: int
+    kind: int, requested: int, got: int, failed: int, text: int, steps: int, written: int, largest: int, full_at: int
 ) -> None:
     socket = LoggedSocket(0)
-    sockets.count_bytes(socket, Point(1, kind, 1, 0, asked, got, failed, 0, 0))
+    sockets.count_bytes(socket, Point(1, kind, 1, 0, requested, got, failed, 0, 0))
     assert (socket.text, socket.steps, socket.written) == (text, steps, written)
     assert (socket.largest, socket.full_at, socket.capacity()) == (largest, full_at, full_at or largest)
     assert (socket.last_write is not None) is (kind == PointKind.WRITE and (got > 0 or failed == 1))
 
 
 @pytest.mark.parametrize(
-    "kind, asked, got, few",
+    "kind, requested, got, few",
     [
         (PointKind.WRITE, 64, 64, (64, 64)), (PointKind.WRITE, 65, 3, (64, 3)), (PointKind.WRITE, 3, 3, (3, 3)), (PointKind.READ, 65, 65, (65, 64)), (PointKind.READ, 9, -1, (9, -1)),
     ],
 )  # fmt: skip
-def test_few_of_the_bytes_of_a_call(kind: int, asked: int, got: int, few: tuple[int, int]) -> None:
-    point = sockets.of_few(Point(1, kind, 2, 3, asked, got, 4, 5, 6))
+def test_few_of_the_bytes_of_a_call(kind: int, requested: int, got: int, few: tuple[int, int]) -> None:
+    point = sockets.of_few(Point(1, kind, 2, 3, requested, got, 4, 5, 6))
     assert FEW_BYTES == 64 and point == Point(1, kind, 2, 3, *few, 4, 5, 6)
 
 
@@ -275,24 +275,24 @@ def test_the_results_for_which_the_machine_has_an_answer(
 def test_the_status_of_recovered_runs(statuses: str, ends: int, monkeypatch: Patch, capsys: Output) -> None:
     """Each run's recordings are all accepted (a), not all accepted (r), or can't be written (t). In each case, --keep leaves the run's logs."""
     left: list[bool] = []
-    looked: list[Path] = []
+    folders: list[Path] = []
     runs = [Made(folder=Path(kind), command=kind, when=lambda: "today") for kind in statuses]
 
-    def made(folder: Path, base: Path, go: object, wish: object, count: int) -> Made:
+    def made(folder: Path, base: Path, go: object, options: object, count: int) -> Made:
         kind = folder.name
         return Made(
             all=lambda failed: None, leave=left.append, count=count + 1, trouble=kind == "t", all_taken=kind == "a"
         )
 
     fakes: dict[str, Callable[..., object]] = {
-        "look": looked.append, "left_runs": lambda: runs, "take_over": lambda run: True, "RecordingMaker": made,
+        "look": folders.append, "left_runs": lambda: runs, "take_over": lambda run: True, "RecordingMaker": made,
     }  # fmt: skip
     for name, fake in fakes.items():
         monkeypatch.setattr(recovery, name, fake)
     assert recovery.recover(argparse.Namespace(keep=True), Path("x"), None, cast(Any, None)) == ends
-    assert left == [True] * len(statuses) and looked == [Path("x")]
-    told = capsys.readouterr().err
-    assert (f"{len(statuses)} recordings" in told) is (len(statuses) > 1)
+    assert left == [True] * len(statuses) and folders == [Path("x")]
+    errors = capsys.readouterr().err
+    assert (f"{len(statuses)} recordings" in errors) is (len(statuses) > 1)
 
 
 @pytest.mark.parametrize(
@@ -307,18 +307,18 @@ def test_the_recordings_of_a_run_s_processes(
 ) -> None:
     """A log's recording is accepted (t), accepted with a suspect (s), refused (r), unwritten (w) or empty (e)."""
 
-    def convert(log: Path, name: Path, go: object, wish: object, hear: object) -> Made:
+    def convert(log: Path, name: Path, go: object, options: object, hear: object) -> Made:
         if log.name == "w":
             raise OSError(28, "full")
         return Made(is_empty=log.name == "e", taken=log.name in "ts", lines=[], suspects=[""] * (log.name == "s"))
 
-    monkeypatch.setattr(keeping, "logs_in", lambda folder: [Path(kind) for kind in outcomes])
-    monkeypatch.setattr(keeping, "convert", convert)
+    monkeypatch.setattr(recordings, "logs_in", lambda folder: [Path(kind) for kind in outcomes])
+    monkeypatch.setattr(recordings, "convert", convert)
     monkeypatch.setattr(messages, "NOTHING_TO_RECORD", "nothing")
     monkeypatch.setattr(messages, "OPENED_NONE", "{processes}")
-    made = keeping.RecordingMaker(Path("logs"), Path("x"), None, cast(Any, None), 2)
-    assert made._make(Path("x"), cast(Any, None), 2) == (is_ok, count)
-    assert made.suspected is suspected and made.trouble is ("w" in outcomes)
+    recording_maker = recordings.RecordingMaker(Path("logs"), Path("x"), None, cast(Any, None), 2)
+    assert recording_maker._make(Path("x"), cast(Any, None), 2) == (is_ok, count)
+    assert recording_maker.suspected is suspected and recording_maker.trouble is ("w" in outcomes)
     assert says in capsys.readouterr().err
 
 
@@ -329,8 +329,8 @@ def test_the_statuses_for_unknown_calls_of_go(
     monkeypatch.setattr(calls_of_go, "find_go", lambda: Made(version="go9"))
     monkeypatch.setattr(calls_of_go, "unknown_calls", lambda go: unknown)
     assert calls_of_go.main([]) == status
-    said = capsys.readouterr().out.splitlines()
-    assert said == [
+    output = capsys.readouterr().out.splitlines()
+    assert output == [
         *(f"go9 has {call}, which isn't in the table" for call in unknown),
         f"go9: {len(unknown)} unknown calls",
     ]
@@ -346,11 +346,11 @@ def test_the_status_if_no_go_is_installed(monkeypatch: Patch, capsys: Output) ->
 
 
 @pytest.mark.parametrize(
-    "made, says",
+    "starter, says",
     [(None, ""), (LineCall("main.f", "main.go", 3, "program"), "; started at main.go:3")],
 )
-def test_a_goroutine_is_told_with_the_line_that_started_it(made: LineCall | None, says: str) -> None:
-    calls = Calls((LineCall("main.f", "main.go", 14, "program"),), made)
+def test_a_goroutine_is_told_with_the_line_that_started_it(starter: LineCall | None, says: str) -> None:
+    calls = Calls((LineCall("main.f", "main.go", 14, "program"),), starter)
     wait = report.wait_of(2, "running w", 7, "step 7", calls)
     (sentence,) = wait.sentences
     assert sentence.endswith(f"(goroutine 2, since step 7{says})") and "main.go:14" in sentence
@@ -425,7 +425,7 @@ def test_the_facts_of_a_period(begin: int, end: int | None, is_kept: bool) -> No
     "words, called",
     [
         (["snapshot", "7"], ["offer", "snapshot 7"]), (["watch", "7"], ["offer", "watch 7"]), (["doctor"], ["offer", "doctor"]), (["env"], ["offer", "env"]),
-        (["build"], ["offer", "build"]), (["run"], ["offer", "record"]), (["test"], ["offer", "record"]), (["convert", "x"], ["offer", "convert_one"]), (["recover"], ["recover"]),
+        (["build"], ["offer", "build"]), (["run"], ["offer", "record"]), (["test"], ["offer", "record"]), (["convert", "x"], ["offer", "convert_log"]), (["recover"], ["recover"]),
     ],
 )  # fmt: skip
 def test_each_command_does_its_own(words: list[str], called: list[str], monkeypatch: Patch) -> None:
@@ -440,7 +440,7 @@ def test_each_command_does_its_own(words: list[str], called: list[str], monkeypa
 
     monkeypatch.setattr(cli.gc, "disable", lambda: None)
     monkeypatch.setattr(cli, "find_go", lambda: None)
-    for name in ("recover", "offer", "convert_one", "snapshot", "watch", "doctor", "build", "env", "record"):
+    for name in ("recover", "offer", "convert_log", "snapshot", "watch", "doctor", "build", "env", "record"):
         monkeypatch.setattr(cli, name, fake(name))
     assert (cli.main(words), calls) == (7, called)
 
@@ -466,9 +466,9 @@ def test_rules_that_don_t_fit_are_named(status: int, says: list[str], tmp_path: 
 
 @pytest.mark.parametrize("count", [0, 1, 3, 4, 7])
 def test_a_recording_has_a_header_and_all_its_lines(count: int, tmp_path: Path, monkeypatch: Patch) -> None:
-    monkeypatch.setattr(making, "AT_ONCE", 3)
+    monkeypatch.setattr(recording_builder, "AT_ONCE", 3)
     recording = cast(Any, Made(header="header", lines=[f"line {number}" for number in range(count)]))
-    making.write(recording, tmp_path / "x.jsonl")
+    recording_builder.write(recording, tmp_path / "x.jsonl")
     assert (tmp_path / "x.jsonl").read_text().splitlines() == ["header", *recording.lines]
 
 
@@ -484,13 +484,13 @@ def test_a_write_has_as_many_steps_as_fit_into_the_output(
     points = opened(1) + [
         Point(2 + place, PointKind.WRITE, 1, 1000, *write, 0, 0) for place, write in enumerate(writes)
     ]
-    steps = [json.loads(str(line)) for line in making.make(Log(points)).lines]
+    steps = [json.loads(str(line)) for line in recording_builder.make(Log(points)).lines]
     assert next(step[2] for step in steps if step[0] == "sockopen") == capacity
     assert [step[4][1] for step in steps if step[0] == "syswrite" and step[4] != "again"] == counts
 
 
 def test_a_file_that_is_no_log_is_named_and_not_everything_is_recorded(tmp_path: Path, capsys: Output) -> None:
-    recordings = tested.Recordings(tmp_path, cast(Any, None), cast(Any, None), False, False)
+    recordings = go_test_results.Recordings(tmp_path, cast(Any, None), cast(Any, None), False, False)
     assert recordings.read(tmp_path / "log.1", cast(Any, None)) is None
     assert not recordings.all_recorded and str(tmp_path / "log.1") in capsys.readouterr().err
 
@@ -552,8 +552,8 @@ def test_a_go_that_can_record(
         (tmp_path / "src/runtime").mkdir(parents=True)
         (tmp_path / "src/runtime/netpoll.go").touch()
     kind, processor = system.split()
-    told = {"GOROOT": str(tmp_path), "GOVERSION": "go1.27", "GOOS": kind, "GOARCH": processor, "GOFLAGS": "-v"}
-    run = Made(returncode=status, stdout=json.dumps(told), stderr="broken")
+    variables = {"GOROOT": str(tmp_path), "GOVERSION": "go1.27", "GOOS": kind, "GOARCH": processor, "GOFLAGS": "-v"}
+    run = Made(returncode=status, stdout=json.dumps(variables), stderr="broken")
     monkeypatch.setattr(subprocess, "run", lambda *words, **more: run)
     monkeypatch.setattr(toolchain.shutil, "which", lambda name: f"/bin/{name}")
     monkeypatch.setattr(messages, "NO_SOURCES", "no sources")
@@ -593,8 +593,8 @@ def test_a_left_run_is_in_a_folder_of_this_user_s(
     [("passed", 0, []), ("skipped", 0, [("skipped", None)]), ("failed", 1, [("failure", "a\nb")]), ("unfinished", 1, [("error", "a\nb")])],
 )  # fmt: skip
 def test_the_parts_of_a_test_case(status: str, failed: int, parts: list[tuple[str, str | None]]) -> None:
-    one = forms.TestResult("p", "T", status, 1, failed, 0.5, says=["a", "b"])
-    case = ElementTree.fromstring(forms.junit([one])).find("testsuite/testcase")
+    test_result = forms.TestResult("p", "T", status, 1, failed, 0.5, says=["a", "b"])
+    case = ElementTree.fromstring(forms.junit([test_result])).find("testsuite/testcase")
     assert case is not None and case.attrib == {"classname": "p", "name": "T", "time": "0.500000"}
     assert [(part.tag, part.text) for part in case] == parts
 
@@ -626,11 +626,11 @@ def test_recordings_of_a_running_program_are_numbered(monkeypatch: Patch) -> Non
         names.append(name.name)
         return Made(is_empty=False, taken=True, lines=[], suspects=[])
 
-    monkeypatch.setattr(keeping, "logs_in", lambda folder: [Path("log.1"), Path("log.2")])
-    monkeypatch.setattr(keeping, "convert", convert)
-    made = keeping.RecordingMaker(Path("logs"), Path("x"), None, cast(Any, None))
-    made.so_far()
-    made.so_far()
+    monkeypatch.setattr(recordings, "logs_in", lambda folder: [Path("log.1"), Path("log.2")])
+    monkeypatch.setattr(recordings, "convert", convert)
+    recording_maker = recordings.RecordingMaker(Path("logs"), Path("x"), None, cast(Any, None))
+    recording_maker.so_far()
+    recording_maker.so_far()
     assert names == ["x-so-far-1.jsonl", "x-so-far-1-2.jsonl", "x-so-far-2.jsonl", "x-so-far-2-2.jsonl"]
 
 
@@ -646,16 +646,16 @@ def test_the_fields_of_a_lock_word() -> None:
 def test_a_recording_that_is_too_long_after_its_steps_were_counted_gets_less_room(
     lengths: list[int], rooms: list[int], monkeypatch: Patch
 ) -> None:
-    asked: list[int] = []
-    made = iter(lengths)
+    limits: list[int] = []
+    lengths_left = iter(lengths)
 
     def converter(points: object, begin: int, ends: object) -> Made:
-        return Made(lines=[""] * next(made), convert=lambda: None, made_of=dict)
+        return Made(lines=[""] * next(lengths_left), convert=lambda: None, made_of=dict)
 
-    own = Made(chosen=lambda most, megabytes, room: asked.append(room), is_crowded=False, restore=lambda: None, found=Made(sockets=[]))  # fmt: skip
-    monkeypatch.setattr(making, "Converter", converter)
-    monkeypatch.setattr(making, "MOST_STEPS", 10)
-    assert len(making.Fitted.converted(cast(Any, own), 0, 256, 1).lines) == lengths[-1] and asked == rooms
+    own = Made(chosen=lambda most, megabytes, room: limits.append(room), is_crowded=False, restore=lambda: None, found=Made(sockets=[]))  # fmt: skip
+    monkeypatch.setattr(recording_builder, "Converter", converter)
+    monkeypatch.setattr(recording_builder, "MOST_STEPS", 10)
+    assert len(recording_builder.Fitted.converted(cast(Any, own), 0, 256, 1).lines) == lengths[-1] and limits == rooms
 
 
 @pytest.mark.parametrize(
@@ -666,5 +666,5 @@ def test_a_recording_that_is_too_long_after_its_steps_were_counted_gets_less_roo
 )  # fmt: skip
 def test_the_points_after_the_last_gap_that_is_too_large(numbers: list[int], first: int | None) -> None:
     points = [Point(number, PointKind.INIT, 1, 0, 0, 0, 0, 0, 0) for number in numbers]
-    kept = logfile.behind_the_last_gap(points)
+    kept = logfile.after_last_gap(points)
     assert kept == [point for point in points if first is not None and point.number >= first]

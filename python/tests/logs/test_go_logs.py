@@ -14,12 +14,12 @@ from netrev_go.log import lines
 from netrev_go.log.lines import Calls, LineCall, SourceRoots, lines_of, looked_up
 from netrev_go.log.logfile import HEADER_BYTES, NotALogError, read_log
 from netrev_go.log.points import Log, Point, PointKind
-from netrev_go.steps import converting
-from netrev_go.steps.converting import RecordingOptions, convert
-from netrev_go.steps.making import NothingRecordedError, UnconvertibleError, make, write
+from netrev_go.steps import conversion
+from netrev_go.steps.conversion import RecordingOptions, convert
+from netrev_go.steps.recording_builder import NothingRecordedError, UnconvertibleError, make, write
 from netrev_go.steps.report import Conversion, next_line, wait_of
 from netrev_go.steps.where import own_line, write_where
-from tests.session.test_strange import OBEYED, unseen
+from tests.session.test_foreign_servers import OBEYED, unseen
 from tests.support.stubs import stub
 
 REAL = pathlib.Path(__file__).resolve().parents[3] / "examples/real"
@@ -52,9 +52,9 @@ def test_stored_logs_give_the_stored_recordings() -> None:
             data, _ = from_text((REAL / f"{name}.log").read_text())
             log = pathlib.Path(folder, "log.1")
             log.write_bytes(data)
-            made = pathlib.Path(folder, "made.jsonl")
-            write(make(read_log(log)), made)
-            assert made.read_text() == (REAL / f"{name}.jsonl").read_text(), name
+            made_file = pathlib.Path(folder, "made.jsonl")
+            write(make(read_log(log)), made_file)
+            assert made_file.read_text() == (REAL / f"{name}.jsonl").read_text(), name
 
 
 def test_stored_logs_give_the_stored_lines(monkeypatch: pytest.MonkeyPatch) -> None:
@@ -69,9 +69,9 @@ def test_stored_logs_give_the_stored_lines(monkeypatch: pytest.MonkeyPatch) -> N
                 patch.setattr(lines, "shift", lambda *_, **__: 0)
                 patch.setattr(lines, "looked_up", lambda *_, **__: symbols)
                 calls = lines_of(log, set(recording.stacks), pathlib.Path("none"), ["go"], SourceRoots(sources, here))
-            made = pathlib.Path(folder, "made.where")
-            write_where(made, recording.stacks, calls)
-            assert made.read_text() == (REAL / f"{name}.where").read_text(), name
+            made_file = pathlib.Path(folder, "made.where")
+            write_where(made_file, recording.stacks, calls)
+            assert made_file.read_text() == (REAL / f"{name}.where").read_text(), name
 
 
 def timed(times: list[int]) -> Log:
@@ -148,11 +148,11 @@ def test_nrdb_reads_the_times_that_were_written(folder: pathlib.Path) -> None:
 
 def stacks(*points: tuple[PointKind, int, int, int]) -> list[int]:
     """The stacks of the steps for these points, which follow the opening of two sockets. A point is a kind, a goroutine, a socket and a stack."""
-    made = opened(2)
+    made_file = opened(2)
     for kind, g, socket, stack in points:
-        at = made[2 * socket].at if kind != PointKind.RESET else made[2 * socket + 1].at
-        made.append(Point(len(made), kind, g, at, ord("r") if kind == PointKind.RESET else 0, 8, 2, 0, stack))
-    recording = make(Log(made))
+        at = made_file[2 * socket].at if kind != PointKind.RESET else made_file[2 * socket + 1].at
+        made_file.append(Point(len(made_file), kind, g, at, ord("r") if kind == PointKind.RESET else 0, 8, 2, 0, stack))
+    recording = make(Log(made_file))
     steps = [stack for line, stack in zip(recording.lines, recording.stacks) if "spawn" not in str(line)]
     return steps[-len(points) :]
 
@@ -315,9 +315,9 @@ def test_the_programs_line_comes_before_a_librarys() -> None:
 
 
 def test_nrdb_reads_the_lines_that_were_written(folder: pathlib.Path) -> None:
-    made = LineCall("main.main", "main.go", 18, "program")
+    made_file = LineCall("main.main", "main.go", 18, "program")
     name = folder / "a.where"
-    write_where(name, [7, 0, 9, 7] * 600, {7: Calls(CALLS, made), 9: Calls((), None)})
+    write_where(name, [7, 0, 9, 7] * 600, {7: Calls(CALLS, made_file), 9: Calls((), None)})
     result = SourceLines.beside(str(name.with_suffix(".jsonl")), 2_400)
     assert not SourceLines.beside(str(name.with_suffix(".jsonl")), 2_399)
     assert result.words(1) == "main.go:14 ext.Read"
@@ -374,7 +374,7 @@ def test_addresses_become_lines(monkeypatch: pytest.MonkeyPatch) -> None:
 
 
 def test_without_go_there_is_a_recording_without_lines(folder: pathlib.Path, monkeypatch: pytest.MonkeyPatch) -> None:
-    monkeypatch.setattr(converting, "report", lambda *_: Conversion(True, []))
+    monkeypatch.setattr(conversion, "report", lambda *_: Conversion(True, []))
     log, name = folder / "log.1", folder / "made.jsonl"
     log.write_bytes(from_text((REAL / "past.log").read_text())[0])
     assert convert(log, name, None, RecordingOptions()).taken

@@ -10,8 +10,8 @@ import pytest
 
 from netrev.machine.in_place import Machine
 from netrev.text.contents import Limits
-from netrev.text.reading import read_text
-from netrev_go.log.answering import UnconvertibleError
+from netrev.text.parser import read_text
+from netrev_go.log.point_answers import UnconvertibleError
 from netrev_go.log.notes import (  # fmt: skip
     ARMED,
     CHECKING,
@@ -32,7 +32,7 @@ from netrev_go.log.notes import (  # fmt: skip
 )
 from netrev_go.log.points import AT_A_SOCKET, AT_A_WORD, Log, Point, PointKind
 from netrev_go.log.prelude import NOBODY
-from netrev_go.steps.making import NewRecording, NothingRecordedError, make
+from netrev_go.steps.recording_builder import NewRecording, NothingRecordedError, make
 
 WORD, DESCRIPTOR, OTHER_WORD, OTHER_DESCRIPTOR = 700, 900, 1700, 1900
 READ, WRITE = ord("r"), ord("w")
@@ -82,8 +82,8 @@ class Noted:
         return recording, replayed(recording)
 
 
-def replayed(made: NewRecording) -> Machine:
-    text = read_text("\n".join([made.header, *map(str, made.lines)]).encode())
+def replayed(recording: NewRecording) -> Machine:
+    text = read_text("\n".join([recording.header, *map(str, recording.lines)]).encode())
     machine = Machine(Limits(*text.limits))
     for number, (step, answer) in enumerate(zip(text.steps, text.answers), 1):
         found = machine.step(step)

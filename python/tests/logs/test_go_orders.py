@@ -9,7 +9,7 @@ from dev.fuzz.generators.logs import binary
 from netrev.recording.where import SourceLines
 from netrev_go.log.orders import ValueQueue
 from netrev_go.log.points import Log, PointKind
-from netrev_go.steps.making import make
+from netrev_go.steps.recording_builder import make
 from netrev_go.steps.where import write_where
 
 from .test_go_converting import WORD, Points

@@ -23,8 +23,8 @@ from netrev_go.go_command.toolchain import Go, overlay, quiet_go
 from netrev_go.log.logfile import Header, points_of, read_log
 from netrev_go.log.points import Log, Point, PointKind
 from netrev_go.steps.compare import by_the_model
-from netrev_go.steps.making import make, write, write_words
-from netrev_go.trying import tried_in
+from netrev_go.steps.recording_builder import make, write, write_words
+from netrev_go.release_check import tried_in
 from tests.trials.go_untouched import go_of
 
 RELEASE = "1.27"
@@ -111,7 +111,7 @@ def text_of(log: Log, points: list[Point]) -> str:
         {f"event {point.a} {point.b}{' tagged' * bool(point.c)}" for point in points if point.kind == PointKind.EVENT}
     )
     held = (
-        (names.of("g", one.goroutine), one.is_reader, len(log.stacks[one.stack].calls)) for one in log.holders or ()
+        (names.of("g", holder.goroutine), holder.is_reader, len(log.stacks[holder.stack].calls)) for holder in log.holders or ()
     )
     lines += sorted(f"{g} holds a mutex{' for reading' * is_reader}: stack of {calls}" for g, is_reader, calls in held)
     return "".join(f"{line}\n" for line in lines)
@@ -143,8 +143,8 @@ def said_of(log: Log, name: Path) -> str:
     recording = make(log)
     write(recording, name)
     write_words(recording, name.with_suffix(".words"))
-    good, said = by_the_model(name)
-    return "" if good else said
+    good, output = by_the_model(name)
+    return "" if good else output
 
 
 @needs_go
@@ -167,5 +167,5 @@ def test_the_trial_of_the_doctor_is_recorded() -> None:
 
 
 if __name__ == "__main__":
-    with recorded(go_of(RELEASE)) as (made, _):
-        STORED.write_text(text_of(read_log(made), raw_points(made)))
+    with recorded(go_of(RELEASE)) as (folder_of_log, _):
+        STORED.write_text(text_of(read_log(folder_of_log), raw_points(folder_of_log)))

@@ -81,7 +81,7 @@ class Synchronized:
         reached: dict[int, set[int]] = {}
         for number in range(len(self.points)):
             near = self.edges[number]
-            reached[number] = set().union(*(reached[one] for one in near)) | {one for one in near if one in self.steps}
+            reached[number] = set().union(*(reached[number_before] for number_before in near)) | {number_before for number_before in near if number_before in self.steps}
         return {number: reached[number] for number in self.steps}
 
     def found(self) -> Pairs:
@@ -97,7 +97,7 @@ class Synchronized:
             near = {first - 1 for first, second in pairs if second == number + 1} | {
                 newest[g] for _ in (g,) if g in newest
             }
-            reached[number] = near.union(*(reached[one] for one in near))
+            reached[number] = near.union(*(reached[number_before] for number_before in near))
             newest[g] = number
         return reached
 
@@ -177,48 +177,48 @@ def steps_before(number: int, steps: list[Made]) -> int:
 
 def end_of(park: Point, points: list[Point]) -> Optional[Point]:
     """The point at which a goroutine continues; None if it parks again before that, or never continues."""
-    own = (one for one in points if one.number > park.number and one.goroutine == park.goroutine)
-    following = next((one for one in own if one.kind in (PointKind.PARKS, PointKind.GOES_ON)), None)
+    own = (later for later in points if later.number > park.number and later.goroutine == park.goroutine)
+    following = next((later for later in own if later.kind in (PointKind.PARKS, PointKind.GOES_ON)), None)
     return following if following and following.kind == PointKind.GOES_ON else None
 
 
-def naive_park(one: Point, points: list[Point], steps: list[Made]) -> LoggedPark:
-    end = end_of(one, points)
+def naive_park(parking: Point, points: list[Point], steps: list[Made]) -> LoggedPark:
+    end = end_of(parking, points)
     woken = [
         other.goroutine for other in points
-        if end and one.number < other.number < end.number and other.kind == PointKind.READY
-        and (other.a, other.b) == (one.goroutine, 0)
+        if end and parking.number < other.number < end.number and other.kind == PointKind.READY
+        and (other.a, other.b) == (parking.goroutine, 0)
     ]  # fmt: skip
-    objects = (At(one.at, one.a if one.a in (VALUE, ROOM) else 0),) if one.at else ()
-    due = one.b - BEGIN if one.a == SLEEP and one.b > one.time else 0
+    objects = (At(parking.at, parking.a if parking.a in (VALUE, ROOM) else 0),) if parking.at else ()
+    due = parking.b - BEGIN if parking.a == SLEEP and parking.b > parking.time else 0
     last, ends = (steps_before(end.number, steps), end.time - BEGIN) if end else (UNENDED, UNENDED)
-    first, by = steps_before(one.number, steps), woken[-1] if woken else 0
-    return LoggedPark(one.goroutine, first, last, one.time - BEGIN, ends, one.a, one.stack, by, objects, due)
+    first, by = steps_before(parking.number, steps), woken[-1] if woken else 0
+    return LoggedPark(parking.goroutine, first, last, parking.time - BEGIN, ends, parking.a, parking.stack, by, objects, due)
 
 
 @pytest.mark.parametrize("seed", range(40))
 def test_a_wait_ends_where_its_goroutine_goes_on_and_by_who_made_it_ready(seed: int) -> None:
     points, steps = random_waits(seed)
     found = goroutines_of(points, steps, BEGIN)
-    parks = [one for one in points if one.kind == PointKind.PARKS]
-    assert found.parks == [naive_park(one, points, steps) for one in parks]
-    ended = sorted((end.number, place) for place, one in enumerate(parks) if (end := end_of(one, points)))
+    parks = [point for point in points if point.kind == PointKind.PARKS]
+    assert found.parks == [naive_park(point, points, steps) for point in parks]
+    ended = sorted((end.number, place) for place, point in enumerate(parks) if (end := end_of(point, points)))
     assert found.finished == [place for _, place in ended]
     assert found.ended == {
-        one.goroutine: (steps_before(one.number, steps), one.time - BEGIN)
-        for one in points
-        if one.kind == PointKind.ENDS
+        point.goroutine: (steps_before(point.number, steps), point.time - BEGIN)
+        for point in points
+        if point.kind == PointKind.ENDS
     }
     assert found.born == {
-        one.a: Born(one.goroutine, steps_before(one.number, steps), one.time - BEGIN)
-        for one in points if one.kind == PointKind.READY and one.b == BY_GO
+        point.a: Born(point.goroutine, steps_before(point.number, steps), point.time - BEGIN)
+        for point in points if point.kind == PointKind.READY and point.b == BY_GO
     }  # fmt: skip
     assert found.timers == [
         LoggedTimer(
-            one.at, one.goroutine, one.stack, steps_before(one.number, steps), one.time - BEGIN,
-            one.a - BEGIN if one.kind == PointKind.TIMER else NEVER,
+            point.at, point.goroutine, point.stack, steps_before(point.number, steps), point.time - BEGIN,
+            point.a - BEGIN if point.kind == PointKind.TIMER else NEVER,
         )
-        for one in points if one.kind in (PointKind.TIMER, PointKind.STOPPED)
+        for point in points if point.kind in (PointKind.TIMER, PointKind.STOPPED)
     ]  # fmt: skip
 
 
@@ -228,9 +228,9 @@ def test_waits_of_a_recording_are_those_with_a_step_in_them(seed: int) -> None:
     points, steps = random_waits(seed)
     found, numbers, since = goroutines_of(points, steps, BEGIN), {1: 0, 2: 1, 3: 2}, {3: 5}
     ended = sorted(
-        (end.number, one.number) for one in points if one.kind == PointKind.PARKS and (end := end_of(one, points))
+        (end.number, point.number) for point in points if point.kind == PointKind.PARKS and (end := end_of(point, points))
     )
-    by_number = dict(zip((one.number for one in points if one.kind == PointKind.PARKS), found.parks))
+    by_number = dict(zip((point.number for point in points if point.kind == PointKind.PARKS), found.parks))
     never = [number for number, park in by_number.items() if park.last == UNENDED]
     expected = []
     for park in [by_number[number] for number in (*(number for _, number in ended), *never)]:
@@ -253,5 +253,5 @@ def overlap(begin: int, end: Optional[int], first: int, last: int) -> bool:
 def test_those_during_a_time_have_a_moment_in_it(begin: int, end: Optional[int]) -> None:
     found: Goroutines = goroutines_of(*random_waits(1), BEGIN)
     during = found.during(begin, end)
-    assert during.parks == [one for one in found.parks if overlap(begin, end, one.begin, one.end)]
-    assert during.timers == [one for one in found.timers if end is None or one.time <= end]
+    assert during.parks == [park for park in found.parks if overlap(begin, end, park.begin, park.end)]
+    assert during.timers == [park for park in found.timers if end is None or park.time <= end]

@@ -21,10 +21,10 @@ from dev.fuzz.generators.random_logs import log_of, program_of
 from netrev_go.go_command.toolchain import Go
 from netrev_go.log.lines import SourceRoots, lines_of
 from netrev_go.log.points import Log, LoggedHolder, Point, PointKind, PointStack
-from netrev_go.log.ran import Ran, Tests
-from netrev_go.steps import converting, report
-from netrev_go.steps.converting import ReadLog, RecordingOptions, converted
-from netrev_go.steps.making import NothingRecordedError, make
+from netrev_go.log.tests_in_log import Ran, Tests
+from netrev_go.steps import conversion, report
+from netrev_go.steps.conversion import ReadLog, RecordingOptions, converted
+from netrev_go.steps.recording_builder import NothingRecordedError, make
 
 HERE = Path(__file__).parent
 LOG = HERE / "go_recorded.log"
@@ -89,7 +89,7 @@ def drawn(log: Log, number: int) -> Drawn:
     )
     part.holders = None if number % 4 == 3 else [holder for holder in log.holders or () if dice.random() < 0.8]
     sockets, megabytes = dice.choice((1, 2, 3, 5, 9, 256)), dice.choice((1, 1_024))
-    wish = RecordingOptions(
+    recording_options = RecordingOptions(
         sockets,
         megabytes,
         dice.random() < 0.2,
@@ -107,22 +107,22 @@ def drawn(log: Log, number: int) -> Drawn:
             ended = dice.choice((None, began + 100, began + 300))
             tests.ran.append(Ran("example.org/p", name, dice.choice(goroutines), began, 10**6 * began, ended=ended))
         test = dice.choice((None, *tests.ran))
-    return Drawn(part, wish, test, tests, dice.random() < 0.8)
+    return Drawn(part, recording_options, test, tests, dice.random() < 0.8)
 
 
 @contextmanager
 def looked_up(symbols: Symbols) -> Iterator[None]:
     """In this context, lines come from the symbols, and netrev is missing."""
 
-    def found(log: Log, used: set[int], *_: object) -> dict[int, converting.Calls]:
+    def found(log: Log, used: set[int], *_: object) -> dict[int, conversion.Calls]:
         with pytest.MonkeyPatch.context() as patch:
             patch.setattr("netrev_go.log.lines.shift", lambda *_, **__: 0)
             patch.setattr("netrev_go.log.lines.looked_up", lambda *_, **__: symbols)
             return lines_of(log, used, Path("none"), ["go"], SourceRoots(SOURCES, Path("/samples")))
 
     with pytest.MonkeyPatch.context() as patch:
-        patch.setattr(converting, "lines_of", found)
-        patch.setattr(converting, "line_reader", lambda _: ["go"])
+        patch.setattr(conversion, "lines_of", found)
+        patch.setattr(conversion, "line_reader", lambda _: ["go"])
         with pytest.MonkeyPatch.context() as patch:
             patch.setattr(report, "netrev_program", lambda: None)
             patch.setattr(report, "how_to_get_netrev", str)
@@ -131,11 +131,11 @@ def looked_up(symbols: Symbols) -> Iterator[None]:
 
 def made_of(drawn_part: Drawn, symbols: Symbols) -> str:
     """Everything that is made from a part: the files and the report."""
-    one = drawn_part
+    drawn = drawn_part
     with tempfile.TemporaryDirectory() as name, looked_up(symbols):
         folder = Path(name)
-        go = Go("go", SOURCES.parent, "go1.27.3", "linux/amd64", "") if one.has_lines else None
-        outcome = converted(ReadLog(Path("log.1"), one.log, one.tests), folder / "made.jsonl", go, one.wish, one.test)
+        go = Go("go", SOURCES.parent, "go1.27.3", "linux/amd64", "") if drawn.has_lines else None
+        outcome = converted(ReadLog(Path("log.1"), drawn.log, drawn.tests), folder / "made.jsonl", go, drawn.wish, drawn.test)
         files = "".join(f"{path.name}:\n{path.read_text()}" for path in sorted(folder.iterdir()))
         text = "\n".join(outcome.lines).replace(f"{folder}/", "")
     return f"taken {outcome.taken}, empty {outcome.is_empty}\n{text}\n{files}"
@@ -156,7 +156,7 @@ def of_program(number: int) -> str:
         recording.made,
         recording.ended,
         recording.words,
-        recording.olds,
+        recording.old_numbers,
         recording.numbers,
         recording.taken,
     )

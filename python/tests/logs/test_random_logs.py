@@ -4,9 +4,9 @@ and each goroutine's steps. `make fuzz-around` tries other programs, also with n
 import pytest
 
 from dev.fuzz.generators.random_logs import RandomProgram, program_of, replayed, wrong
-from netrev_go.log.answering import UnconvertibleError
+from netrev_go.log.point_answers import UnconvertibleError
 from netrev_go.log.points import Log, PointKind
-from netrev_go.steps.making import make
+from netrev_go.steps.recording_builder import make
 
 from .test_go_converting import DESCRIPTOR, WORD, Points
 

@@ -70,9 +70,9 @@ def test_who_is_in_an_operation_makes_the_step_of_its_status_and_no_other(seed: 
 
 
 def test_all_rows_are_met() -> None:
-    met = {(kind, came(kind, answer)) for seed in range(60) for _, (kind, *_), answer, _ in made(seed)}
-    assert {(kind, row) for kind, answers in ANSWERS.items() for row in answers.values()} <= met
-    assert {kind for kind, _ in met} == {kind for kind in OF_A_GOROUTINE}
+    rows = {(kind, came(kind, answer)) for seed in range(60) for _, (kind, *_), answer, _ in made(seed)}
+    assert {(kind, row) for kind, answers in ANSWERS.items() for row in answers.values()} <= rows
+    assert {kind for kind, _ in rows} == {kind for kind in OF_A_GOROUTINE}
 
 
 def test_rows_have_the_answers_that_their_kinds_can_have() -> None:

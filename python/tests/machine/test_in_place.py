@@ -11,7 +11,7 @@ from netrev.machine.cells import CELLS_OF_ALL, CELLS_OF_ONE, SHOWS_DESC, SHOWS_S
 from netrev.machine.in_place import Machine
 from netrev.machine.machine import GREATEST_SEQUENCE, StepRefusedError, World
 from netrev.machine.steps import apply
-from netrev.model.changed import SHOWS_QUEUES, changed_cells
+from netrev.model.step_changes import SHOWS_QUEUES, changed_cells
 from netrev.text.contents import Limits
 from netrev.text.vocabulary import CELLS, KINDS
 

@@ -20,7 +20,7 @@ from netrev.model.suspects import (
     suspects,
 )
 from netrev.text.contents import Contents, Limits, Step
-from netrev.text.writing import write_plain
+from netrev.text.writer import write_plain
 
 THEMES = (
     "waitbegin pollevent pollreset",

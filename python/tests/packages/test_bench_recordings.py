@@ -8,7 +8,7 @@ from dev.bench.measurements import WRITES
 from dev.bench.programs import ROOT
 from dev.bench.recordings import BenchRecording, of_shape
 from dev.bench.servers import plain_lines
-from netrev.text.reading import read_text
+from netrev.text.parser import read_text
 
 STEPS = 40
 TABLE = """% time     seconds  usecs/call     calls    errors syscall

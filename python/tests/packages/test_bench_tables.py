@@ -91,7 +91,7 @@ def cases(*programs: str) -> Cases:
 
 def named(name: str, of: Cases) -> Cases:
     """These cases with only their figures for the walk, under the given name."""
-    return {case: {one: {name: figures["walk"]} for one, figures in all_of.items()} for case, all_of in of.items()}
+    return {case: {item: {name: figures["walk"]} for item, figures in all_of.items()} for case, all_of in of.items()}
 
 
 def test_each_sort_and_the_means() -> None:

@@ -49,9 +49,9 @@ def test_a_launch_and_an_attach_have_what_the_adapter_takes() -> None:
     attributes = debugger["configurationAttributes"]
     assert set(attributes["launch"]["properties"]) == set(PROPERTIES)
     assert set(attributes["attach"]["properties"]) == set(OF_ATTACH)
-    for one in ("launch", "attach"):
-        assert all("type" in row for row in attributes[one]["properties"].values())
-        assert set(attributes[one]["required"]) <= set(attributes[one]["properties"])
+    for request in ("launch", "attach"):
+        assert all("type" in row for row in attributes[request]["properties"].values())
+        assert set(attributes[request]["required"]) <= set(attributes[request]["properties"])
     (launch,) = json.loads((vsix.FOLDER / "launch.json").read_text(encoding="utf-8"))["configurations"]
     assert set(launch) - {"type", "request", "name"} <= set(PROPERTIES)
 
@@ -60,24 +60,24 @@ def changed(change: Callable[[Any], None]) -> Callable[[Path], None]:
     """Changes package.json in a folder."""
 
     def made(where: Path) -> None:
-        said = package()
-        change(said)
-        (where / "package.json").write_text(json.dumps(said))
+        manifest = package()
+        change(manifest)
+        (where / "package.json").write_text(json.dumps(manifest))
 
     return made
 
 
-def own_language(said: Any) -> None:
-    said["contributes"]["languages"] = [{"id": "netrev", "extensions": [".jsonl"]}]
+def own_language(manifest: Any) -> None:
+    manifest["contributes"]["languages"] = [{"id": "netrev", "extensions": [".jsonl"]}]
 
 
-def other_program(said: Any) -> None:
-    said["contributes"]["debuggers"][0]["runtime"] = "bash"
+def other_program(manifest: Any) -> None:
+    manifest["contributes"]["debuggers"][0]["runtime"] = "bash"
 
 
 PLANTED: dict[str, tuple[Callable[[Path], None], str]] = {
     "a language of its own": (changed(own_language), "a language of its own"),
-    "code": (changed(lambda said: said.update(main="./out.js")), "has main"),
+    "code": (changed(lambda manifest: manifest.update(main="./out.js")), "has main"),
     "another program": (changed(other_program), "isn't nrdb --dap"),
     "a file without a type": (lambda where: (where / "a.png").touch(), "a.png has no type"),
     "no page": (lambda where: (where / "README.md").unlink(), "README.md, which isn't there"),

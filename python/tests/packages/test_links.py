@@ -19,13 +19,13 @@ OTHER = 12_345  # a user
 def link(folder: Path, monkeypatch: pytest.MonkeyPatch) -> Path:
     """Another user's link to a file of this user."""
     (folder / "own").write_text("own text")
-    made = folder / "x.jsonl"
-    made.symlink_to("own")
+    path = folder / "x.jsonl"
+    path.symlink_to("own")
     if os.geteuid() == 0:
-        os.chown(made, OTHER, OTHER, follow_symlinks=False)
+        os.chown(path, OTHER, OTHER, follow_symlinks=False)
     else:
         monkeypatch.setattr(os, "geteuid", lambda: OTHER)
-    return made
+    return path
 
 
 def test_another_users_link_is_not_followed(link: Path) -> None:

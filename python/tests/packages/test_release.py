@@ -72,8 +72,8 @@ def pass_gate(tree: Path, program: bytes) -> Path:
 
 
 def test_a_release_is_packages_sums_and_notes(tree: Path) -> None:
-    ran = run(tree, "scripts/release.sh", VERSION)
-    assert ran.returncode == 0, ran.stderr
+    process = run(tree, "scripts/release.sh", VERSION)
+    assert process.returncode == 0, process.stderr
     folder = tree / "out/release"
     assert sorted(path.name for path in folder.iterdir()) == sorted([ARCHIVE, DEB, "RELEASE-NOTES.md", "SHA256SUMS"])
     files = (ARCHIVE, DEB, "RELEASE-NOTES.md")
@@ -104,16 +104,16 @@ def notes(folder: Path, version: str) -> "subprocess.CompletedProcess[str]":
 
 
 def test_notes_are_those_of_the_version_and_of_what_is_unreleased(tmp_path: Path) -> None:
-    ran = notes(tmp_path, "1.1.0")
-    assert ran.returncode == 0, ran.stderr
+    process = notes(tmp_path, "1.1.0")
+    assert process.returncode == 0, process.stderr
     assert (
-        ran.stdout == "# netrev 1.1.0\n\n### Fixed\n\n- A new thing.\n\n- Of one.\n\n## What it has\n\n- More of one.\n"
+        process.stdout == "# netrev 1.1.0\n\n### Fixed\n\n- A new thing.\n\n- Of one.\n\n## What it has\n\n- More of one.\n"
     )
 
 
 def test_a_version_that_is_not_in_the_changelog_has_no_notes(tmp_path: Path) -> None:
-    ran = notes(tmp_path, "2.0.0")
-    assert (ran.returncode, ran.stdout, ran.stderr) == (1, "", "notes.py: CHANGELOG.md has no section 2.0.0\n")
+    process = notes(tmp_path, "2.0.0")
+    assert (process.returncode, process.stdout, process.stderr) == (1, "", "notes.py: CHANGELOG.md has no section 2.0.0\n")
 
 
 def test_what_passed_the_gate_is_packed(tree: Path) -> None:
@@ -121,23 +121,23 @@ def test_what_passed_the_gate_is_packed(tree: Path) -> None:
     same = tree / "same"
     shutil.copy2(built, same)
     for words in ((), (str(same),)):
-        ran = run(tree, "scripts/package.sh", VERSION, *words)
+        process = run(tree, "scripts/package.sh", VERSION, *words)
         program = words[0] if words else "crates/netrev/out/netrev"
-        assert ran.stdout == f"packs {VERSION} {program} out/gate.log out out/proved.txt\n", ran.stderr
+        assert process.stdout == f"packs {VERSION} {program} out/gate.log out out/proved.txt\n", process.stderr
         assert (tree / "out/proved.txt").read_text() == f"proved {program}\n"
 
 
 def test_what_passed_no_gate_is_not_packed(tree: Path) -> None:
-    ran = run(tree, "scripts/package.sh", VERSION, "/bin/true")
-    assert (ran.returncode, ran.stdout) == (1, "")
+    process = run(tree, "scripts/package.sh", VERSION, "/bin/true")
+    assert (process.returncode, process.stdout) == (1, "")
     assert (
-        ran.stderr
+        process.stderr
         == "package.sh: no gate has passed here (no out/gate.log or no out/gate.sum): run `make test` first.\n"
     )
     pass_gate(tree, b"#!/bin/sh\n")
-    ran = run(tree, "scripts/package.sh", VERSION, "/bin/true")
-    assert (ran.returncode, ran.stdout) == (1, "")
-    assert ran.stderr.startswith("package.sh: /bin/true isn't the program that passed the gate")
+    process = run(tree, "scripts/package.sh", VERSION, "/bin/true")
+    assert (process.returncode, process.stdout) == (1, "")
+    assert process.stderr.startswith("package.sh: /bin/true isn't the program that passed the gate")
 
 
 def test_sources_that_changed_after_the_gate_are_not_packed(tree: Path) -> None:
@@ -147,14 +147,14 @@ def test_sources_that_changed_after_the_gate_are_not_packed(tree: Path) -> None:
     source.touch()
 
     os.utime(source, (later, later))
-    ran = run(tree, "scripts/package.sh", VERSION)
-    assert (ran.returncode, ran.stdout) == (1, "")
-    assert "crates/netrev/src/main.rt is newer than out/gate.log" in ran.stderr
+    process = run(tree, "scripts/package.sh", VERSION)
+    assert (process.returncode, process.stdout) == (1, "")
+    assert "crates/netrev/src/main.rt is newer than out/gate.log" in process.stderr
 
 
 def test_a_release_wants_a_gate_after_which_no_file_has_changed(tree: Path) -> None:
-    ran = run(tree, "scripts/unchanged.sh")
-    assert ran.returncode == 1 and ran.stderr.startswith("no gate has passed here")
+    process = run(tree, "scripts/unchanged.sh")
+    assert process.returncode == 1 and process.stderr.startswith("no gate has passed here")
     pass_gate(tree, b"#!/bin/sh\n")
     now = (tree / "out/gate.log").stat().st_mtime
     for path in tree.rglob("*"):
@@ -163,8 +163,8 @@ def test_a_release_wants_a_gate_after_which_no_file_has_changed(tree: Path) -> N
     os.utime(tree / "crates/netrev/out/netrev", (now + 10, now + 10))
     assert run(tree, "scripts/unchanged.sh").returncode == 0
     os.utime(tree / "scripts/notes.py", (now + 10, now + 10))
-    ran = run(tree, "scripts/unchanged.sh")
-    assert (ran.returncode, ran.stderr) == (1, "scripts/notes.py has changed after the gate: run `make test` again.\n")
+    process = run(tree, "scripts/unchanged.sh")
+    assert (process.returncode, process.stderr) == (1, "scripts/notes.py has changed after the gate: run `make test` again.\n")
 
 
 def test_make_release_asks_before_it_packs() -> None:

@@ -107,22 +107,22 @@ def expect_beginning(recording, replies):
     Only a query and a search may report that: the query may be repeated, and `resume` returns the reply to the search
     once. Returns how many commands were placed, and the final position."""
     state, placed, owed = SharedState(), 0, None
-    for line, came in zip(WALK.splitlines(), replies):
-        asked = read_line(line.encode())
-        assert asked, line
+    for line, reply in zip(WALK.splitlines(), replies):
+        request = read_line(line.encode())
+        assert request, line
         memory = f"fault 302 memory, placed {placed}"
-        if owed and line == "resume" and came != memory:
-            expect("the reply that was owed", owed, came)
+        if owed and line == "resume" and reply != memory:
+            expect("the reply that was owed", owed, reply)
             owed = None
         elif owed:
-            expect(f"{line} while a reply is owed", memory, came)
+            expect(f"{line} while a reply is owed", memory, reply)
         else:
-            state, (right,) = recording.answer(state, asked)
-            placed += is_command(asked)
-            if asked.sort == "seek" and came == f"fault 302 memory, placed {placed}":
+            state, (right,) = recording.answer(state, request)
+            placed += is_command(request)
+            if request.sort == "seek" and reply == f"fault 302 memory, placed {placed}":
                 owed = right
-            elif not (asked.sort == "look" and came == "fault 301 memory"):
-                expect(line, right, came)
+            elif not (request.sort == "look" and reply == "fault 301 memory"):
+                expect(line, right, reply)
     return placed, recording.answer(state, read_line(b"info position"))[1][0]
 
 
@@ -196,15 +196,15 @@ def play_memory(word, recording, right=b""):
 def kinds_met(play):
     """The outcomes at a hundred sizes. If a stack must grow and the address space has no room for that, the system
     kills netrev; with more room it doesn't."""
-    met = set()
+    seen = set()
     for size in a_hundred_sizes(play):
         what = play(size)
         if what == "killed":
             expect(
                 f"whether the system kills it with {(size + STACK) // 1024} KB too", False, play(size + STACK) == what
             )
-        met.add(what)
-    return met - {"killed"}
+        seen.add(what)
+    return seen - {"killed"}
 
 
 def a_hundred_sizes(play):

@@ -25,7 +25,7 @@ import pytest
 from dev.fuzz.cases import SORTS, Made, large_buffers
 from dev.fuzz.generators.lines import Speaker, every_cell
 from netrev.text.contents import Step
-from netrev.text.reading import read_text
+from netrev.text.parser import read_text
 from netrev.text.vocabulary import CELLS, KINDS
 
 from .hostile import faulty_headers, faulty_lines, refused_steps, text_of, versions_and_answers
@@ -43,15 +43,15 @@ RUN_ALONE = ("full_journal", "many_steps")  # kinds of cases that take long; pro
 
 def ended(program: str, words: Sequence[object], script: bytes) -> tuple[int, bytes]:
     """The status and the output of a program."""
-    ran = subprocess.run([program, *map(str, words)], input=script, capture_output=True, timeout=WAITS, check=False)
-    return ran.returncode, ran.stdout
+    process = subprocess.run([program, *map(str, words)], input=script, capture_output=True, timeout=WAITS, check=False)
+    return process.returncode, process.stdout
 
 
 def agree(words: Sequence[object], script: bytes = b"") -> tuple[int, bytes]:
     """Checks that both programs print the same text and end with the same status, and returns both."""
-    came = ended(NETREV, words, script)
-    expect("what the world of lists shows", came, ended(PLAIN, words, script))
-    return came
+    reply = ended(NETREV, words, script)
+    expect("what the world of lists shows", reply, ended(PLAIN, words, script))
+    return reply
 
 
 def walk(steps: Sequence[Step], seed: str) -> bytes:

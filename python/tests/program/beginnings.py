@@ -68,12 +68,12 @@ def every_beginning(folder: Path, whole: bytes, differs: Optional[int]) -> None:
         list(pool.map(cut, (all_sizes[first : first + IN_A_ROW] for first in all_sizes[::IN_A_ROW])))
 
 
-def expect_in_turn(sizes: Sequence[int], wanted: Sequence[str], came: str) -> None:
+def expect_in_turn(sizes: Sequence[int], wanted: Sequence[str], reply: str) -> None:
     """Checks that the output for each beginning is as expected."""
-    for size, one in zip(sizes, wanted):
-        expect(f"check of the first {size} bytes", one, came[: len(one)] if came.startswith(one) else came[:500])
-        came = came[len(one) :]
-    expect("behind the last of them", "", came)
+    for size, item in zip(sizes, wanted):
+        expect(f"check of the first {size} bytes", item, reply[: len(item)] if reply.startswith(item) else reply[:500])
+        reply = reply[len(item) :]
+    expect("behind the last of them", "", reply)
 
 
 def printed_in_turn(paths: Sequence[Path]) -> str:

@@ -18,9 +18,9 @@ from dev.fuzz.generators.random_steps import Author
 from netrev.machine.observer import Observer
 from netrev.model.program import printed
 from netrev.text.contents import Contents
-from netrev.text.reading import read_text
+from netrev.text.parser import read_text
 from netrev.text.vocabulary import CELLS, Of
-from netrev.text.writing import write_plain
+from netrev.text.writer import write_plain
 
 from .support.sharing import ROOT, expect
 from .upgrades import RECORDINGS, USAGE, ended, played
@@ -63,11 +63,11 @@ REFUSED = (
 def cells_of(recording: Contents) -> list[str]:
     """The cells of all objects at the end, in the order of docs/reference/COMMANDS.md."""
     kinds = [step[0] for step in recording.steps]
-    made = {of: kinds.count(kind) + (of is Of.GOROUTINE) for of, kind in MADE_BY.items()}
+    counts = {of: kinds.count(kind) + (of is Of.GOROUTINE) for of, kind in MADE_BY.items()}
     return [
         cell.name if cell.of is Of.ALL else f"{cell.name} {number}"
         for cell in CELLS.values()
-        for number in range(1 if cell.of is Of.ALL else made[cell.of])
+        for number in range(1 if cell.of is Of.ALL else counts[cell.of])
     ]
 
 

@@ -61,17 +61,17 @@ class Player:
         """The result of a call, and whether one of its requests was refused."""
         words = {"LD_PRELOAD": str(self.library), "MARKED": "1", "REFUSED": str(number), "BEHIND": str(int(behind))}
         through = ["sh", "-c", 'exec "$@" 9> "$TOLD"', "sh", PROGRAM, call]
-        ran = subprocess.run(
+        process = subprocess.run(
             through,
             env={**os.environ, **words, "TOLD": str(self.told)},
             stdout=subprocess.PIPE,
             stderr=subprocess.PIPE,
             timeout=PATIENCE,
         )
-        came = ran.stdout.decode().splitlines()
-        last = came[-1].removeprefix(f"{call}: ") if came else ""
-        if ran.returncode or ran.stderr or "grant" not in came or last not in (RIGHT, REFUSED):
-            raise WrongResultError(f"status {ran.returncode}, {ran.stdout.decode()!r} and {ran.stderr.decode()!r}")
+        lines = process.stdout.decode().splitlines()
+        last = lines[-1].removeprefix(f"{call}: ") if lines else ""
+        if process.returncode or process.stderr or "grant" not in lines or last not in (RIGHT, REFUSED):
+            raise WrongResultError(f"status {process.returncode}, {process.stdout.decode()!r} and {process.stderr.decode()!r}")
         return last, self.told.stat().st_size > 0
 
     def refuse_each(self, call, behind):
@@ -80,25 +80,25 @@ class Player:
         while clean < (IN_A_ROW if call in WITH_THREADS else 1):
             number += 1
             try:
-                came, was_refused = self.play(call, number, behind)
+                reply, was_refused = self.play(call, number, behind)
             except (WrongResultError, subprocess.TimeoutExpired) as wrong:
                 kind = "and all behind it" if behind else "alone"
                 raise WrongResultError(f"{call} with request {number} refused {kind}: {wrong}") from None
-            if not was_refused and came != RIGHT:
+            if not was_refused and reply != RIGHT:
                 raise WrongResultError(f"{call} said that it was refused, and nothing was")
-            if behind and number == 1 and (came == REFUSED) != (call not in WITHOUT):
-                raise WrongResultError(f"{call} without any memory: {came}")
+            if behind and number == 1 and (reply == REFUSED) != (call not in WITHOUT):
+                raise WrongResultError(f"{call} without any memory: {reply}")
             clean = 0 if was_refused else clean + 1
             tally.refused += was_refused
-            tally.told += came == REFUSED
+            tally.told += reply == REFUSED
         return tally
 
 
 def calls():
     """The calls that the program has."""
-    ran = subprocess.run([PROGRAM], stdout=subprocess.PIPE, timeout=PATIENCE)
-    names = ran.stdout.decode().split()
-    if ran.returncode != 2 or not names:
+    process = subprocess.run([PROGRAM], stdout=subprocess.PIPE, timeout=PATIENCE)
+    names = process.stdout.decode().split()
+    if process.returncode != 2 or not names:
         raise WrongResultError(f"{PROGRAM} says no calls")
     return names
 

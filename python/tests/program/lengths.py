@@ -39,14 +39,14 @@ class Case:
     def play(self, folder: Path) -> None:
         path = folder / "recording.jsonl"
         path.write_text(self.recording, encoding="utf-8")
-        ran = subprocess.run(
+        process = subprocess.run(
             [NETREV, "check" if self.script is None else "run", path],
             input=(self.script or "").encode(),
             capture_output=True,
             timeout=PATIENCE,
             check=False,
         )
-        expect("status, output and errors", (0, self.output, b""), (ran.returncode, ran.stdout.decode(), ran.stderr))
+        expect("status, output and errors", (0, self.output, b""), (process.returncode, process.stdout.decode(), process.stderr))
 
 
 CASES = (

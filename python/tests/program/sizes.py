@@ -48,18 +48,18 @@ def ticking(folder: Path, more: Sequence[str] = ()) -> Path:
 
 def printed(words: Sequence[object], script: str = "") -> tuple[int, str, str]:
     """The status, output and errors of netrev."""
-    ran = subprocess.run(
+    process = subprocess.run(
         [NETREV, *map(str, words)], input=script.encode(), capture_output=True, timeout=WAITS, check=False
     )
-    return ran.returncode, ran.stdout.decode(), ran.stderr.decode()
+    return process.returncode, process.stdout.decode(), process.stderr.decode()
 
 
-def same(what: str, right: str, came: str) -> None:
+def same(what: str, right: str, reply: str) -> None:
     """Checks that a text, which may be long, is right, and prints the first difference."""
-    if right != came:
-        at = next((at for at, (one, other) in enumerate(zip(right, came)) if one != other), min(len(right), len(came)))
+    if right != reply:
+        at = next((at for at, (item, other) in enumerate(zip(right, reply)) if item != other), min(len(right), len(reply)))
         raise WrongResultError(
-            f"{what}, from character {at}: expected {right[at : at + 60]!r}, came {came[at : at + 60]!r}"
+            f"{what}, from character {at}: expected {right[at : at + 60]!r}, came {reply[at : at + 60]!r}"
         )
 
 
@@ -195,9 +195,9 @@ def asked(caller: socket.socket, lines: str) -> str:
     sender = threading.Thread(target=send, daemon=True)
     sender.start()
     with caller, caller.makefile("r", encoding="ascii", newline="\n") as replies:
-        came = replies.read()
+        reply = replies.read()
     sender.join(PATIENCE)
-    return came
+    return reply
 
 
 def play_workers(folder: Path) -> None:
@@ -245,21 +245,21 @@ def play_idle_caller(folder: Path) -> None:
 def play_commands(folder: Path) -> None:
     path = written(folder / "few.jsonl", HEADER % (1, 1, 1, 1, 1), [f'["tick",{time}]' for time in range(1, 11)])
     with Server(path, journal=COMMANDS) as server:
-        came = asked(server.call(0), "delete 1\n" * (COMMANDS + 1))
-        same("replies", "fault 401 no such mark\n" * COMMANDS + "fault 303 journal full\n", came)
+        reply = asked(server.call(0), "delete 1\n" * (COMMANDS + 1))
+        same("replies", "fault 401 no such mark\n" * COMMANDS + "fault 303 journal full\n", reply)
         server.expect_end(0, f"placed {COMMANDS}\n")
 
 
 def greatest_memory(path: Path, steps: int) -> int:
     """The peak memory of netrev, in bytes, after it has read a recording. (The figure from `wait4` includes this
     process's memory from before the program began.)"""
-    with subprocess.Popen([NETREV, "run", str(path)], stdin=subprocess.PIPE, stdout=subprocess.PIPE, text=True) as ran:
-        assert ran.stdin and ran.stdout
-        ran.stdin.write("info position\n")
-        ran.stdin.flush()
-        expect("a reply", f"at 0 of {steps} forward\n", ran.stdout.readline())
-        status = Path(f"/proc/{ran.pid}/status").read_text(encoding="ascii")
-    expect("status", 0, ran.returncode)
+    with subprocess.Popen([NETREV, "run", str(path)], stdin=subprocess.PIPE, stdout=subprocess.PIPE, text=True) as process:
+        assert process.stdin and process.stdout
+        process.stdin.write("info position\n")
+        process.stdin.flush()
+        expect("a reply", f"at 0 of {steps} forward\n", process.stdout.readline())
+        status = Path(f"/proc/{process.pid}/status").read_text(encoding="ascii")
+    expect("status", 0, process.returncode)
     (peak,) = (line.split()[1] for line in status.splitlines() if line.startswith("VmHWM:"))
     return int(peak) * 1024
 

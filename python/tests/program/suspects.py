@@ -23,7 +23,7 @@ from dev.fuzz.generators.injections import Bug, Traffic
 from netrev.machine.observer import Observer
 from netrev.model.program import printed
 from netrev.model.suspects import HUNTS
-from netrev.text.writing import write_plain
+from netrev.text.writer import write_plain
 from tests.machine.test_suspect_lines import ALL as ROWS
 from tests.machine.test_suspect_lines import random_recording, random_waits, text_of
 

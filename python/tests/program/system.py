@@ -33,7 +33,7 @@ from netrev.machine.debugger import DebuggedRecording
 
 from .address_spaces import LOOKS, MEGABYTE, NO_MEMORY, ended, limit_memory, loads_in, play_memory, play_memory_of_serve
 from .support.callers import callers
-from .support.given import (
+from .support.case_files import (
     ANSWERS,
     ARRIVED,
     FIRST,
@@ -138,8 +138,8 @@ def endless_link(folder):
 
 
 def bound_socket(folder):
-    with socket.socket(socket.AF_UNIX) as one:
-        one.bind(str(folder / "socket"))
+    with socket.socket(socket.AF_UNIX) as item:
+        item.bind(str(folder / "socket"))
     return folder / "socket"
 
 
@@ -198,10 +198,10 @@ class Case:
         )
         for number in files:
             os.close(number)
-        came = ended(process, self.input if taken else None)
+        reply = ended(process, self.input if taken else None)
         while KEPT:
             os.close(KEPT.pop())
-        expect("status, output and errors", (self.status, self.output, self.errors), came)
+        expect("status, output and errors", (self.status, self.output, self.errors), reply)
 
 
 def outputs():
@@ -289,8 +289,8 @@ def words():
 
 def play_words(given, status, errors, folder, output=b""):
     """Calls netrev in the folder with these arguments."""
-    ran = subprocess.run([NETREV, *given], cwd=folder, input=b"", capture_output=True, timeout=PATIENCE, check=False)
-    expect("status, output and errors", (status, output, errors), (ran.returncode, ran.stdout, ran.stderr))
+    process = subprocess.run([NETREV, *given], cwd=folder, input=b"", capture_output=True, timeout=PATIENCE, check=False)
+    expect("status, output and errors", (status, output, errors), (process.returncode, process.stdout, process.stderr))
 
 
 def play_hyphen(folder):
@@ -518,9 +518,9 @@ def terminal():
     try:
         yield ends
     finally:
-        for one in ends:
-            if one is not None:
-                os.close(one)
+        for end in ends:
+            if end is not None:
+                os.close(end)
 
 
 def play_terminal(_folder):
@@ -576,11 +576,11 @@ def leave_pipe(folder, first, ignored, recording=FIRST, word="run"):
     words = [NETREV, word, folder / recording]
     with open(folder / "positions", "rb") as commands:
         with started(words, stdin=commands, bufsize=0, restore_signals=not ignored) as process:
-            came = b""
-            while len(came) < len(first) and (more := process.stdout.read(len(first) - len(came))):
-                came += more
+            reply = b""
+            while len(reply) < len(first) and (more := process.stdout.read(len(first) - len(reply))):
+                reply += more
             process.stdout.close()
-            expect("the first bytes", first, came)
+            expect("the first bytes", first, reply)
             expect("status", 3, process.wait(PATIENCE))
             expect("errors", b"", process.stderr.read())
 
@@ -637,8 +637,8 @@ def play_stopped_serve(stop, _folder):
         server.process.send_signal(stop)
         expect("status, output and errors", (-stop, "", ""), server.ended())
         expect("what comes behind it", (b"", b""), (rest_of(answered), rest_of(silent)))
-        came = begun + rest_of(busy)
-        expect("replies so far", (b"at 1 of 10 forward\n" * 2000)[: len(came)], came)
+        reply = begun + rest_of(busy)
+        expect("replies so far", (b"at 1 of 10 forward\n" * 2000)[: len(reply)], reply)
         with Server(FIRST, fronts=3, port=server.port) as next_one:
             for front in range(3):
                 expect("the replies", [f"at {front + 1}", "bye"], talk(next_one.call(front), ["stepi", "quit"]))

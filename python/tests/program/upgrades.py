@@ -16,7 +16,7 @@ import pytest
 
 from tests.support import examples
 
-from .support.given import upgrade_of
+from .support.case_files import upgrade_of
 from .support.sharing import NETREV, PATIENCE, ROOT, expect
 
 WOKEN = ROOT / "scripts/recordings/woken-by-an-event.jsonl"
@@ -93,8 +93,8 @@ LOOKS = b"".join(
 
 def ended(words, given=b""):
     """The status, the output and the errors of netrev with these arguments."""
-    ran = subprocess.run([NETREV, *words], input=given, capture_output=True, timeout=PATIENCE, check=False)
-    return ran.returncode, ran.stdout, ran.stderr
+    process = subprocess.run([NETREV, *words], input=given, capture_output=True, timeout=PATIENCE, check=False)
+    return process.returncode, process.stdout, process.stderr
 
 
 def played(words, status, output, errors=b""):

@@ -6,7 +6,7 @@ from pathlib import Path
 import pytest
 
 from netrev.session.conditions import Condition
-from nrdb.web.shared import OF_THE_PAGE
+from nrdb.web.shared_session import OF_THE_PAGE
 
 from .test_prompt_forms import Prompt
 
@@ -32,7 +32,7 @@ def stops(prompt: Prompt, line: str) -> list[int]:
     """The positions at which the session stops when it repeats this move until it reaches an end of the recording."""
     found = []
     while not prompt(line).splitlines()[0].endswith((" end", " start")):
-        found.append(prompt.session.stood)
+        found.append(prompt.session.known_position)
         assert len(found) < 500
     return found
 

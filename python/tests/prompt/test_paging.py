@@ -6,7 +6,7 @@ import os
 
 import pytest
 
-from nrdb.prompt.paging import MORE, Paged
+from nrdb.prompt.pager import MORE, Paged
 
 ROWS, COLUMNS = 6, 10
 

@@ -13,17 +13,17 @@ from netrev.connection.scout import Scout
 from netrev.recording.recording import Recording
 from netrev.session.line_index import is_place, places_of
 from netrev.session.session import Session
-from netrev.session.source import source_of, text_round
+from netrev.session.source import source_of, text_around
 from netrev.system.interrupts import Interrupts
 from nrdb.dap.go_lines import GoLines
 from nrdb.dap.logpoints import LogPoints
 from nrdb.dap.view.debuggee import Debuggee
 from nrdb.dap.view.roots import Roots
-from nrdb.dap.wishes import BreakpointError, wish_of
+from nrdb.dap.breakpoint_requests import BreakpointError, wish_of
 from nrdb.prompt.answers import ANSWERS
-from nrdb.web.shared import OF_THE_PAGE
+from nrdb.web.shared_session import OF_THE_PAGE
 from tests.failed_calls.test_causes import CAUSED, in_the_folder_of_the_source
-from tests.support.modelled import Modelled, changes_at, recording_at
+from tests.support.model_sessions import Modelled, changes_at, recording_at
 from tests.trials.go_caused import SOURCE, bug_line
 
 FILE = CAUSED / "once-bad.jsonl"
@@ -75,47 +75,47 @@ def test_a_break_at_a_line_stops_both_ways(prompt: Prompt) -> None:
     result = []
     for line in ["continue"] * len(prompt.positions) + ["reverse-continue"] * (len(prompt.positions) - 1):
         assert f"break p1: {READS}" in prompt.reply(line)
-        result.append(prompt.session.stood)
+        result.append(prompt.session.known_position)
     assert result == [*prompt.positions, *reversed(prompt.positions[:-1])]
     assert READS in prompt.reply("where")
     assert f"p1 at {READS}" in prompt.reply("info breakpoints")
     prompt.reply("delete p1")
     assert "p1" not in prompt.reply("continue")
-    assert prompt.session.stood == prompt.session.length
+    assert prompt.session.known_position == prompt.session.length
 
 
 def test_a_name_that_no_file_can_have_is_no_source(prompt: Prompt) -> None:
     for name in ("x" * 5000 + ".go", "/" + "y" * 5000, "nul\0.go"):
         path = source_of(name, str(FILE))
-        assert text_round(prompt.session.text(), path, 1) == [], name[:8]
+        assert text_around(prompt.session.text(), path, 1) == [], name[:8]
 
 
 def test_netrev_s_own_marks_stop_before_one_that_is_farther(prompt: Prompt) -> None:
     prompt.reply(f"break {READS}")
     prompt.reply("break @4")
     assert "mark 1" in prompt.reply("continue")
-    assert prompt.session.stood == 3
+    assert prompt.session.known_position == 3
 
 
 def test_a_temporary_break_at_a_function_stops_once(prompt: Prompt) -> None:
     assert "once" in prompt.reply("tbreak echo")
     assert "break p1: echo" in prompt.reply("continue")
     prompt.reply("continue")
-    assert prompt.session.stood == prompt.session.length
+    assert prompt.session.known_position == prompt.session.length
 
 
 def test_moves_to_places_times_and_ends(prompt: Prompt) -> None:
     prompt.reply(f"until {READS}")
-    assert prompt.session.stood == prompt.positions[0]
+    assert prompt.session.known_position == prompt.positions[0]
     prompt.reply("goto end")
     prompt.reply(f"reverse-until {READS}")
-    assert prompt.session.stood == prompt.positions[-1]
+    assert prompt.session.known_position == prompt.positions[-1]
     prompt.reply("goto 60ms")
     clock = int(prompt.session.netrev.values(["clock"])[0])
     assert clock <= 60_000_000
     assert "tick" in prompt.reply("where")
     prompt.reply("goto start")
-    assert prompt.session.stood == 0
+    assert prompt.session.known_position == 0
     assert "no goroutine reaches" in prompt.reply(f"reverse-until {READS}")
 
 

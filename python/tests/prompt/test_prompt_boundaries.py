@@ -13,10 +13,10 @@ from netrev.messages import searches
 from netrev.recording.recording import Recording
 from netrev.session.session import Session, UsageError
 from netrev.text.vocabulary import Of
-from netrev.timeline import page, story
+from netrev.timeline import page, page_data
 from netrev.timeline.cell_runs import Window
-from netrev.timeline.picture import MOST
-from netrev.timeline.story import marks_of, ticks_of, times_of
+from netrev.timeline.page_contents import MOST
+from netrev.timeline.page_data import marks_of, ticks_of, times_of
 from nrdb.prompt import terminal
 from nrdb.prompt.answers import ROUND, answer_list, taken_cell, taken_conditions, taken_number, taken_position
 from nrdb.prompt.completion import candidates
@@ -104,8 +104,8 @@ def test_list_marks_the_next_step(monkeypatch: pytest.MonkeyPatch, session: Sess
     length = session.text().length
     at = position % (length + 1)
     session.go(at)
-    asked: list[tuple[list[str], int]] = [([], at + 1), (["9"], 9), ([str(length)], length)]
-    for words, middle in asked:
+    lists: list[tuple[list[str], int]] = [([], at + 1), (["9"], 9), ([str(length)], length)]
+    for words, middle in lists:
         printed: list[Table] = []
         with monkeypatch.context() as patch:
             patch.setattr(session.printer, "table", printed.append)
@@ -174,7 +174,7 @@ def test_an_empty_line_repeats_a_step_alone(line: str, is_repeated: bool) -> Non
 def test_an_empty_line_at_the_terminal(monkeypatch: pytest.MonkeyPatch, session: Session) -> None:
     lines = ["stepi 2", "", "", "goto 9", "", "rsi", " ", "info position"]
     at = Terminal(session)
-    left, ran = iter(lines), list[str]()
+    left, lines_run = iter(lines), list[str]()
 
     def typed(_: str = "") -> str:
         for line in left:
@@ -182,13 +182,13 @@ def test_an_empty_line_at_the_terminal(monkeypatch: pytest.MonkeyPatch, session:
         raise EOFError
 
     def run(line: str) -> bool:
-        ran.append(line)
+        lines_run.append(line)
         return True
 
     monkeypatch.setattr("builtins.input", typed)
     monkeypatch.setattr(session, "run", run)
     assert [at._turn() for _ in range(len(lines) + 1)] == [True] * len(lines) + [False]
-    assert ran == ["stepi 2", "stepi 2", "stepi 2", "goto 9", "", "rsi", "rsi", "info position"]
+    assert lines_run == ["stepi 2", "stepi 2", "stepi 2", "goto 9", "", "rsi", "rsi", "info position"]
 
 
 @pytest.mark.parametrize(
@@ -199,7 +199,7 @@ def test_the_clocks_steps_on_a_page(
     monkeypatch: pytest.MonkeyPatch, ticks: list[int], most: int, shown: list[int]
 ) -> None:
     changes = stub(changes_of=lambda cell: [(at, str(10 * at)) for at in ticks])
-    monkeypatch.setattr(story, "MOST_TICKS", most)
+    monkeypatch.setattr(page_data, "MOST_TICKS", most)
     assert ticks_of(changes) == [[0, 0], *([at, 10 * at] for at in shown)]
 
 

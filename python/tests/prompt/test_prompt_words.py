@@ -16,8 +16,8 @@ from netrev.session.line_hints import hint
 from netrev.text.vocabulary import CELLS, KINDS
 from netrev.text.wrapping import width_of, wrapped
 from nrdb.prompt.answers import help_of
-from nrdb.prompt.paging import MORE, Paged
-from nrdb.web.shared import OF_THE_PAGE, WITH_FILES
+from nrdb.prompt.pager import MORE, Paged
+from nrdb.web.shared_session import OF_THE_PAGE, WITH_FILES
 
 from .test_program_places import READS, Prompt, session_of
 

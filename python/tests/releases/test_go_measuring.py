@@ -92,13 +92,13 @@ class Real(Tools):
         super().__init__(folder, monkeypatch)
         (self.folder / "stored").write_bytes(from_text((ROOT / "examples/real/half.log").read_text())[0])
         program = self.script("program", RECORDED)
-        self.stands = Readiness("go1.27.3", 90, 88, True, "correct: 952 steps, 952 steps", True)
+        self.current_position = Readiness("go1.27.3", 90, 88, True, "correct: 952 steps, 952 steps", True)
         self.checked: Callable[[object, Path], tuple[bool, str]] = lambda _, name: (True, "ok 25 steps")
         samples = (Sample("served", "served", (("serve", "1"),), (1, 4), True),)
         self.patch(
-            real, chosen=lambda _: self.go, standing_of=lambda _: self.stands, built_sample=lambda *_: program, built=lambda *_: program,
+            real, chosen=lambda _: self.go, standing_of=lambda _: self.current_position, built_sample=lambda *_: program, built=lambda *_: program,
             tests_of=lambda *_: ["TestGood", "TestRed", "TestSkip"], source_folder=lambda *_: self.folder, SAMPLES=self.folder,
-            netrev_program=lambda: "netrev", check=lambda *told: self.checked(*told), differing=lambda _, name: (3, ["step 7: other"] * ("TestRed" in name.name)),
+            netrev_program=lambda: "netrev", check=lambda *reports: self.checked(*reports), differing=lambda _, name: (3, ["step 7: other"] * ("TestRed" in name.name)),
             Analysis=Suspects("late", "twice"), is_here=lambda name: name == "1.27",
         )  # fmt: skip
         self.patch(
@@ -168,7 +168,7 @@ def test_what_is_recorded_by_the_options(monkeypatch: pytest.MonkeyPatch, trial:
 
 
 def test_without_what_it_needs_nothing_is_recorded(trial: Real) -> None:
-    trial.stands = Readiness("go1.27.3", 90, 88, True, "a lock word differs", False)
+    trial.current_position = Readiness("go1.27.3", 90, 88, True, "a lock word differs", False)
     status, text = trial.ran("--go", "1.27")
     assert (status, "a lock word differs" in text) == (3, True)
     trial.patch(real, netrev_program=lambda: None)

@@ -16,14 +16,14 @@ from dev.recorder import real, results
 from dev.recorder.readiness import Readiness, read_standing, standing_of
 from dev.recorder.results import Result
 from dev.recorder.suites import OF_OTHERS, OF_SAMPLES, SAMPLES, Suite
-from netrev_go import trying
+from netrev_go import release_check
 from netrev_go.go_command.calls_of_go import known_calls, table
 from netrev_go.go_command.toolchain import TRIED, Go, RecorderError, is_tried, release_of, tried
 from netrev_go.log.logfile import read_log
 from netrev_go.log.points import PointKind
 from netrev_go.steps.compare import DIFFERS, REFUSES, by_the_model
-from netrev_go.steps.making import NewRecording, make, write, write_words
-from netrev_go.trying import Trial, incomplete, ready, unchained
+from netrev_go.steps.recording_builder import NewRecording, make, write, write_words
+from netrev_go.release_check import Trial, incomplete, ready, unchained
 from tests.logs.test_go_converting import DESCRIPTOR, WORD, Points
 from tests.support.stubs import raising
 
@@ -41,12 +41,12 @@ def stored(name: str) -> NewRecording:
         return make(read_log(path))
 
 
-def said_of(made: NewRecording) -> tuple[bool, str]:
+def said_of(recording: NewRecording) -> tuple[bool, str]:
     """The model's message about a recording and Go's lock words."""
     with tempfile.TemporaryDirectory() as folder:
         name = Path(folder, "one.jsonl")
-        write(made, name)
-        write_words(made, name.with_suffix(".words"))
+        write(recording, name)
+        write_words(recording, name.with_suffix(".words"))
         return by_the_model(name)
 
 
@@ -220,8 +220,8 @@ def test_a_lock_word_that_is_changed_elsewhere_is_found() -> None:
     recording = stored("half")
     assert unchained(recording) == ""
     step, socket, new = recording.words[5]
-    del recording.words[4], recording.olds[4]
-    found, last = recording.olds[4], next(word for _, at, word in reversed(recording.words[:4]) if at == socket)
+    del recording.words[4], recording.old_numbers[4]
+    found, last = recording.old_numbers[4], next(word for _, at, word in reversed(recording.words[:4]) if at == socket)
     assert found != last
     assert unchained(recording) == f"step {step} found {found} in the lock word of socket {socket}, instead of {last}"
 
@@ -243,10 +243,10 @@ def message_about(version: str, trial: Trial, without: list[str]) -> tuple[str, 
         return trial
 
     with pytest.MonkeyPatch.context() as patch, contextlib.redirect_stderr(output):
-        patch.setattr(trying, "overlay", lambda _: Path("/nowhere/overlay.json"))
-        patch.setattr(trying, "left_out", lambda _: without)
-        patch.setattr(trying, "trial", tries)
-        patch.setattr(trying, "kept", lambda _: trials[-1] if trials and trials[-1].good else None)
+        patch.setattr(release_check, "overlay", lambda _: Path("/nowhere/overlay.json"))
+        patch.setattr(release_check, "left_out", lambda _: without)
+        patch.setattr(release_check, "trial", tries)
+        patch.setattr(release_check, "kept", lambda _: trials[-1] if trials and trials[-1].good else None)
         for _ in range(2):
             ready(go)
     return output.getvalue(), len(trials)
@@ -366,8 +366,8 @@ def test_those_that_the_time_was_not_enough_for_are_named_and_not_built(
 
 
 def result(release: str) -> Result:
-    one = Result(release, "net", "TestX", 4, "passed", said="ok 4 steps", recording="r")
-    one.count(
+    result = Result(release, "net", "TestX", 4, "passed", said="ok 4 steps", recording="r")
+    result.count(
         [
             '["incref",0,0,"yes"]',
             '["arrive",0,"00","done"]',
@@ -375,13 +375,13 @@ def result(release: str) -> Result:
             '["evict",0,0,"done"]',
         ]
     )
-    return one
+    return result
 
 
 def test_an_events_answer_is_gos_where_it_has_tags() -> None:
     for release, answers in (("1.19", 1), ("go1.19.8", 1), ("1.21", 2), ("1.27", 2)):
-        one = result(release)
-        assert (one.answers, one.events, one.stale) == (answers, 1, 1)
+        item = result(release)
+        assert (item.answers, item.events, item.stale) == (answers, 1, 1)
 
 
 def table_of(*rows: Result) -> tuple[bool, list[str]]:
@@ -395,27 +395,27 @@ def table_of(*rows: Result) -> tuple[bool, list[str]]:
 
 
 def test_what_is_wrong_is_named() -> None:
-    one = replace(result("1.27"), steps=4, words=1)
-    good, text = table_of(one)
+    item = replace(result("1.27"), steps=4, words=1)
+    good, text = table_of(item)
     assert good
     assert "| 1.27 | net | 4 | 1 | 1 | 0 | 0 | 4 | 2 | 1 | 1, 1 | 0 | - |" in text
     for bad, found in (
-        (replace(one, said="step 3: fault 109 answer"), "1.27 net TestX on 4 (passed): step 3: fault 109 answer"),
-        (replace(one, said="not made: no", recording=""), "1.27 net TestX on 4 (passed): not made: no"),
-        (replace(one, differ=1, said="ok 4 steps; step 2"), "1.27 net TestX on 4 (passed): ok 4 steps; step 2"),
+        (replace(item, said="step 3: fault 109 answer"), "1.27 net TestX on 4 (passed): step 3: fault 109 answer"),
+        (replace(item, said="not made: no", recording=""), "1.27 net TestX on 4 (passed): not made: no"),
+        (replace(item, differ=1, said="ok 4 steps; step 2"), "1.27 net TestX on 4 (passed): ok 4 steps; step 2"),
         (
-            replace(one, is_healthy=True, suspects=["1. lost wake-up"]),
+            replace(item, is_healthy=True, suspects=["1. lost wake-up"]),
             "1.27 net TestX on 4 (passed): ok 4 steps; suspected: 1. lost wake-up",
         ),
     ):
-        good, text = table_of(one, bad)
+        good, text = table_of(item, bad)
         assert not good
         assert found in text
 
 
 def test_a_release_has_a_row_with_how_it_stands() -> None:
-    one, sample = replace(result("1.27"), steps=4), replace(result("1.27"), suite="samples/small")
-    _, output = table_of(one, one, sample, result("1.19"))
+    item, sample = replace(result("1.27"), steps=4), replace(result("1.27"), suite="samples/small")
+    _, output = table_of(item, item, sample, result("1.19"))
     assert "| 1.27 | 59 of 60 | yes | 7, 8 | 1 | 2 | 3 | 0 | 0 | 8 | 6 | 0 | 3, 3 | 0 | - |" in output
     assert "| 1.19 | ? | ? | ? | 0 | 1 | 1 | 0 | 0 | 0 | 1 | 0 | 1, 1 | 0 | - |" in output
 

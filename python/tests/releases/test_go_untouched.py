@@ -9,7 +9,7 @@ import pytest
 from dev.recorder.fetching import is_here
 from netrev_go.go_command.run_folders import unrecorded
 from netrev_go.go_command.running import logs_in
-from netrev_go.log.ran import of_log
+from netrev_go.log.tests_in_log import of_log
 from tests.trials.go_untouched import NAMES, OF_ROOT, SOURCE, programs
 
 RELEASE = "1.27"

@@ -49,5 +49,5 @@ def test_the_crates_are_those_of_netrev() -> None:
 
 
 def test_each_verdict_is_read() -> None:
-    said = "rt: must-fail a/MOST.edit: refused, as it must be\nmust-fail a/ROOM.edit: NOT REFUSED: the crate is still proved\n"
-    assert bounds.VERDICT.findall(said) == [("a", "MOST", "refused"), ("a", "ROOM", "NOT REFUSED")]
+    output = "rt: must-fail a/MOST.edit: refused, as it must be\nmust-fail a/ROOM.edit: NOT REFUSED: the crate is still proved\n"
+    assert bounds.VERDICT.findall(output) == [("a", "MOST", "refused"), ("a", "ROOM", "NOT REFUSED")]

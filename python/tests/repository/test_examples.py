@@ -56,6 +56,6 @@ def test_all_that_have_commands_are_played(folder: Path) -> None:
     text = subprocess.run(
         command, env={**os.environ, "NETREV": str(program)}, capture_output=True, text=True, check=True
     )
-    played = [line.removeprefix("== ") for line in text.stdout.splitlines() if line.startswith("== ")]
-    assert played == [example.name for example in ALL if example.beside("script").exists()]
-    assert sorted([*played, SHARED]) == there("**/*.script")
+    runs = [line.removeprefix("== ") for line in text.stdout.splitlines() if line.startswith("== ")]
+    assert runs == [example.name for example in ALL if example.beside("script").exists()]
+    assert sorted([*runs, SHARED]) == there("**/*.script")

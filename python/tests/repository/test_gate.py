@@ -75,7 +75,7 @@ def top(folder: Path) -> Path:
 def played(top: Path, **settings: str) -> tuple[int, str, str]:
     """Runs the script; returns the status, the output, and the skipped tests."""
     built = {"NETREV": "/bin/true", "NETREV_PLAIN": "/bin/true", "NR_REFUSED": "/bin/true", "JOBS": "2"}
-    ran = subprocess.run(
+    process = subprocess.run(
         ["sh", "-c", 'trap "" INT; exec sh scripts/tests.sh'],
         cwd=top,
         env=os.environ | built | settings,
@@ -83,7 +83,7 @@ def played(top: Path, **settings: str) -> tuple[int, str, str]:
         text=True,
         check=False,
     )
-    return ran.returncode, ran.stdout + ran.stderr, (top / "out/left-out.txt").read_text()
+    return process.returncode, process.stdout + process.stderr, (top / "out/left-out.txt").read_text()
 
 
 def test_each_that_fails_is_counted_and_each_left_out_is_named(top: Path) -> None:
@@ -129,11 +129,11 @@ def test_the_gate_tells_how_many_were_skipped_behind_what_passed() -> None:
             out.mkdir()
             (out / "left-out.txt").write_text(left_out)
             (out / "log").write_text("7 passed, 0 failed\n")
-            ran = subprocess.run(
+            process = subprocess.run(
                 ["sh", "-euc", f"log=out/log more=1 sum=out/sum\n{ending}"],
                 cwd=folder,
                 capture_output=True,
                 text=True,
                 check=False,
             )
-        assert (ran.stdout.splitlines(), ran.returncode) == (wanted, 1), ran.stderr
+        assert (process.stdout.splitlines(), process.returncode) == (wanted, 1), process.stderr

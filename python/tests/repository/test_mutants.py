@@ -8,12 +8,12 @@ from pathlib import Path
 import pytest
 
 from mutating import equivalent
-from mutating.called import name_of, qualified
+from mutating.recorded_calls import name_of, qualified
 from mutating.changes import FORGOTTEN, KINDS, Mutant, can_compile, mutants_of
 from mutating.go_changes import go_mutants_of
 from mutating.server import changed_codes, codes_in
 from mutating.topics import OVERRIDES, Test, Topics, digest, read_overrides
-from mutating.trying import all_mutants, drawn
+from mutating.trials import all_mutants, drawn
 
 ROOT = Path(__file__).resolve().parents[3]
 HOLDERS = "python/netrev/run/searches.py"
@@ -74,14 +74,14 @@ def test_a_draw_is_of_its_seed_and_has_each_kind() -> None:
 
 
 def test_a_mutant_s_code_is_put_into_its_function_alone(module: Path) -> None:
-    (mutant,) = (one for one in mutants_of(module.parent, module) if one.new == "<=")
+    (mutant,) = (mutant for mutant in mutants_of(module.parent, module) if mutant.new == "<=")
     changed = changed_codes(str(module), SOURCE, mutant.applied(SOURCE))
     assert {code.co_name for code in changed.values()} == {"<module>", "waits"}
 
 
 def of_tests(most: float = 60) -> tuple[Topics, Mutant]:
     """Tests of the functions of a module, and a mutant of its function `holders_of`."""
-    mutant = next(one for one in all_mutants(ROOT, [HOLDERS]) if one.code == "holders_of" and one.kind == FORGOTTEN)
+    mutant = next(mutant for mutant in all_mutants(ROOT, [HOLDERS]) if mutant.code == "holders_of" and mutant.kind == FORGOTTEN)
     called = {
         "a.py::test_slow": (5.0, f"{HOLDERS}|holders_of"), "b.py::Kept::test_that": (1.0, f"{HOLDERS}|holders_of"),
         "b.py::Kept::test_those[1]": (0.5, f"{HOLDERS}|holders_of"), "c.py::test_other": (0.1, f"{HOLDERS}|other"),
@@ -112,7 +112,7 @@ def test_the_tests_of_a_mutant_of_a_module_call_any_function_of_it() -> None:
         "b.py::Kept::test_those[1]",
         "b.py::Kept::test_that",
     ]
-    assert names_of(topics, replace(mutant, file="python/netrev/recording/words.py")) == []
+    assert names_of(topics, replace(mutant, file="python/netrev/recording/cell_meanings.py")) == []
 
 
 def test_the_first_pattern_that_fits_names_the_tests_of_a_file_of_go() -> None:
@@ -126,7 +126,7 @@ def test_the_code_of_a_mutant_is_its_innermost_function(tmp_path: Path) -> None:
     path.write_text(
         "class Waits:\n    def of(self):\n        def look(step):\n            return step < 1\n        return look\n"
     )
-    (mutant,) = (one for one in mutants_of(tmp_path, path) if one.new == "<=")
+    (mutant,) = (mutant for mutant in mutants_of(tmp_path, path) if mutant.new == "<=")
     assert (mutant.function, mutant.code) == ("Waits.of", "Waits.of.<locals>.look")
     code = next(code for code in codes_in(compile(path.read_text(), str(path), "exec")) if code.co_name == "look")
     folder = f"{tmp_path}/"

@@ -54,11 +54,11 @@ class World:
             "NO_GO": "-",
         }
         command = ["/bin/sh", "scripts/setup.sh"]
-        ran = subprocess.run(
+        process = subprocess.run(
             command, cwd=self.top / "tree", env=variables | settings, capture_output=True, text=True, check=False
         )
-        assert (ran.returncode, ran.stderr) == (0, ""), ran
-        return ran.stdout
+        assert (process.returncode, process.stderr) == (0, ""), process
+        return process.stdout
 
     def calls(self) -> str:
         """The script's calls of apt-get and python3, one line each."""

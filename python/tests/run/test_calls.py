@@ -76,17 +76,17 @@ def seen(call: Call) -> Made:
     return Made(call.goroutine, call.name, call.socket, call.first, call.last, call.outcome)
 
 
-def compare(one: Optional[Call], made: Made) -> None:
+def compare(item: Optional[Call], author_call: Made) -> None:
     """Compares a call that nrdb found with the call that was made."""
-    assert one is not None, made
-    found = seen(one)
+    assert item is not None, author_call
+    found = seen(item)
     if found.name == "Control" and (found.outcome is Outcome.CLOSED or not found.last):
         found = found._replace(
-            name=made.name
+            name=author_call.name
         )  # (a call that sets a deadline can't be told from Control until it has done so)
-    if not made.last:  # (it hasn't ended, or its last step was made but its goroutine has had no turn since)
-        made = made._replace(last=found.last, outcome=found.outcome)
-    assert found == made
+    if not author_call.last:  # (it hasn't ended, or its last step was made but its goroutine has had no turn since)
+        author_call = author_call._replace(last=found.last, outcome=found.outcome)
+    assert found == author_call
 
 
 def test_are_those_that_the_goroutines_made() -> None:
@@ -95,10 +95,10 @@ def test_are_those_that_the_goroutines_made() -> None:
         traffic = Telling(seed)
         traffic.run()
         found = {call.first: call for call in run_of(Recording(traffic.text())).calls}
-        for made in traffic.told:
-            compare(found.get(made.first), made)
-            ends.add((made.name, made.outcome))
-        others = [found[first] for first in set(found) - {made.first for made in traffic.told}]
+        for author_call in traffic.told:
+            compare(found.get(author_call.first), author_call)
+            ends.add((author_call.name, author_call.outcome))
+        others = [found[first] for first in set(found) - {author_call.first for author_call in traffic.told}]
         assert {call.name for call in others} <= {"Open", "Control", "Read"}  # (`raw_read` and `controller`)
     assert len(ends) >= 8, ends
 
@@ -132,7 +132,7 @@ def test_errors_are_the_calls_that_failed() -> None:
         recording = Recording(traffic.text())
         at = recording.length // 2
         table = errors_table(recording, at, None)
-        failed = {made.first for made in traffic.told if made.last and made.outcome in ENDS.values()}
+        failed = {author_call.first for author_call in traffic.told if author_call.last and author_call.outcome in ENDS.values()}
         rows = [row for row in table.rows if row.values]  # (rows without values give reasons)
         result = {row.values["first"] for row in rows}
         assert failed <= result
@@ -163,7 +163,7 @@ def test_leads_to_the_ends_of_calls() -> None:
         for _ in range(40):
             at = dice.randint(100, recording.length)
             g = goroutine_at(recording, at)
-            inside = [made for made in traffic.told if made.goroutine == g and made.first <= at < made.last]
+            inside = [author_call for author_call in traffic.told if author_call.goroutine == g and author_call.first <= at < author_call.last]
             if inside:
                 assert GOALS["finish"](recording, g, at).position == inside[-1].last
                 assert GOALS["reverse-finish"](recording, g, at).position == inside[-1].first - 1
@@ -175,16 +175,16 @@ def test_next_and_its_reverse_pass_whole_calls() -> None:
     traffic = Telling(SEEDS[1])
     traffic.run()
     recording = Recording(traffic.text())
-    own = [made for made in traffic.told if made.name == "Read" and made.last]
+    own = [author_call for author_call in traffic.told if author_call.name == "Read" and author_call.last]
     assert len(own) > 20
-    for made in own:
-        assert GOALS["next"](recording, made.goroutine, made.first - 1).position == made.last
-        assert GOALS["reverse-next"](recording, made.goroutine, made.last).position == made.first - 1
-        if made.last > made.first:  # within the call, the goroutine's own steps count
-            goal = GOALS["next"](recording, made.goroutine, made.first)
+    for author_call in own:
+        assert GOALS["next"](recording, author_call.goroutine, author_call.first - 1).position == author_call.last
+        assert GOALS["reverse-next"](recording, author_call.goroutine, author_call.last).position == author_call.first - 1
+        if author_call.last > author_call.first:  # within the call, the goroutine's own steps count
+            goal = GOALS["next"](recording, author_call.goroutine, author_call.first)
             assert goal.call is None
             own_steps = [
-                n for n in range(made.first + 1, made.last + 1) if recording.step(n).argument("g") == made.goroutine
+                n for n in range(author_call.first + 1, author_call.last + 1) if recording.step(n).argument("g") == author_call.goroutine
             ]
             assert goal.position == own_steps[0]
 

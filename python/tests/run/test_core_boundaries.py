@@ -11,7 +11,7 @@ from typing import Any, cast
 
 import pytest
 
-from netrev.findings.suspects.loading import RULES, RULES_OF_CALLS, _rule_of
+from netrev.findings.suspects.rule_loader import RULES, RULES_OF_CALLS, _rule_of
 from netrev.messages import texts
 from netrev.recording.call import Call, Outcome
 from netrev.recording.notes import GoroutineStatus, Pauses, Setting, Use
@@ -59,7 +59,7 @@ def test_the_next_setting_of_a_side(side: str, step: int, found: int | None) -> 
     use = Use(1, 4, 1, 7)
     for number, mode in ((3, "rw"), (5, "r"), (7, "w"), (9, "rw")):
         use.settings.append(Setting(number, *cast(Any, [0] * (len(Setting._fields) - 1)))._replace(mode=mode))
-    later = use.setting_behind(side, step)
+    later = use.setting_after(side, step)
     assert (later and later.step) == found
 
 
@@ -129,14 +129,14 @@ def test_the_words_after_the_program_s_name_are_read(monkeypatch: Patch) -> None
 
 
 @pytest.mark.parametrize(
-    "web, ended, played, errors, status",
+    "web, ended, runs, errors, status",
     [
         (None, 0, 0, 0, 0), (None, 3, 0, 0, 3), (None, 3, 4, 0, 3), (None, 0, 4, 0, 4), (None, 0, 0, 1, 3), (None, 0, 4, 1, 4), (0, 3, 0, 0, 0),
         (0, 3, 4, 0, 4),
     ],
 )  # fmt: skip
 def test_the_exit_status_is_netrev_s_own_except_after_a_page(
-    web: int | None, ended: int, played: int, errors: int, status: int, monkeypatch: Patch
+    web: int | None, ended: int, runs: int, errors: int, status: int, monkeypatch: Patch
 ) -> None:
     session = Made(
         ask=lambda line: "at 0 of 9 forward",
@@ -148,7 +148,7 @@ def test_the_exit_status_is_netrev_s_own_except_after_a_page(
     )
     monkeypatch.setattr(cli, "session_of", lambda *words: session)
     monkeypatch.setattr(cli, "has_prompt", lambda wanted: False)
-    monkeypatch.setattr(cli, "played", lambda one, wanted: played)
+    monkeypatch.setattr(cli, "played", lambda item, wanted: runs)
     wanted = argparse.Namespace(web=web)
     assert cli.begun(wanted, cast(Any, Made(close=lambda: ended)), cast(Any, None), cast(Any, None)) == status
 
@@ -186,7 +186,7 @@ def test_a_check_outside_a_call_is_a_call_of_its_own(names: list[str], code: int
     book = Made(
         open=defaultdict(list, {1: open_calls}),
         calls=[],
-        settle=lambda step, goroutine, one: settled.append(one[-1].name),
+        settle=lambda step, goroutine, item: settled.append(item[-1].name),
     )
     calls.checks(cast(Any, book), cast(Any, notes), 1, 0, "r")(8)
     assert settled == ([ended] if ended else [])
@@ -201,7 +201,7 @@ def test_a_failed_check_ends_the_innermost_call(monkeypatch: Patch) -> None:
     failed: list[tuple[str, Outcome]] = []
     monkeypatch.setattr(calls, "fail", lambda notes, call, outcome: failed.append((call.name, outcome)))
     open_calls = [Call(1, "Close", 3, 0, 5), Call(1, "Read", 3, 0, 6)]
-    book = Made(open={1: open_calls}, settle=lambda step, goroutine, one: None)
+    book = Made(open={1: open_calls}, settle=lambda step, goroutine, item: None)
     calls.checks_again(cast(Any, book), cast(Any, Made(goroutine=lambda g: IDLE, code=2)), 1)(9)
     assert failed == [("Read", calls.CODES[2])]
 

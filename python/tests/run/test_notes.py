@@ -58,7 +58,7 @@ class Behind:
 
     def made(self, notes: Notes, *_: Any) -> Callable[[int], None]:
         def look(step: int) -> None:
-            self.steps.append({g: (one.status, one.since, one.held > 0) for g, one in notes.goroutines.items()})
+            self.steps.append({g: (item.status, item.since, item.held > 0) for g, item in notes.goroutines.items()})
 
         return look
 

@@ -20,12 +20,12 @@ from netrev.run.searches import holders_of
 from netrev.run.timers import timers_of
 from netrev.text.contents import Contents as Text
 from netrev.text.contents import Limits
-from netrev.text.reading import read_text
+from netrev.text.parser import read_text
 from netrev.text.vocabulary import KINDS, OF_A_GOROUTINE
-from netrev.text.writing import write_plain
-from netrev_go.steps.making import NewRecording as Made
-from netrev_go.steps.making import NothingRecordedError, make
-from tests.support.modelled import changes_in
+from netrev.text.writer import write_plain
+from netrev_go.steps.recording_builder import NewRecording as Made
+from netrev_go.steps.recording_builder import NothingRecordedError, make
+from tests.support.model_sessions import changes_in
 from tests.suspects.test_suspects import OPEN, recording_of
 
 LOCKING = {"incref": 6.0, "decref": 5.0, "rwlock": 3.0, "rwunlock": 3.0, "increfclose": 0.1, "exit": 0.1}
@@ -71,8 +71,8 @@ def holders(steps: Steps, s: int) -> list[tuple[int, int, str]]:
         if new > old:
             held.append((number, arguments[0], side))
         elif new < old:
-            fitting = [one for one in held if one[2] == side]
-            own = [one for one in fitting if one[1] == arguments[0]]
+            fitting = [item for item in held if item[2] == side]
+            own = [item for item in fitting if item[1] == arguments[0]]
             held.remove(max(own or fitting or held))
     return held
 
@@ -86,7 +86,7 @@ def test_holders_are_those_whose_steps_changed_the_count(seed: int) -> None:
         for s in range(len(worlds[position].sockets)):
             naive = holders(steps_of(text, worlds[: position + 1]), s)
             found = holders_of(recording, changes, s, position)
-            assert [(one.step.number, one.goroutine, "".join(one.side)) for one in found] == naive
+            assert [(item.step.number, item.goroutine, "".join(item.side)) for item in found] == naive
 
 
 def timers(steps: Steps) -> dict[int, tuple[object, ...]]:
@@ -114,7 +114,7 @@ def timers(steps: Steps) -> dict[int, tuple[object, ...]]:
 @pytest.mark.parametrize("seed", range(30))
 def test_a_timer_is_of_the_step_that_set_its_deadline(seed: int) -> None:
     text, worlds = random_text(f"timers {seed}", TIMING, ALONE)
-    assert {number: tuple(one) for number, one in timers_of(Recording(write_plain(text))).items()} == timers(
+    assert {number: tuple(item) for number, item in timers_of(Recording(write_plain(text))).items()} == timers(
         steps_of(text, worlds)
     )
 
@@ -132,7 +132,7 @@ def test_calls_are_those_that_goroutines_made(seed: int) -> None:
         return  # (calls that began before the log are known only in part)
     step_of = {point.number: step for (point, _), step in zip(made.points, made.ended)}
     socket_of = {point.number: socket.number for point, socket in made.points}
-    known = [one for one in sorted(program.calls, key=lambda one: one.first) if one.first in step_of]
+    known = [call for call in sorted(program.calls, key=lambda call: call.first) if call.first in step_of]
     found = [call for call in run_of(Recording(text_of(made))).calls if call.name != "Open"]
     assert len(found) == len(known)
     for call, one in zip(found, known):
@@ -186,7 +186,7 @@ def test_the_descriptor_that_was_freed_last_is_used_first() -> None:
 def test_the_newest_of_a_goroutine_s_references_is_given_back() -> None:
     recording = recording_of([*OPEN, ["incref", 1, 0], ["incref", 1, 0], ["incref", 0, 0], ["decref", 1, 0]])
     held = holders_of(recording, changes_of(recording), 0, recording.length)
-    assert [(one.step.number, one.goroutine) for one in held] == [(4, 1), (6, 0)]
+    assert [(item.step.number, item.goroutine) for item in held] == [(4, 1), (6, 0)]
 
 
 # ---- what rules examine
@@ -214,7 +214,7 @@ class UseOf:
 
 def all_of(use: Use) -> list[object]:
     """All facts about a use of a descriptor, in the form of `UseOf.all`."""
-    passings = [[(one.step, one.kind) for one in side] for side in use.passings]
+    passings = [[(item.step, item.kind) for item in side] for side in use.passings]
     place = use.descriptor, use.socket, use.opened, use.tag
     return [place, use.closed, use.settings, use.errors, use.thrown, use.last_events, [*use.waits], passings, use.taken]
 
@@ -275,7 +275,7 @@ class Naive:
                 self.of[d].passings[side].append((number, kind))
         elif kind == "fire":
             for d, (old, new) in enumerate(zip(before.descs, after.descs)):
-                for side in (side for side, one, other in zip("rw", old.deadlines, new.deadlines) if one > 0 > other):
+                for side in (side for side, deadline, other in zip("rw", old.deadlines, new.deadlines) if deadline > 0 > other):
                     self.of[d].passings[side].append((number, kind))
         elif kind == "pollevent":
             self.event(number, arguments, answer)
@@ -312,11 +312,11 @@ def test_notes_are_what_the_states_say(seed: int) -> None:
     assert [all_of(use) for use in notes.uses] == [use.all() for use in naive.uses]
     assert {name: getattr(notes, name) for name in naive.when} == naive.when
     assert notes.again == naive.again and notes.refused_writes == naive.refused
-    assert [(one.step, one.goroutine, one.descriptor, one.side) for one in notes.timeouts] == naive.timeouts
+    assert [(timeout.step, timeout.goroutine, timeout.descriptor, timeout.side) for timeout in notes.timeouts] == naive.timeouts
     for s, holds in notes.holds.items():
-        held = [(one.step, one.goroutine, one.side) for one in holds]
+        held = [(timeout.step, timeout.goroutine, timeout.side) for timeout in holds]
         assert held == holders(steps_of(text, worlds), s)
-        assert all(text.steps[one.step - 1][0] == one.kind for one in holds)
+        assert all(text.steps[timeout.step - 1][0] == timeout.kind for timeout in holds)
 
 
 @pytest.mark.parametrize("seed", range(30))
@@ -327,7 +327,7 @@ def test_each_step_is_of_the_socket_that_it_names(seed: int) -> None:
     recording, named, tags = Recording(write_plain(text)), dict[int, tuple[int, int]](), dict[tuple[int, int], int]()
     of_timers, expected = timers(steps_of(text, worlds)), []
     for number, (kind, *arguments), before, after in steps_of(text, worlds):
-        open_of = [one.socket for at, one in enumerate(after.descs) if after.is_open(at)]
+        open_of = [desc.socket for at, desc in enumerate(after.descs) if after.is_open(at)]
         if len(open_of) > len(set(open_of)):
             break  # (no socket of Go's has two descriptors)
         names = dict(zip(KINDS[kind].arguments, arguments))
@@ -342,7 +342,7 @@ def test_each_step_is_of_the_socket_that_it_names(seed: int) -> None:
         elif kind in ("pop", "fire"):
             s, d = of_timers[number][2], of_timers[number][1]
         elif s >= 0:
-            d = next((at for at, one in enumerate(before.descs) if before.is_open(at) and one.socket == s), -1)
+            d = next((at for at, desc in enumerate(before.descs) if before.is_open(at) and desc.socket == s), -1)
         elif d >= 0:
             s = before.descs[d].socket
         elif g >= 0 and kind != "exit":

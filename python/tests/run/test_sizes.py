@@ -8,7 +8,7 @@ from netrev.findings.evidence.sizes import are_known, moved_at, size_of
 from netrev.recording.recording import Recording
 from netrev.recording.where import SourceLines
 from netrev.run.index import run_of
-from netrev_go.log.beside import OF_UNIX, Beside
+from netrev_go.log.socket_facts import OF_UNIX, Beside
 from netrev_go.log.points import Point, PointKind
 from tests.hangs.test_needs import stored
 
@@ -22,9 +22,9 @@ from tests.hangs.test_needs import stored
 )  # fmt: skip
 def test_unix_sockets_of_one_connection(order: str, peers: list[tuple[int, int]]) -> None:
     beside = Beside()
-    for who, socket in ((one[0], int(one[1:])) for one in order.split()):
-        own, other = (9 if who in "pq" else 7, 0)[:: 1 if who in "abq" else -1]
-        beside.named(socket, Point(socket, PointKind.NAMED, ord(who), 0, own, other, OF_UNIX, 0, 0))
+    for actor, socket in ((word[0], int(word[1:])) for word in order.split()):
+        own, other = (9 if actor in "pq" else 7, 0)[:: 1 if actor in "abq" else -1]
+        beside.named(socket, Point(socket, PointKind.NAMED, ord(actor), 0, own, other, OF_UNIX, 0, 0))
     beside.pair_unix()
     assert (beside.peers, beside.ends, beside.addresses) == (peers, [], [])
 
@@ -58,7 +58,7 @@ def test_lines_of_sizes(text: str, is_good: bool) -> None:
 
 def test_datagrams_that_were_cut() -> None:
     index = run_of(stored("datagram-bad"))
-    found = [(size_of(index, one.write), size_of(index, one.read)) for one in cut_datagrams(index)]
+    found = [(size_of(index, datagram.write), size_of(index, datagram.read)) for datagram in cut_datagrams(index)]
     assert found == [(20, 16)]
     assert not cut_datagrams(run_of(stored("datagram-good")))
 

@@ -22,7 +22,7 @@ def recording_of(seed: int) -> Recording:
 
 
 def test_a_part_alone_tells_whose_its_steps_are() -> None:
-    met = 0
+    seen = 0
     for seed in SEEDS:
         run, dice = run_of(recording_of(seed)), random.Random(seed)
         whose, length = run.owners, run.notes.step
@@ -32,5 +32,5 @@ def test_a_part_alone_tells_whose_its_steps_are() -> None:
             steps = slice(max(first - 1, 0), last)
             pairs = Counter(zip(whose.goroutines[steps], whose.sockets[steps]))
             assert run.sockets_used(first, last) == {pair: many for pair, many in pairs.items() if pair[0] != NONE}
-            met += len(pairs)
-    assert met > 1_000
+            seen += len(pairs)
+    assert seen > 1_000

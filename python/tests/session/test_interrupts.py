@@ -6,8 +6,8 @@ import pytest
 from netrev.connection.netrev import NetrevEndedError
 from netrev.connection.scout import Scout
 from netrev.system.interrupts import Interrupts
-from tests.support.disturbed import EXAMPLE, TEXT, Disturbances, Weather
-from tests.support.modelled import Modelled, recording_at
+from tests.support.interrupted_sessions import EXAMPLE, TEXT, Disturbances, Weather
+from tests.support.model_sessions import Modelled, recording_at
 
 MODEL = recording_at(EXAMPLE)
 COMMANDS = (

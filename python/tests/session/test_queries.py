@@ -29,17 +29,17 @@ class Scripted(Netrev):
     def _send(self, text: bytes) -> None:
         self.sent.append(text.decode().splitlines())
 
-    def _next(self, asked: str) -> Optional[str]:
-        if asked.endswith("strange"):
-            raise StrangeReplyError(asked, "x")
-        return None if asked.endswith("end") else f"clock = {asked.split()[-1]}"
+    def _next(self, request: str) -> Optional[str]:
+        if request.endswith("strange"):
+            raise StrangeReplyError(request, "x")
+        return None if request.endswith("end") else f"clock = {request.split()[-1]}"
 
     def close(self) -> Optional[int]:
         return 5
 
 
 class WithoutMemory(Scripted):
-    def _next(self, asked: str) -> Optional[str]:
+    def _next(self, request: str) -> Optional[str]:
         return "fault 301 memory"
 
 

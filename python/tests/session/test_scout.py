@@ -5,8 +5,8 @@ from pathlib import Path
 
 from netrev.connection.scout import Scout
 from netrev.system.interrupts import Interrupts
-from netrev.system.long_passes import take_all_as_kept
-from tests.support.modelled import Modelled, recording_at
+from netrev.system.garbage_collection import take_all_as_kept
+from tests.support.model_sessions import Modelled, recording_at
 
 MODEL = recording_at(Path(__file__).resolve().parents[3] / "examples/leaked-reference.jsonl")
 
@@ -24,15 +24,15 @@ def test_a_netrev_that_was_lent_looks_first_and_is_given_back() -> None:
     assert len(opened) == 2  # (`own` had to start the second netrev)
     scout.drop()
     own.drop()
-    assert [one.has_ended for one in opened] == [False, True]
+    assert [netrev.has_ended for netrev in opened] == [False, True]
     assert (
         scout.values(7, ["gor 0"]) and len(opened) == 3
     )  # (`scout` had returned the first netrev, `lent`, and had to start a third)
     scout.drop()
-    assert [one.has_ended for one in opened] == [False, True, True]
+    assert [netrev.has_ended for netrev in opened] == [False, True, True]
 
 
 def test_what_is_kept_counts_as_old() -> None:
-    made: list[list[int]] = [[] for _ in range(1000)]
+    lists: list[list[int]] = [[] for _ in range(1000)]
     take_all_as_kept()
-    assert gc.get_count()[0] < len(made) and gc.get_freeze_count() == 0
+    assert gc.get_count()[0] < len(lists) and gc.get_freeze_count() == 0

@@ -14,11 +14,11 @@ from netrev.connection.scout import Scout
 from netrev.recording.recording import Recording
 from netrev.session.session import Session
 from netrev.system.interrupts import Interrupts
-from netrev.timeline.events_beside import beside
-from netrev.timeline.picture import PageSources, collected
+from netrev.timeline.other_trace_events import beside
+from netrev.timeline.page_contents import PageSources, collected
 from netrev.timeline.trace import Tracing
 from nrdb.prompt.answers import ANSWERS
-from tests.support.modelled import Modelled, changes_at, recording_at
+from tests.support.model_sessions import Modelled, changes_at, recording_at
 
 ROOT = Path(__file__).resolve().parents[3]
 STORED = Path(__file__).with_name("views")

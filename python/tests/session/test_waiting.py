@@ -21,7 +21,7 @@ from netrev.session.session import Session
 from netrev.system.interrupts import Interrupts
 from netrev.views.goroutines import goroutines_table
 from nrdb.prompt.answers import ANSWERS
-from tests.support.modelled import Modelled, changes_at, changes_in, recording_at
+from tests.support.model_sessions import Modelled, changes_at, changes_in, recording_at
 
 
 def waiters(count: int, sockets: int = 1) -> str:
@@ -46,7 +46,7 @@ class Waiting:
     def __init__(self, folder: Path) -> None:
         self.folder = folder
 
-    def session(self, text: str, asked: Counter[str]) -> tuple[Session, io.StringIO]:
+    def session(self, text: str, request: Counter[str]) -> tuple[Session, io.StringIO]:
         """A session at the end of a recording, its output, and a count of the queries sent to netrev."""
         path = self.folder / "recording.jsonl"
         path.write_text(text)
@@ -54,7 +54,7 @@ class Waiting:
 
         class Counting(Modelled):
             def _send(self, text: bytes) -> None:
-                asked.update(text.decode().splitlines())
+                request.update(text.decode().splitlines())
                 super()._send(text)
 
         def opened() -> Modelled:
@@ -68,17 +68,17 @@ class Waiting:
 
     def asked(self, text: str, line: str) -> tuple[str, Counter[str]]:
         """The output of a line in a new session, and the lines that it sends to netrev."""
-        asked: Counter[str] = Counter()
-        session, out = self.session(text, asked)
-        asked.clear()
+        request: Counter[str] = Counter()
+        session, out = self.session(text, request)
+        request.clear()
         session.run(line)
-        return out.getvalue(), asked
+        return out.getvalue(), request
 
     def searched(self, count: int, sockets: int, with_lines: bool) -> tuple[int, int, int]:
         """How much work `info goroutines` does with `count` waiters at each of `sockets` sockets. Returns three numbers:
         queries other than those for statuses, searches of the recording's text, and pieces of text that are searched.
         """
-        asked, work = Counter[str](), Counter[str]()
+        request, work = Counter[str](), Counter[str]()
         text = waiters(count, sockets)
         if with_lines:
             steps = text.count("\n") - 1
@@ -86,8 +86,8 @@ class Waiting:
             lines: list[Any] = [{"where": 1, "steps": steps}, call, {"stack": 1, "calls": [1]}]
             lines.append({"step": 1, "stacks": [1] * steps})
             (self.folder / "recording.where").write_text("\n".join(map(json.dumps, lines)))
-        session, out = self.session(text, asked)
-        asked.clear()
+        session, out = self.session(text, request)
+        request.clear()
         searched = Recording.found_back
 
         class Pieces:
@@ -111,7 +111,7 @@ class Waiting:
         result = [goroutine for row in rows for goroutine in row.get("goroutines", [row.get("goroutine")])]
         assert (len(result), len(set(result))) == (count * sockets + 1, count * sockets + 1)
         assert {"at" in row for row in rows if "goroutine" in row} == {with_lines}
-        questions = sum(times for line, times in asked.items() if not line.startswith("print gor "))
+        questions = sum(times for line, times in request.items() if not line.startswith("print gor "))
         return questions, work["searches"], work["pieces"]
 
 
@@ -148,17 +148,17 @@ def test_a_group_has_gos_own_numbers_of_those_that_are_used_again(waiting: Waiti
 
 
 def test_a_lock_is_asked_for_once_however_many_wait(waiting: Waiting) -> None:
-    asked: dict[int, Counter[str]] = {}
+    request: dict[int, Counter[str]] = {}
     for count in (3, 60):
         shown, asked_for_groups = waiting.asked(waiters(count), "info goroutines")
-        shown_all, asked[count] = waiting.asked(waiters(count), "info goroutines all")
-        assert asked_for_groups == asked[count]
+        shown_all, request[count] = waiting.asked(waiters(count), "info goroutines all")
+        assert asked_for_groups == request[count]
         assert f"place {count} of {count}, goroutine 0 has the lock since step {count + 5}" in shown + shown_all
         assert "relock 0 w" in shown + shown_all
         is_group = f"queued for socket 0's read lock, which goroutine 0 has since step {count + 5}" in shown
         assert is_group == (count == 60)
     few, many = (
-        {line: times for line, times in item.items() if not line.startswith("print gor ")} for item in asked.values()
+        {line: times for line, times in item.items() if not line.startswith("print gor ")} for item in request.values()
     )
     assert few == many
     assert "dump rq 0" in many
@@ -169,9 +169,9 @@ def test_the_text_is_searched_once_however_many_wait_for_however_many_locks(wait
     few, many = (waiting.searched(count, 4, with_lines) for count in (2, 12))
     assert few[:2] == many[:2]
     assert many[2] <= few[2] + 2 * 3  # a text of twice the length has one more piece
-    one, sixteen = (waiting.searched(3, sockets, with_lines) for sockets in (1, 16))
-    assert (one[1], sixteen[1]) == (1 + with_lines, 1 + with_lines)
-    assert sixteen[0] - one[0] <= 15 * 2  # each socket's lock word, and its queue
+    item, sixteen = (waiting.searched(3, sockets, with_lines) for sockets in (1, 16))
+    assert (item[1], sixteen[1]) == (1 + with_lines, 1 + with_lines)
+    assert sixteen[0] - item[0] <= 15 * 2  # each socket's lock word, and its queue
 
 
 def worlds() -> Iterator[PositionValues]:

@@ -8,7 +8,7 @@ from typing import Any, cast
 
 import pytest
 
-from netrev.findings.datagrams import unheard  # fmt: skip
+from netrev.findings.datagrams import undelivered_datagrams  # fmt: skip
 from netrev.findings.handovers import dropped_answers, dropped_requests  # fmt: skip
 from netrev.findings.hangs import needs_elsewhere  # fmt: skip
 from netrev.findings.http import ended_contexts  # fmt: skip
@@ -40,14 +40,14 @@ def test_a_datagram_from_another_address(change: dict[str, Any], says: bool, mon
 
     def sent(begin: int, target: str) -> Any:
         wrote = Made(first=begin, socket=9, steps=lambda: f"step {begin}")
-        return unheard.Sent(cast(Any, wrote), case.source, target)
+        return undelivered_datagrams.Sent(cast(Any, wrote), case.source, target)
 
-    monkeypatch.setattr(unheard, "sent_at", lambda index: [sent(19, "a:7"), sent(case.first, case.target)])
-    monkeypatch.setattr(unheard, "text_of_call", lambda recording, call: "Write")
-    monkeypatch.setattr(unheard, "opened_at", lambda index, socket: ", opened")
+    monkeypatch.setattr(undelivered_datagrams, "sent_at", lambda index: [sent(19, "a:7"), sent(case.first, case.target)])
+    monkeypatch.setattr(undelivered_datagrams, "text_of_call", lambda recording, call: "Write")
+    monkeypatch.setattr(undelivered_datagrams, "opened_at", lambda index, socket: ", opened")
     reads = [Made(name=case.name, moved=case.moved, last=case.last), Made(name="Read", moved=5, last=2)]
     index = Made(recording=Made(lines=Made(addresses=case.addresses)), by_socket={3: reads})
-    need = unheard.unheard(cast(Any, index), cast(Any, Made(socket=3, first=8)), 20)
+    need = undelivered_datagrams.unheard(cast(Any, index), cast(Any, Made(socket=3, first=8)), 20)
     expected = [
         f"Write sent a datagram to its address, a:1, in step {case.first}, from socket 9, {case.source}, opened.",
         "Socket 3 is connected to b:2: the system drops what comes from any other address.",
@@ -57,14 +57,14 @@ def test_a_datagram_from_another_address(change: dict[str, Any], says: bool, mon
 
 def test_the_first_datagram_from_another_address_is_named(monkeypatch: Patch) -> None:
     every = [
-        unheard.Sent(cast(Any, Made(first=begin, socket=9, steps=lambda begin=begin: f"step {begin}")), "c:4", "a:1")
+        undelivered_datagrams.Sent(cast(Any, Made(first=begin, socket=9, steps=lambda begin=begin: f"step {begin}")), "c:4", "a:1")
         for begin in (9, 6, 7)
     ]
-    monkeypatch.setattr(unheard, "sent_at", lambda index: every)
-    monkeypatch.setattr(unheard, "text_of_call", lambda recording, call: "Write")
-    monkeypatch.setattr(unheard, "opened_at", lambda index, socket: "")
+    monkeypatch.setattr(undelivered_datagrams, "sent_at", lambda index: every)
+    monkeypatch.setattr(undelivered_datagrams, "text_of_call", lambda recording, call: "Write")
+    monkeypatch.setattr(undelivered_datagrams, "opened_at", lambda index, socket: "")
     index = Made(recording=Made(lines=Made(addresses={3: ("a:1", "b:2")})), by_socket={3: []})
-    need = unheard.unheard(cast(Any, index), cast(Any, Made(socket=3, first=8)), 20)
+    need = undelivered_datagrams.unheard(cast(Any, index), cast(Any, Made(socket=3, first=8)), 20)
     assert need and " in step 6, from socket 9" in need.says[0]
 
 
@@ -109,7 +109,7 @@ def test_why_a_dial_failed(change: dict[str, Any], says: str, monkeypatch: Patch
         0: [ObjectUse(0, 7, CLOSED, 1, 1, 3, 3, 1, 1)],
     }
     failed = Made(context=case.context, time=8, stack=2)
-    found = failed_dials.ended_says(cast(Any, Made(lines=Made(uses=uses, stacks=stacks))), cast(Any, failed))
+    found = failed_dials.ended_sentence(cast(Any, Made(lines=Made(uses=uses, stacks=stacks))), cast(Any, failed))
     texts = {
         "cancelled": ["Its context had been cancelled at a.go:4 in stop (goid 7, step 3)."], "": [],
         "once": ["That was in a sync.Once, which calls its function once alone: no later call dials again."],
@@ -177,44 +177,44 @@ def test_no_lines_are_found_without_the_source(tmp_path: Path) -> None:
 )  # fmt: skip
 def test_what_a_goroutine_wrote_and_read_in_turn(calls: str, found: str) -> None:
     names = {"r": "Read", "w": "Write", "o": CLOSE}
-    made = []
-    for one in calls.split():
-        at, _, how = one.partition(":")
-        made.append(
+    turns = []
+    for word in calls.split():
+        at, _, how = word.partition(":")
+        turns.append(
             Made(
                 name=names[at[0]], first=int(at[1:]), goroutine=2 if how == "other" else 1, moved=0 if how == "nothing" else 4,
                 last=0 if how == "going" else int(at[1:]),
             )
         )  # fmt: skip
-    says = exchanges.exchanges_of(cast(Any, Made(by_socket={3: made})), 1, 3, 9)
-    texts = ["/".join(",".join(str(call.first) for call in part) for part in (one.writes, one.reads)) for one in says]
+    says = exchanges.exchanges_of(cast(Any, Made(by_socket={3: turns})), 1, 3, 9)
+    texts = ["/".join(",".join(str(call.first) for call in part) for part in (word.writes, word.reads)) for word in says]
     assert " ".join(texts) == found
     assert exchanges.exchanges_of(cast(Any, Made(by_socket={})), 1, 3, 9) == []
 
 
 @pytest.mark.parametrize(
-    "calls, asked, on, is_answered",
+    "calls, request_count, on, is_answered",
     [
         ("r6 w7", 1, False, True), ("r6 w7", 2, False, False), ("r6 w7", 2, True, True), ("r5 w7", 1, False, False), ("r6", 1, True, False), ("w7", 1, True, False),
         ("r6 w6", 1, True, False), ("r6 w7 w8", 2, False, True), ("r6 w7 w8b", 3, True, False), ("r6 w7 r8", 2, True, False), ("", 1, True, False), ("w3 r6 w7", 2, False, True),
     ],
 )  # fmt: skip
 def test_whether_all_requests_were_answered(
-    calls: str, asked: int, on: bool, is_answered: bool, monkeypatch: Patch
+    calls: str, request_count: int, on: bool, is_answered: bool, monkeypatch: Patch
 ) -> None:
-    made = []
-    for one in calls.split():
-        step = int(one[1])
-        made.append(
+    turns = []
+    for word in calls.split():
+        step = int(word[1])
+        turns.append(
             Made(
-                name="Read" if one[0] == "r" else "Write", first=step, last=step, moved=4, goroutine=2 if one[2:] else 1
+                name="Read" if word[0] == "r" else "Write", first=step, last=step, moved=4, goroutine=2 if word[2:] else 1
             )
         )
     monkeypatch.setattr(
         dropped_answers, "reads_on", lambda index, goroutine, socket: on and (goroutine, socket) == (1, 4)
     )
-    mine = [Made(name="Write", moved=4)] * asked + [Made(name="Read", moved=4), Made(name="Write", moved=0)]
-    index = Made(other_end=lambda socket: 4 if socket == 3 else None, by_socket={3: mine, 4: made})
+    mine = [Made(name="Write", moved=4)] * request_count + [Made(name="Read", moved=4), Made(name="Write", moved=0)]
+    index = Made(other_end=lambda socket: 4 if socket == 3 else None, by_socket={3: mine, 4: turns})
     wrote = Made(socket=3, first=5)
     assert dropped_answers.is_answered(cast(Any, index), cast(Any, wrote)) is is_answered
     wrote.socket = 5

@@ -6,7 +6,7 @@ from typing import Any, cast
 
 import pytest
 
-from netrev.findings.causes import failing, first, leftovers  # fmt: skip
+from netrev.findings.causes import failed_calls, first_output, leftovers  # fmt: skip
 from netrev.findings.handovers import dropped_requests, needs_of_channels  # fmt: skip
 from netrev.findings.hangs import needs  # fmt: skip
 from netrev.findings.http import rpc_calls  # fmt: skip
@@ -57,7 +57,7 @@ def test_a_channel_whose_maker_has_returned(change: dict[str, Any], says: bool, 
         made_channels, "has_returned",
         lambda index, maker, line, position: case.returned and (maker, line, position) == (Name(8), made_at, 20),
     )  # fmt: skip
-    monkeypatch.setattr(made_channels, "returns_says", lambda index, line: ", by a.go:9")
+    monkeypatch.setattr(made_channels, "returns_sentence", lambda index, line: ", by a.go:9")
     stacks = {4: Stack(() if case.empty else (made_at,), None)}
     index = Made(recording=Made(lines=Made(made={5: Made(stack=4, goid=8)}, stacks=stacks)))
     found = made_channels.without_receiver(cast(Any, index), waiting(case.objects, reason=case.reason), 20)
@@ -91,9 +91,9 @@ def test_a_channel_that_net_rpc_found_full(change: dict[str, Any], says: str, mo
     wait = waiting(case.objects)._replace(stack=Stack((line_of(3, of=case.of),), None))
     found = rpc_calls.dropped_by_rpc(cast(Any, Made(lines=lines)), wait)
     many = "1 value" if case.room == 1 else f"{case.room} values"
-    made = says.removeprefix(" with")
-    start = f"Perhaps calls were dropped: that channel{made} has room for {many}, and net/rpc drops a call"
-    assert [one.startswith(start) for one in found] == [True] * bool(says)
+    sentence = says.removeprefix(" with")
+    start = f"Perhaps calls were dropped: that channel{sentence} has room for {many}, and net/rpc drops a call"
+    assert [line.startswith(start) for line in found] == [True] * bool(says)
 
 
 @pytest.mark.parametrize(
@@ -109,14 +109,14 @@ def test_what_was_done_with_channels_of_the_same_line(
 ) -> None:
     kinds = {"put": PUT, "took": TOOK, "closed": CLOSED}
     of: dict[int, list[ObjectUse]] = {}
-    for end, one in enumerate(uses.split(), 1):
-        of.setdefault(int(one[-1]), []).append(use_of(int(one[-1]), kinds[one[:-1]], 1, end=end))
+    for end, word in enumerate(uses.split(), 1):
+        of.setdefault(int(word[-1]), []).append(use_of(int(word[-1]), kinds[word[:-1]], 1, end=end))
     stacks = {1: Stack((line_of(4),), None), 2: Stack((line_of(4), line_of(9)), None), 3: Stack((line_of(5),), None)}
-    made = {number: Made(stack=stack) for number, stack in ((5, 1), (6, 1), (7, 1), (8, 3))}
-    recording = cast(Any, Made(lines=Made(made=made, stacks=stacks, uses=of)))
+    channels = {number: Made(stack=stack) for number, stack in ((5, 1), (6, 1), (7, 1), (8, 3))}
+    recording = cast(Any, Made(lines=Made(made=channels, stacks=stacks, uses=of)))
     says = sibling_channels.given_at_siblings(recording, waiting(objects))
     names = {kind: name for name, kind in kinds.items()}
-    assert [f"{names[one.what]}{one.object}" for one in says] == found
+    assert [f"{names[word.what]}{word.object}" for word in says] == found
 
 
 SLOTS = """\
@@ -146,7 +146,7 @@ func release() {
 )  # fmt: skip
 def test_the_line_that_gives_a_slot_back(old: str, new: str, line: int, givings: str, back: int) -> None:
     lines = tuple((SLOTS.replace(old, new, 1) if old else SLOTS).split("\n"))
-    leavings = [Giving(int(one), range(1, 10) if int(one) < 10 else range(11, 14)) for one in givings.split()]
+    leavings = [Giving(int(word), range(1, 10) if int(word) < 10 else range(11, 14)) for word in givings.split()]
     assert slots.leaving_line(lines, line_of(line), leavings) == back
 
 
@@ -156,8 +156,8 @@ def test_the_line_that_gives_a_slot_back(old: str, new: str, line: int, givings:
 )  # fmt: skip
 def test_a_goroutine_that_took_more_slots_than_it_gave_back(uses: str, found: bool) -> None:
     of = []
-    for one in uses.split():
-        did, _, often = one.partition(":")
+    for word in uses.split():
+        did, _, often = word.partition(":")
         of.append(use_of(5, PUT if did[:-1] == "put" else TOOK, 1, int(often), goid=int(did[-1])))
     recording = cast(Any, Made(lines=Made(uses={5: of})))
     assert slots.has_more(recording, At(5, FOR_ROOM), 7, PUT) is found
@@ -176,8 +176,8 @@ def test_an_end_that_a_relay_didn_t_pass_on(change: dict[str, Any], says: bool, 
     usual = {"outcome": Outcome.EOF, "name": "Read", "of_go": False, "wrote": wrote, "closing": 0, "reader": reader}
     case = Made(**(usual | change))
     call, other = Made(outcome=case.outcome, name=case.name), Made(outcome=Outcome.EOF, name="Read")
-    monkeypatch.setattr(unpassed_ends, "is_of_go", lambda recording, one: one is call and case.of_go)
-    monkeypatch.setattr(unpassed_ends, "last_write_of_relay", lambda index, one: case.wrote if one is call else wrote)
+    monkeypatch.setattr(unpassed_ends, "is_of_go", lambda recording, given_call: given_call is call and case.of_go)
+    monkeypatch.setattr(unpassed_ends, "last_write_of_relay", lambda index, given_call: case.wrote if given_call is call else wrote)
     monkeypatch.setattr(unpassed_ends, "reader_of", lambda index, socket: case.reader if not case.told else reader)
     case.told = False
     index = Made(
@@ -185,10 +185,10 @@ def test_an_end_that_a_relay_didn_t_pass_on(change: dict[str, Any], says: bool, 
         closing=lambda socket, step: "close" if socket == 4 and 0 < case.closing <= step else None,
     )  # fmt: skip
     found = list(unpassed_ends.unpassed_ends(cast(Any, index)))
-    assert [(one.met, one.write, one.waits) for one in found] == [(call, wrote, reader)] * says
+    assert [(given_call.met, given_call.write, given_call.waits) for given_call in found] == [(call, wrote, reader)] * says
     index.calls = [call, other]
     case.told, case.closing = True, 0
-    assert [one.met for one in unpassed_ends.unpassed_ends(cast(Any, index))][-1] is other
+    assert [given_call.met for given_call in unpassed_ends.unpassed_ends(cast(Any, index))][-1] is other
 
 
 @pytest.mark.parametrize(
@@ -307,12 +307,12 @@ def test_the_failure_before_a_close(change: dict[str, Any], says: bool, monkeypa
         **({"by": by, "before": True, "deep": 0, "outcome": Outcome.TIMED_OUT, "last": 8, "file": False} | change)
     )
     before, other = Made(outcome=case.outcome, last=case.last), Made()
-    monkeypatch.setattr(failing, "is_of_a_file", lambda index, call: case.file)
+    monkeypatch.setattr(failed_calls, "is_of_a_file", lambda index, call: case.file)
     monkeypatch.setattr(
-        failing, "cause_of", lambda index, call, deep: Made(says=["it failed.", f"At {deep}."], chain=[other])
+        failed_calls, "cause_of", lambda index, call, deep: Made(says=["it failed.", f"At {deep}."], chain=[other])
     )
     index = Made(before=lambda call: before if case.before and call is by else None)
-    found = failing.why(cast(Any, index), cast(Any, case.by), case.deep)
+    found = failed_calls.why(cast(Any, index), cast(Any, case.by), case.deep)
     assert found.says == (["Before that, it failed.", f"At {case.deep + 1}."] if says else [])
     assert found.calls == ([before, other] if says else [])
 
@@ -334,7 +334,7 @@ def test_the_failure_before_a_close(change: dict[str, Any], says: bool, monkeypa
 def test_when_a_wait_at_the_same_line_ended(waits: str, step: int, monkeypatch: Patch) -> None:
     every = [
         Made(stack=Stack((line_of(int(line)),), None), last=int(last) if last else None)
-        for line, _, last in (one.partition(":") for one in waits.split())
+        for line, _, last in (word.partition(":") for word in waits.split())
     ]
     other = Made(stack=Stack((line_of(4),), None), last=8)
     of = {Name(1): every, Name(2): [other]}
@@ -368,16 +368,16 @@ def test_a_goroutine_that_ended_after_a_failure(change: dict[str, Any], whose: s
     case = Made(**(usual | change))
     call = Made(goroutine=4, first=6, last=8)
     later = [Made(first=case.later, name=case.name)] if case.later else []
-    monkeypatch.setattr(first, "run_of", lambda recording: Made(by_goroutine={4: [call, *later]}))
-    monkeypatch.setattr(first, "ended_behind", lambda index, one, position: case.ended if position == 20 else None)
-    monkeypatch.setattr(first, "goid_of", lambda recording, name: 7)
-    monkeypatch.setattr(first, "waits_words", lambda wait: "waits")
+    monkeypatch.setattr(first_output, "run_of", lambda recording: Made(by_goroutine={4: [call, *later]}))
+    monkeypatch.setattr(first_output, "ended_after", lambda index, given_call, position: case.ended if position == 20 else None)
+    monkeypatch.setattr(first_output, "goid_of", lambda recording, name: 7)
+    monkeypatch.setattr(first_output, "waits_words", lambda wait: "waits")
     waiters = {
         Name(2): Made(name=Name(2), wait=None), Name(3): Made(name=Name(3), wait=waiting([(5, case.use)]) if case.wait else None),
     }  # fmt: skip
     known = {Name(2): Made(gone=None), Name(3): Made(gone=Name(case.gone) if case.gone else None)}
     recording = Made(lines=Made(uses={case.object: [use_of(case.object, PUT, 1, goid=case.user)]}))
-    found = first.left_by(
+    found = first_output.left_by(
         cast(Any, Made(recording=recording, waiters=waiters, needs=known, position=20)), cast(Any, call)
     )
     says = f"Goroutine 4 ended after that, at step 12; goroutine 3 waits{whose}."

@@ -6,9 +6,9 @@ from typing import Any, NamedTuple, cast
 import pytest
 
 from netrev.findings.evidence import waiters
-from netrev.findings.http import cancels
+from netrev.findings.http import cancellations
 from netrev.findings.locks import mutex_holders
-from netrev.findings.source import left_locked
+from netrev.findings.source import missing_unlocks
 from netrev.recording.goroutines import CLOSED, PUT
 from netrev.recording.waits import Name
 from netrev.recording.where import Stack
@@ -20,8 +20,8 @@ Patch = pytest.MonkeyPatch
 def test_the_last_step_of_the_calls_before_a_step() -> None:
     calls = [Made(last=last) for last in (3, 7, 0, 9)]
     index = cast(Any, Made(by_goroutine={2: calls}))
-    found = [cancels.last_step_before(index, 2, step) for step in (3, 4, 8, 9, 10)] + [
-        cancels.last_step_before(index, 1, 10)
+    found = [cancellations.last_step_before(index, 2, step) for step in (3, 4, 8, 9, 10)] + [
+        cancellations.last_step_before(index, 1, 10)
     ]
     assert found == [0, 3, 7, 7, 9, 0]
 
@@ -36,26 +36,26 @@ def test_the_last_step_of_the_calls_before_a_step() -> None:
 )  # fmt: skip
 def test_a_function_that_a_context_s_end_started(change: dict[str, Any], says: str, monkeypatch: Patch) -> None:
     usual = {
-        "what": CLOSED, "closer": 4, "end": 12, "of": cancels.OF_A_CONTEXT, "limits": True, "function": cancels.AFTER_FUNC, "made": True,
+        "what": CLOSED, "closer": 4, "end": 12, "of": cancellations.OF_A_CONTEXT, "limits": True, "function": cancellations.AFTER_FUNC, "made": True,
     }  # fmt: skip
     case = Made(**(usual | change))
     monkeypatch.setattr(
-        cancels, "contains", lambda stack, function: function == cancels.OF_A_CONTEXT and stack[1] == function
+        cancellations, "contains", lambda stack, function: function == cancellations.OF_A_CONTEXT and stack[1] == function
     )
     monkeypatch.setattr(
-        cancels, "limits_before", lambda recording, begin, least: ["5s"] if case.limits and begin == 20 else []
+        cancellations, "limits_before", lambda recording, begin, least: ["5s"] if case.limits and begin == 20 else []
     )
-    monkeypatch.setattr(cancels, "limit_says", lambda index, limits: f"the timeout of {limits[0]}")
-    monkeypatch.setattr(cancels, "place_in", lambda stack: f" at {stack[0]}")
-    monkeypatch.setattr(cancels, "name_of_goid", lambda lines, goid: Name(goid))
-    monkeypatch.setattr(cancels, "deferred_says", lambda index, cancel: [f"deferred {cancel.use.end}"])
+    monkeypatch.setattr(cancellations, "limit_sentence", lambda index, limits: f"the timeout of {limits[0]}")
+    monkeypatch.setattr(cancellations, "place_in", lambda stack: f" at {stack[0]}")
+    monkeypatch.setattr(cancellations, "name_of_goid", lambda lines, goid: Name(goid))
+    monkeypatch.setattr(cancellations, "deferred_sentence", lambda index, cancel: [f"deferred {cancel.use.end}"])
     uses = [
         Made(what=case.what, goid=case.closer, end=case.end, stack=1), Made(what=CLOSED, goid=4, end=9, stack=2),
     ]  # fmt: skip
     known = Made(made=Made(function=case.function) if case.made else None, maker=4, begin=20, first=30)
     stacks = {1: ("a.go:7", case.of), 2: ("a.go:9", "main.g")}
     lines = Made(goroutines={70: known}, goid_of=lambda goroutine, step: goroutine * 10, uses={5: uses}, stacks=stacks)
-    found = cancels.after_says(cast(Any, Made(recording=Made(lines=lines))), 33, 7)
+    found = cancellations.after_sentence(cast(Any, Made(recording=Made(lines=lines))), 33, 7)
     more = [f"deferred {case.end}"] if "at a.go" in says else []
     assert found == ([f"context.AfterFunc called that as its context ended: {says}", *more] if says else [])
 
@@ -82,12 +82,12 @@ BLOCK = """\
 
 @pytest.mark.parametrize("number, leaves", [(2, True), (10, False), (15, False)])
 def test_a_block_that_ends_with_a_return(number: int, leaves: bool) -> None:
-    assert left_locked.leaves_block(tuple(BLOCK.split("\n")), number) is leaves
+    assert missing_unlocks.leaves_block(tuple(BLOCK.split("\n")), number) is leaves
 
 
 @pytest.mark.parametrize("lines, says", [((4,), " at a.go:4"), ((), "")])
 def test_a_mutex_that_no_goroutine_holds(lines: tuple[int, ...], says: str, monkeypatch: Patch) -> None:
-    monkeypatch.setattr(mutex_holders, "copies_says", lambda recording, call: f" at {call.place()}")
+    monkeypatch.setattr(mutex_holders, "copies_sentence", lambda recording, call: f" at {call.place()}")
     own = Made(_recording=Made(lines=Made(times=[0, mutex_holders.A_MOMENT + 5])))
     wait = Made(begin=5, stack=Stack(tuple(line_of(number) for number in lines), None))
     need = mutex_holders.MutexHolders._of_nobody(cast(Any, own), cast(Any, wait))

@@ -7,7 +7,7 @@ from typing import Any, cast
 import pytest
 
 from netrev.findings.causes import leftovers
-from netrev.findings.evidence import deadlines_ahead, words
+from netrev.findings.evidence import deadlines_ahead, call_words
 from netrev.findings.streams import exchanges, flushes, gone_readers
 from netrev.recording.where import OF_GO, SourceCall, Stack
 
@@ -31,7 +31,7 @@ def test_the_call_whose_deadline_ends_a_wait(place: str, says: str, monkeypatch:
 )  # fmt: skip
 def test_a_wait_in_a_connect(functions: tuple[str, ...], is_connecting: bool) -> None:
     stack = Stack(tuple(SourceCall(function, "a.go", 3, OF_GO) for function in functions), None)
-    assert words.is_connecting(stack) is is_connecting
+    assert call_words.is_connecting(stack) is is_connecting
 
 
 @pytest.mark.parametrize(
@@ -67,7 +67,7 @@ def test_bytes_that_were_never_read_in_a_recording_of_a_part(
 def test_the_first_write_after_a_reader_ended(
     position: int, writes: list[tuple[int, int]], answer: int | None, monkeypatch: Patch
 ) -> None:
-    monkeypatch.setattr(gone_readers, "ended_behind", lambda index, call, until: 7)
+    monkeypatch.setattr(gone_readers, "ended_after", lambda index, call, until: 7)
     monkeypatch.setattr(gone_readers, "is_of_go", lambda recording, call: False)
     read = Made(name="Read", first=3, goroutine=2)
     written = [Made(name="Write", first=first, last=last, moved=4) for first, last in writes]
@@ -125,7 +125,7 @@ def test_a_flush_on_the_way_to_the_next_read(
         for number, line in enumerate(FLUSHED.split("\n"), 1)
     )
     named = Made(flushes=("w.Flush",))
-    monkeypatch.setattr(flushes, "calls_one_of", lambda text, names: any(name in text for name in names))
+    monkeypatch.setattr(flushes, "calls_any_of", lambda text, names: any(name in text for name in names))
     assert flushes.flushes_after(lines, range(1, 25), 3, written, cast(Any, named)) is is_flushed
 
 

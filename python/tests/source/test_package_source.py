@@ -6,9 +6,9 @@ from pathlib import Path
 import pytest
 
 from netrev.findings.handovers.dropped_notices import dropped_notices
-from netrev.findings.pools.closed_later import channels_of
-from netrev.findings.pools.kept_ways import ways_with_an_error
-from netrev.findings.pools.unclosed import closings_of
+from netrev.findings.pools.later_closes import channels_of
+from netrev.findings.pools.leaking_paths import paths_with_an_error
+from netrev.findings.pools.unclosed_channels import closings_of
 from netrev.findings.source.functions import is_inside
 from netrev.findings.source.package import place_of_variable
 from netrev.findings.streams.left_in_buffers import names_of, unflushed_in
@@ -207,7 +207,7 @@ def test_values_that_are_lost_if_nobody_waits(recording: Recording, tmp_path: Pa
     recording.lines.stacks[99] = Stack((at._replace(line=7),), None)
     recording.lines.uses[1] = [ObjectUse(1, 9, PUT, 99, 1, 1, 1, 1, 1)]
     says = dropped_notices(recording, waiting(at))
-    assert [f"{at.file}:{line} puts a value there only if somebody waits" in one for one in says] == [True] * bool(line)
+    assert [f"{at.file}:{line} puts a value there only if somebody waits" in say for say in says] == [True] * bool(line)
     for_both, for_room = (At(1, FOR_VALUE), At(2, FOR_ROOM)), (At(1, FOR_ROOM),)
     assert dropped_notices(recording, waiting(at)._replace(objects=for_both)) == says
     assert not dropped_notices(recording, waiting(at)._replace(objects=for_room))
@@ -224,7 +224,7 @@ def test_a_way_that_returns_an_error_and_keeps_a_seat(
     recording: Recording, tmp_path: Path, nth: int, is_kept: bool
 ) -> None:
     at = call(tmp_path, "hall", "(*hall).enter" if nth == 1 else "(*hall).sit", "h.seats <- struct{}{}", nth)
-    says = ways_with_an_error(recording, waiting(at, FOR_ROOM))
+    says = paths_with_an_error(recording, waiting(at, FOR_ROOM))
     assert says == ([f"Perhaps (*hall).enter keeps it on this way: {at.file}:10 returns without {at.file}:6, which gives it back."] if is_kept else [])  # fmt: skip
 
 

@@ -11,7 +11,7 @@ import pytest
 from netrev.findings.causes import repeated_failures  # fmt: skip
 from netrev.findings.handovers import dropped_requests, ended_givers  # fmt: skip
 from netrev.findings.locks import conditions  # fmt: skip
-from netrev.findings.pools import kept_ways, senders, uncancelled  # fmt: skip
+from netrev.findings.pools import leaking_paths, senders, uncancelled_contexts  # fmt: skip
 from netrev.findings.source import package as package_source  # fmt: skip
 from netrev.recording.goroutines import GoGoroutine
 from netrev.recording.waits import Name, ObjectWait
@@ -55,7 +55,7 @@ CLEARS = "a.go:20 in (*queue).clear should have woken it: it changes items"
 
 def later(says: list[str], lines: int) -> list[str]:
     """Sentences about lines that are further down."""
-    return [re.sub(r":(\d+)", lambda found: f":{int(found[1]) + lines}", one) for one in says]
+    return [re.sub(r":(\d+)", lambda found: f":{int(found[1]) + lines}", say) for say in says]
 
 
 def at(folder: Path, source: str, number: int, function: str = "(*queue).pop") -> tuple[Any, ObjectWait]:
@@ -68,8 +68,8 @@ def at(folder: Path, source: str, number: int, function: str = "(*queue).pop") -
 
 def in_short(folder: Path, says: list[str]) -> list[str]:
     """The sentences without their common parts."""
-    short = [one.replace(f"{folder}/", "").removeprefix("Perhaps ") for one in says]
-    return [one.partition(", which the loop")[0] for one in short]
+    short = [sentence.replace(f"{folder}/", "").removeprefix("Perhaps ") for sentence in says]
+    return [sentence.partition(", which the loop")[0] for sentence in short]
 
 
 @pytest.mark.parametrize(
@@ -171,14 +171,14 @@ def test_a_signal_that_woke_another_goroutine(
 ) -> None:
     recording, wait = at(tmp_path, TABLE.replace(old, new, 1) if old else TABLE, 5, "(*table).get")
     every: dict[str, list[ObjectWait]] = {}
-    for goroutine, _, number in (one.partition(":") for one in waits.split()):
+    for goroutine, _, number in (other_wait.partition(":") for other_wait in waits.split()):
         calls = (wait.stack.calls[0]._replace(line=int(number)),) if number else ()
-        one = wait._replace(name=Name(int(goroutine)), stack=Stack(calls, None))
-        every.setdefault(goroutine, []).append(one)
+        other_wait = wait._replace(name=Name(int(goroutine)), stack=Stack(calls, None))
+        every.setdefault(goroutine, []).append(other_wait)
     every["9"] = [wait._replace(objects=(cast(Any, 3),), stack=Stack((wait.stack.calls[0]._replace(line=2),), None))]
     monkeypatch.setattr(conditions, "waits_of", lambda recording: Made(of=every))
     says = in_short(tmp_path, conditions.mistaken_signal(recording, wait))
-    assert [one.partition(" and Signal wakes only")[0] for one in says] == expected
+    assert [other_wait.partition(" and Signal wakes only")[0] for other_wait in says] == expected
 
 
 SERVE = """\
@@ -205,7 +205,7 @@ GIVINGS = [senders.Giving(7, range(5, 9)), senders.Giving(11, range(3, 13)), sen
 
 
 @pytest.mark.parametrize(
-    "made, passed, number",
+    "start_place, passed, number",
     [
         ("a.go:10", "a.go:15", 16), ("a.go:10", "a.go:16", 0), ("a.go:10", "a.go:15 a.go:17", 0), ("a.go:10", "b.go:15", 0),
         ("a.go:10", "a.go:6", 7), ("a.go:10", "", 0), ("a.go:4", "", 16), ("a.go:9", "", 16), ("b.go:4", "", 0), ("a.go:5", "", 7),
@@ -213,14 +213,14 @@ GIVINGS = [senders.Giving(7, range(5, 9)), senders.Giving(11, range(3, 13)), sen
     ],
 )  # fmt: skip
 def test_the_line_that_a_goroutine_ended_before(
-    tmp_path: Path, made: str, passed: str, number: int, monkeypatch: Patch
+    tmp_path: Path, start_place: str, passed: str, number: int, monkeypatch: Patch
 ) -> None:
     recording, wait = at(tmp_path, SERVE, 4)
     lines = [wait.stack.calls[0]._replace(file=str(tmp_path / file), line=int(line)) for file, _, line in (
-        one.partition(":") for one in (made, *passed.split())
+        place.partition(":") for place in (start_place, *passed.split())
     )]  # fmt: skip
     monkeypatch.setattr(ended_givers, "lines_of", lambda recording: Made(of=lambda goid: set(lines[1:])))
-    givings = [one for one in GIVINGS if one.number != 11]
+    givings = [place for place in GIVINGS if place.number != 11]
     assert ended_givers.upcoming(recording, 8, lines[0], str(tmp_path / "a.go"), givings) == number
     (tmp_path / "b.go").write_text(SERVE, encoding="utf-8")
     assert ended_givers.upcoming(recording, 8, lines[0], str(tmp_path / "a.go"), givings) == number
@@ -228,8 +228,8 @@ def test_the_line_that_a_goroutine_ended_before(
 
 def test_a_literal_isnt_the_function_that_starts_it(tmp_path: Path) -> None:
     recording, wait = at(tmp_path, SERVE, 5)
-    made = wait.stack.calls[0]
-    assert [ended_givers.starts(recording, made, made.file, one) for one in GIVINGS] == [True, False, False]
+    starter = wait.stack.calls[0]
+    assert [ended_givers.starts(recording, starter, starter.file, giving) for giving in GIVINGS] == [True, False, False]
 
 
 @pytest.mark.parametrize(
@@ -241,12 +241,12 @@ def test_a_literal_isnt_the_function_that_starts_it(tmp_path: Path) -> None:
 )  # fmt: skip
 def test_goroutines_that_ended_before_a_line(goroutines: str, expected: list[int], monkeypatch: Patch) -> None:
     recording, known, passed = cast(Any, Made(lines=Made(goroutines={}))), {}, {}
-    for one in goroutines.split():
-        made = None if "unknown" in one else SourceCall("main.main", "a.go", 4, OF_THE_PROGRAM)
-        goid, last = int(one[0]), -1 if "alive" in one else 0
-        known[goid] = GoGoroutine(goid, goid, made, 3 if "mine" in one else 1, 0, last, goid, 0)
+    for word in goroutines.split():
+        starter = None if "unknown" in word else SourceCall("main.main", "a.go", 4, OF_THE_PROGRAM)
+        goid, last = int(word[0]), -1 if "alive" in word else 0
+        known[goid] = GoGoroutine(goid, goid, starter, 3 if "mine" in word else 1, 0, last, goid, 0)
         at_line = SourceCall(
-            "main.f", "b.go" if "other" in one else "a.go", 7 if "passed" in one or "other" in one else 8, ""
+            "main.f", "b.go" if "other" in word else "a.go", 7 if "passed" in word or "other" in word else 8, ""
         )
         passed[goid] = {at_line}
     recording.lines.goroutines = known
@@ -327,8 +327,8 @@ func oneLine() {
 )  # fmt: skip
 def test_the_lines_that_cancel_a_context(line: int, context: str, expected: list[tuple[int, bool]]) -> None:
     lines = tuple(CONTEXT.split("\n"))
-    found = uncancelled.cancels_of(lines, SourceCall("main.f", "a.go", line, OF_THE_PROGRAM), context)
-    assert [(one.number, one.is_deferred) for one in found] == expected
+    found = uncancelled_contexts.cancels_of(lines, SourceCall("main.f", "a.go", line, OF_THE_PROGRAM), context)
+    assert [(cancel.number, cancel.is_deferred) for cancel in found] == expected
 
 
 FETCH = """\
@@ -354,7 +354,7 @@ LOOPED = "It is closed only as fetch returns: the defer at a.go:9 is in a loop."
 )  # fmt: skip
 def test_a_body_that_stays_open(tmp_path: Path, old: str, new: str, expected: list[str]) -> None:
     recording, wait = at(tmp_path, FETCH.replace(old, new) if old else FETCH, 5, "fetch")
-    assert in_short(tmp_path, kept_ways.ways_past_close(recording, [wait.stack])) == expected
+    assert in_short(tmp_path, leaking_paths.paths_past_close(recording, [wait.stack])) == expected
 
 
 BREAK = """\
@@ -390,9 +390,9 @@ def test_calls_that_fail_in_a_loop(
     recording, wait = at(tmp_path, BREAK.replace(old, new) if old else BREAK, line, "run")
     call = wait.stack.calls[0]._replace(of=of)
     recording.lines.of = lambda step: Stack((call,), None)
-    calls = [Made(goroutine=int(one), first=3) for one in goroutines]
-    says = repeated_failures.repeated_says(recording, cast(Any, calls))
-    assert [one.replace(f"{tmp_path}/", "") for one in says] == expected
+    calls = [Made(goroutine=int(goroutine), first=3) for goroutine in goroutines]
+    says = repeated_failures.repeated_sentence(recording, cast(Any, calls))
+    assert [goroutine.replace(f"{tmp_path}/", "") for goroutine in says] == expected
 
 
 def test_a_variable_s_type_is_unknown_without_the_source() -> None:

@@ -27,12 +27,12 @@ class Example(NamedTuple):
         return EXAMPLES / f"{self.name}.{ending}"
 
 
-def example_of(name: str, said: str) -> Example:
+def example_of(name: str, statement: str) -> Example:
     """The example in the row with this name, whose suspects column has this text."""
-    refused = REFUSED_AT.fullmatch(said)
+    refused = REFUSED_AT.fullmatch(statement)
     if refused:
         return Example(name, None, int(refused[1]))
-    return Example(name, None if said == "none" else said, None)
+    return Example(name, None if statement == "none" else statement, None)
 
 
 ALL = tuple(example_of(row[1], row[3]) for row in map(ROW.fullmatch, LIST.read_text().splitlines()) if row)

@@ -104,11 +104,11 @@ def mounted(tool: Tool, size: str) -> pathlib.Path:
 
 def test_a_program_that_becomes_another_one_is_recorded_on(tool: Tool) -> None:
     tool.written(BECOMES)
-    status, said = tool.called("-o", "x", "run", "main.go")
-    assert status == 0, said
-    tool.recorded(said, "x")
-    tool.recorded(said, "x-2")
-    assert "nothing is recorded" not in said
+    status, output = tool.called("-o", "x", "run", "main.go")
+    assert status == 0, output
+    tool.recorded(output, "x")
+    tool.recorded(output, "x-2")
+    assert "nothing is recorded" not in output
 
 
 def test_a_log_that_cannot_be_made_changes_nothing_of_the_program(tool: Tool) -> None:
@@ -122,19 +122,19 @@ def test_a_log_that_cannot_be_made_changes_nothing_of_the_program(tool: Tool) ->
 
 def test_no_program_that_it_starts_has_the_log_open(tool: Tool) -> None:
     tool.written(INHERITS)
-    _, said = tool.called("run", "main.go")
-    tool.recorded(said)
-    assert "/proc/" in said
-    assert "netrev-go-" not in said
+    _, output = tool.called("run", "main.go")
+    tool.recorded(output)
+    assert "/proc/" in output
+    assert "netrev-go-" not in output
 
 
 def test_a_status_of_gos_is_told(tool: Tool) -> None:
     tool.written(ENDS.replace("_, _ = a, b", "_, _ = a, b\n\tpanic(1)"))
-    status, said = tool.called("run", "main.go")
-    assert status == 1, said
-    tool.recorded(said)
-    assert "recording.jsonl -ex continue -ex 'info errors'" in said
-    assert "--explore" not in said
+    status, output = tool.called("run", "main.go")
+    assert status == 1, output
+    tool.recorded(output)
+    assert "recording.jsonl -ex continue -ex 'info errors'" in output
+    assert "--explore" not in output
 
 
 def test_the_log_has_just_the_mutexes_that_are_locked_in_the_end(tool: Tool) -> None:
@@ -146,7 +146,7 @@ def test_the_log_has_just_the_mutexes_that_are_locked_in_the_end(tool: Tool) -> 
         (log,) = (path for path in tool.folder.glob(f"log-{turn}.*") if ".program." not in path.name)
         assert len(list(tool.folder.glob(f"log-{turn}.program.*"))) == 1
         mutex, reading, writing = map(int, run.stdout.split())
-        held = {(one.address, one.is_reader) for one in read_log(log).holders or ()}
+        held = {(holder.address, holder.is_reader) for holder in read_log(log).holders or ()}
         assert held == {(mutex, False), (reading, True), (writing, False)}
 
 
@@ -167,9 +167,9 @@ def test_a_log_without_room_ends_and_the_program_goes_on(tool: Tool) -> None:
 def test_a_full_disk_keeps_the_logs(tool: Tool) -> None:
     mounted(tool, "128k")
     tool.written(MANY)
-    status, said = tool.called("-o", "small/x", "--keep", "--strict", "run", "main.go")
-    assert status == 5, said
-    assert "netrev-go: small/x.jsonl: No space left on device" in said
-    logs = said.rpartition("convert ")[2].partition("`")[0]
+    status, output = tool.called("-o", "small/x", "--keep", "--strict", "run", "main.go")
+    assert status == 5, output
+    assert "netrev-go: small/x.jsonl: No space left on device" in output
+    logs = output.rpartition("convert ")[2].partition("`")[0]
     tool.cleanups.callback(shutil.rmtree, os.path.dirname(logs))
     assert tool.called("-o", "again", "convert", logs)[0] == 0

@@ -142,22 +142,22 @@ def release(tmp_path_factory: pytest.TempPathFactory) -> Planted:
 
 
 def test_the_copy_is_recorded_as_it_is(release: Planted) -> None:
-    status, said = release.called("doctor")
-    assert status == 0, said
-    status, said = release.called("-o", "whole", "run", "main.go")
-    assert status == 0, said
+    status, output = release.called("doctor")
+    assert status == 0, output
+    status, output = release.called("-o", "whole", "run", "main.go")
+    assert status == 0, output
     assert (release.folder / "whole.jsonl").exists()
 
 
 def test_each_planted_change_is_named_and_nothing_is_recorded(release: Planted) -> None:
-    for name, (changes, told) in PLANTED.items():
+    for name, (changes, reports) in PLANTED.items():
         with release.planted(changes):
-            status, said = release.called("doctor")
-            assert status == 1, said
-            assert told in said, name
-            status, said = release.called("-o", "planted", "run", "main.go")
-            assert status == 4, said
-            assert "netrev-go: go1.27.3 can't be recorded " in said, name
+            status, output = release.called("doctor")
+            assert status == 1, output
+            assert reports in output, name
+            status, output = release.called("-o", "planted", "run", "main.go")
+            assert status == 4, output
+            assert "netrev-go: go1.27.3 can't be recorded " in output, name
             assert list(release.folder.glob("planted*")) == [], name
 
 
@@ -167,15 +167,15 @@ def test_what_can_be_done_without_is_left_out_and_named(release: Planted) -> Non
     without = f"without what SendFile writes: {file} sendFile: sendFileChunk(dst, src, ...) occurs there 0 times, not 1"
     elsewhere = f"without the bytes that go there: {file} sendFilePart: syscall.Send..) occurs there too"
     with release.planted(changes):
-        status, said = release.called("-o", "partly", "run", "main.go")
-        assert status == 0, said
-        assert without in said
-        assert elsewhere in said
+        status, output = release.called("-o", "partly", "run", "main.go")
+        assert status == 0, output
+        assert without in output
+        assert elsewhere in output
         assert (release.folder / "partly.jsonl").exists()
         assert without not in release.called("-o", "partly", "run", "main.go")[1]
-        status, said = release.called("doctor")
-        assert status == 0, said
-        assert f"  {without}\n" in said
+        status, output = release.called("doctor")
+        assert status == 0, output
+        assert f"  {without}\n" in output
 
 
 def test_without_the_objects_of_waits_all_else_is_recorded(release: Planted) -> None:
@@ -188,6 +188,6 @@ def test_without_the_objects_of_waits_all_else_is_recorded(release: Planted) -> 
         "0 times, not 1"
     )
     with release.planted(changes):
-        status, said = release.called("doctor")
-        assert status == 0, said
-        assert f"  {without}\n" in said
+        status, output = release.called("doctor")
+        assert status == 0, output
+        assert f"  {without}\n" in output

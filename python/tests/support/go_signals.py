@@ -87,10 +87,10 @@ def test_the_log_is_copied_while_the_program_runs(tool: Signals) -> None:
         read = read_log(copy)
         assert read.notes == [f"the log keeps the newest {POINTS} points of {tool.passed(copy)}"]
         assert len(read.points) > POINTS // 2
-        status, said = tool.called("-o", "copied", "convert", copy.name)
-        assert status == 0, said
-        tool.recorded(said, "copied")
-        assert "it begins in the middle of the run" in said
+        status, output = tool.called("-o", "copied", "convert", copy.name)
+        assert status == 0, output
+        tool.recorded(output, "copied")
+        assert "it begins in the middle of the run" in output
         assert '"file":"main.go"' in (tool.folder / "copied.where").read_text()
     assert len(versions) == 3
     assert process.poll() is None
@@ -135,15 +135,15 @@ def test_on_a_full_disk_the_program_runs_on_and_convert_says_why_there_is_no_cop
     before = tool.passed(log)
     tool.waited(lambda: tool.passed(log) > before + POINTS)
     assert sorted(path.name for path in inside.glob("*snapshot*")) == [failed.name]
-    status, said = tool.called("-o", "none", "convert", str(inside / f"{log.name}.snapshot"))
-    assert "the program couldn't copy its log: No space left on device" in said
+    status, output = tool.called("-o", "none", "convert", str(inside / f"{log.name}.snapshot"))
+    assert "the program couldn't copy its log: No space left on device" in output
     assert status != 0
     filler.unlink()
     process.send_signal(signal.SIGUSR2)
     tool.waited(lambda: log.with_name(log.name + ".snapshot").exists() and not failed.exists())
-    status, said = tool.called("-o", "copied", "convert", str(inside / f"{log.name}.snapshot"))
-    assert status == 0, said
-    tool.recorded(said, "copied")
+    status, output = tool.called("-o", "copied", "convert", str(inside / f"{log.name}.snapshot"))
+    assert status == 0, output
+    tool.recorded(output, "copied")
 
 
 def test_without_room_there_is_no_copy_and_the_program_runs_on(tool: Signals) -> None:

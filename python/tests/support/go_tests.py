@@ -94,9 +94,9 @@ func TestLooks(t *testing.T) {
 """
 
 
-def timeless(said: str) -> list[str]:
+def timeless(output: str) -> list[str]:
     """The output without times."""
-    return re.sub(r"\d+\.\d+s", "", said).splitlines()
+    return re.sub(r"\d+\.\d+s", "", output).splitlines()
 
 
 class Tested(Tool):
@@ -128,22 +128,22 @@ def package(folder: Path, cleanups: ExitStack) -> Tested:
 
 
 def test_of_those_that_fail_there_are_recordings(package: Tested) -> None:
-    status, said = package.called("--json", "a.json", "test", ".")
-    assert (status, package.made()) == (1, ["p.TestParts.part_1.jsonl", "p.TestRed.jsonl"]), said
+    status, output = package.called("--json", "a.json", "test", ".")
+    assert (status, package.made()) == (1, ["p.TestParts.part_1.jsonl", "p.TestRed.jsonl"]), output
     for name in ("TestRed", r"TestParts\.part_1"):
-        package.recorded(said, rf"recordings/p\.{name}")
-    told = {line["test"]: line for line in map(json.loads, (package.folder / "a.json").read_text().splitlines())}
-    assert told["TestGood"]["status"] == "passed"
+        package.recorded(output, rf"recordings/p\.{name}")
+    reports = {line["test"]: line for line in map(json.loads, (package.folder / "a.json").read_text().splitlines())}
+    assert reports["TestGood"]["status"] == "passed"
     line = TESTS[: TESTS.index("t.Error(")].count("\n") + 1
-    assert (told["TestRed"]["file"], told["TestRed"]["line"]) == ("p_test.go", line)
-    assert told["TestParts/part_1"]["status"] == "failed"
+    assert (reports["TestRed"]["file"], reports["TestRed"]["line"]) == ("p_test.go", line)
+    assert reports["TestParts/part_1"]["status"] == "failed"
 
 
 @pytest.mark.parametrize("how", ["panic", "elsewhere", "exit", "hang"])
 def test_however_it_ends_the_test_that_ran_is_kept(package: Tested, how: str) -> None:
     words = ("test", "-run", "Good|Ends", "-timeout", "2s", ".")
-    status, said = package.called("-o", how, *words, HOW=how)
-    assert (status, package.made(how)) == (1, ["p.TestEnds.jsonl"]), said
+    status, output = package.called("-o", how, *words, HOW=how)
+    assert (status, package.made(how)) == (1, ["p.TestEnds.jsonl"]), output
 
 
 def test_the_status_is_gos(package: Tested) -> None:
@@ -180,8 +180,8 @@ def test_json_stays_json(package: Tested) -> None:
         text=True,
         check=False,
     )
-    told = [json.loads(line) for line in run.stdout.splitlines()]
-    assert ("fail", "TestRed") in [(line["Action"], line.get("Test")) for line in told]
+    reports = [json.loads(line) for line in run.stdout.splitlines()]
+    assert ("fail", "TestRed") in [(line["Action"], line.get("Test")) for line in reports]
     assert "FAILED example.org/p TestRed" in run.stderr
 
 
@@ -191,9 +191,9 @@ def test_runs_that_are_the_same_are_linked_once_and_print_what_go_prints(package
         words = ("test", *more, "-v", "-run", "Good|Looks", ".")
         plainly = timeless(package.called(*words)[1])
         (package.folder / "seen").unlink(missing_ok=True)
-        status, said = package.called("--runs", "3", *words)
-        assert status == 0, said
-        assert timeless(said) == plainly * 3 + ["netrev-go: 2 tests, 3 runs; 0 failed"]
+        status, output = package.called("--runs", "3", *words)
+        assert status == 0, output
+        assert timeless(output) == plainly * 3 + ["netrev-go: 2 tests, 3 runs; 0 failed"]
         seen = (package.folder / "seen").read_text().splitlines()
         assert (len(seen), len(set(seen))) == (3, 1)
         assert re.search(r"netrev-link-\w+/made\.\S+ \d+$", seen[0])
@@ -210,7 +210,7 @@ def test_cancelled_it_ends_as_go_does(package: Tested, number: signal.Signals, s
     while process.poll() is None and not here.exists():
         pass
     os.kill(process.pid, number)
-    said, _ = process.communicate(timeout=120)
+    output, _ = process.communicate(timeout=120)
     here.unlink()
-    assert process.returncode == status, said
-    assert package.made(number.name) == ["p.TestEnds.jsonl"], said
+    assert process.returncode == status, output
+    assert package.made(number.name) == ["p.TestEnds.jsonl"], output

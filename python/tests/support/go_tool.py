@@ -17,7 +17,7 @@ import pytest
 
 from dev.recorder.fetching import here
 from netrev.recording.where import SourceLines
-from netrev.system.built import netrev_program
+from netrev.system.program_path import netrev_program
 from netrev_go.go_command import calls_of_go
 from netrev_go.go_command.toolchain import (
     CHANGED,
@@ -130,45 +130,45 @@ def tool(folder: Path, cleanups: ExitStack) -> Tool:
 
 def test_a_program_that_hangs_ends_with_its_line(tool: Tool) -> None:
     tool.written(HANGS)
-    status, said = tool.called("-n", "1", "run", "main.go")
-    assert status == 1, said  # Go's own status: SIGQUIT ended the program
-    tool.recorded(said)
+    status, output = tool.called("-n", "1", "run", "main.go")
+    assert status == 1, output  # Go's own status: SIGQUIT ended the program
+    tool.recorded(output)
     assert re.search(
-        rf"  main\.go:{READ_LINE}: net\.\(\*conn\)\.Read waits to read \(goroutine 0, since step \d+\)", said
+        rf"  main\.go:{READ_LINE}: net\.\(\*conn\)\.Read waits to read \(goroutine 0, since step \d+\)", output
     )
-    assert re.search(r"next: .* recording\.jsonl -ex 'goto \d+' -ex 'calls sock 3'\n", said)
+    assert re.search(r"next: .* recording\.jsonl -ex 'goto \d+' -ex 'calls sock 3'\n", output)
 
 
 def test_a_test_that_hangs_ends_with_its_line(tool: Tool) -> None:
     tool.written(TEST, "p_test.go")
-    status, said = tool.called("-o", "t", "test", ".", "-run", "Hang", "-timeout", "1s")
+    status, output = tool.called("-o", "t", "test", ".", "-run", "Hang", "-timeout", "1s")
     assert status == 1
-    tool.recorded(said, r"t/\S+\.TestHang")
-    assert re.search(rf"  p_test\.go:{READ_LINE + 1}: net\.\(\*conn\)\.Read waits to read", said)
-    assert "vet:" not in said
+    tool.recorded(output, r"t/\S+\.TestHang")
+    assert re.search(rf"  p_test\.go:{READ_LINE + 1}: net\.\(\*conn\)\.Read waits to read", output)
+    assert "vet:" not in output
 
 
 def test_lines_are_told_however_it_was_built(tool: Tool) -> None:
     tool.written(HANGS)
     for flag in (["-ldflags=-s -w"], ["-trimpath"], ["-race"], ["-gcflags=-N"]):
-        _, said = tool.called("-n", "1", "run", *flag, "main.go")
-        tool.recorded(said)
-        assert re.search(rf"main\.go:{READ_LINE}: ", said), flag
+        _, output = tool.called("-n", "1", "run", *flag, "main.go")
+        tool.recorded(output)
+        assert re.search(rf"main\.go:{READ_LINE}: ", output), flag
 
 
 def test_a_program_that_may_lie_anywhere(tool: Tool) -> None:
     tool.written(HANGS)
-    _, said = tool.called("-n", "1", "run", "-buildmode=pie", "main.go")
-    tool.recorded(said)
+    _, output = tool.called("-n", "1", "run", "-buildmode=pie", "main.go")
+    tool.recorded(output)
     release, _ = release_of(find_go().version)
-    assert ("Go reads no lines of it (-buildmode=pie)" if release == "1.19" else f"main.go:{READ_LINE}: ") in said
+    assert ("Go reads no lines of it (-buildmode=pie)" if release == "1.19" else f"main.go:{READ_LINE}: ") in output
 
 
 def test_a_generic_function(tool: Tool) -> None:
     tool.written(GENERIC)
-    _, said = tool.called("-n", "1", "run", "main.go")
-    tool.recorded(said)
-    assert f"main.go:{GENERIC[: GENERIC.index('end.Read')].count(chr(10)) + 1}: " in said
+    _, output = tool.called("-n", "1", "run", "main.go")
+    tool.recorded(output)
+    assert f"main.go:{GENERIC[: GENERIC.index('end.Read')].count(chr(10)) + 1}: " in output
 
 
 def test_a_workspace(tool: Tool) -> None:
@@ -178,32 +178,32 @@ def test_a_workspace(tool: Tool) -> None:
     tool.written("go 1.18\n\nuse (\n\t./mine\n\t./dep\n)\n", "go.work")
     tool.written("package dep\n", "dep/dep.go")
     tool.written(HANGS.replace('"net"\n', '"net"\n\t_ "example.org/dep"\n'), "mine/main.go")
-    _, said = tool.called("-n", "1", "run", "./mine", GO111MODULE="on")
-    tool.recorded(said)
-    assert f"mine/main.go:{READ_LINE + 1}: " in said
+    _, output = tool.called("-n", "1", "run", "./mine", GO111MODULE="on")
+    tool.recorded(output)
+    assert f"mine/main.go:{READ_LINE + 1}: " in output
 
 
 def test_a_release_that_a_module_asks_for(tool: Tool) -> None:
-    asked, other = here("1.27"), next(filter(None, map(here, ("1.26", "1.24", "1.23", "1.22", "1.21"))), None)
-    if not asked or not other:
+    request, other = here("1.27"), next(filter(None, map(here, ("1.26", "1.24", "1.23", "1.22", "1.21"))), None)
+    if not request or not other:
         pytest.skip("neither 1.27 nor another release that looks into go.mod is here")
     tools = tool.folder / "tools"
     tools.mkdir()
-    (tools / "go1.27.3").symlink_to(asked / "go")
+    (tools / "go1.27.3").symlink_to(request / "go")
     tool.written("module example.org/mine\n\ngo 1.21\n\ntoolchain go1.27.3\n", "go.mod")
     tool.written(HANGS)
     settings = {"PATH": f"{other}:{tools}:{os.environ['PATH']}", "GOTOOLCHAIN": "auto", "GO111MODULE": "on"}
     assert "Go: go1.27.3, " in tool.called("doctor", **settings)[1]
-    _, said = tool.called("-n", "1", "run", ".", **settings)
-    tool.recorded(said)
-    assert f"main.go:{READ_LINE}: " in said
+    _, output = tool.called("-n", "1", "run", ".", **settings)
+    tool.recorded(output)
+    assert f"main.go:{READ_LINE}: " in output
 
 
 def test_a_cgo_program(tool: Tool) -> None:
     tool.written(HANGS.replace("import (\n", '// int one(void) { return 1; }\nimport "C"\n\nimport (\n'))
-    _, said = tool.called("-n", "1", "run", "main.go")
-    tool.recorded(said)
-    assert f"main.go:{READ_LINE + 3}: " in said
+    _, output = tool.called("-n", "1", "run", "main.go")
+    tool.recorded(output)
+    assert f"main.go:{READ_LINE + 3}: " in output
 
 
 def test_a_vendored_module(tool: Tool) -> None:
@@ -212,16 +212,16 @@ def test_a_vendored_module(tool: Tool) -> None:
     (tool.folder / "vendor/example.org/dep").mkdir(parents=True)
     tool.written("package dep\n", "vendor/example.org/dep/dep.go")
     tool.written("# example.org/dep v1.0.0\n## explicit; go 1.19\nexample.org/dep\n", "vendor/modules.txt")
-    _, said = tool.called("-n", "1", "run", ".", GO111MODULE="on")
-    tool.recorded(said)
-    assert f"main.go:{READ_LINE + 1}: " in said
+    _, output = tool.called("-n", "1", "run", ".", GO111MODULE="on")
+    tool.recorded(output)
+    assert f"main.go:{READ_LINE + 1}: " in output
 
 
 def test_the_race_detector_sees_no_race_of_ours(tool: Tool) -> None:
     tool.written(RACING)
-    _, said = tool.called("run", "-race", "main.go")
-    tool.recorded(said)
-    assert "DATA RACE" not in said
+    _, output = tool.called("run", "-race", "main.go")
+    tool.recorded(output)
+    assert "DATA RACE" not in output
 
 
 @pytest.mark.parametrize(
@@ -235,22 +235,22 @@ def test_the_race_detector_sees_no_race_of_ours(tool: Tool) -> None:
 )
 def test_whatever_way_it_ends(tool: Tool, body: str, imports: tuple[Any, ...]) -> None:
     tool.written(program(body, *imports))
-    _, said = tool.called("-n", "2", "run", "main.go")
-    tool.recorded(said)
+    _, output = tool.called("-n", "2", "run", "main.go")
+    tool.recorded(output)
 
 
 def test_children_have_recordings_of_their_own(tool: Tool) -> None:
     tool.written(CHILD)
-    _, said = tool.called("-o", "c", "run", "main.go")
-    tool.recorded(said, "c")
-    tool.recorded(said, "c-2")
+    _, output = tool.called("-o", "c", "run", "main.go")
+    tool.recorded(output, "c")
+    tool.recorded(output, "c-2")
 
 
 def test_a_program_that_becomes_another_has_two_recordings(tool: Tool) -> None:
     tool.written(BECOMES)
-    _, said = tool.called("-o", "b", "run", "main.go")
-    tool.recorded(said, "b")
-    tool.recorded(said, "b-2")
+    _, output = tool.called("-o", "b", "run", "main.go")
+    tool.recorded(output, "b")
+    tool.recorded(output, "b-2")
 
 
 def lines_of(tool: Tool, name: str) -> tuple[list[list[object]], SourceLines]:
@@ -259,14 +259,14 @@ def lines_of(tool: Tool, name: str) -> tuple[list[list[object]], SourceLines]:
     return steps, SourceLines.beside(str(tool.folder / f"{name}.jsonl"), len(steps))
 
 
-@pytest.mark.parametrize("made, tells, awaits, imports", TELLS)
+@pytest.mark.parametrize("statement, tells, awaits, imports", TELLS)
 def test_what_the_program_orders_is_recorded(
-    tool: Tool, made: str, tells: str, awaits: str, imports: tuple[Any, ...]
+    tool: Tool, statement: str, tells: str, awaits: str, imports: tuple[Any, ...]
 ) -> None:
-    reads = f"\t{made}\n\tgo func() {{ b.Read(make([]byte, 1)); {tells} }}()"
+    reads = f"\t{statement}\n\tgo func() {{ b.Read(make([]byte, 1)); {tells} }}()"
     tool.written(program(f'{reads}\n\ta.Write([]byte("x"))\n\t{awaits}\n\tb.Close()', *imports))
-    _, said = tool.called("run", "main.go")
-    tool.recorded(said)
+    _, output = tool.called("run", "main.go")
+    tool.recorded(output)
     steps, lines = lines_of(tool, "recording")
     read = max(at for at, step in enumerate(steps, 1) if step[0] == "rwunlock" and step[3] == "r" and step[1])
     closes = max(at for at, step in enumerate(steps, 1) if step[0] == "increfclose")
@@ -275,8 +275,8 @@ def test_what_the_program_orders_is_recorded(
 
 def test_a_machines_own_wake_up_is_no_order(tool: Tool) -> None:
     tool.written(program("\tgo b.Read(make([]byte, 1))\n\ttime.Sleep(5e6)\n\tb.Close()\n\ttime.Sleep(5e6)", "time"))
-    _, said = tool.called("run", "main.go")
-    tool.recorded(said)
+    _, output = tool.called("run", "main.go")
+    tool.recorded(output)
     steps, lines = lines_of(tool, "recording")
     evicts = max(at for at, step in enumerate(steps, 1) if step[0] == "evict")
     assert [pair for pair in lines.orders or [] if pair[0] == evicts] == []
@@ -285,8 +285,8 @@ def test_a_machines_own_wake_up_is_no_order(tool: Tool) -> None:
 
 def test_they_can_be_left_out(tool: Tool) -> None:
     tool.written(ENDS)
-    _, said = tool.called("--no-orders", "run", "main.go")
-    tool.recorded(said)
+    _, output = tool.called("--no-orders", "run", "main.go")
+    tool.recorded(output)
     assert lines_of(tool, "recording")[1].orders is None
 
 
@@ -316,9 +316,9 @@ def test_a_process_that_runs_on(tool: Tool) -> None:
     assert waited(log.exists)
     time.sleep(0.5)
     for words in (("--pid", str(process.pid), "convert"), ("convert", log.name)):
-        status, said = tool.called("-o", "on", *words)
-        tool.recorded(said, "on")
-        assert f"main.go:{READ_LINE}: " in said
+        status, output = tool.called("-o", "on", *words)
+        tool.recorded(output, "on")
+        assert f"main.go:{READ_LINE}: " in output
     assert process.poll() is None
     text = log.read_bytes()
     log.write_bytes(text[: begin_of_ring(text) + 64 * 20 + 5])
@@ -332,17 +332,17 @@ def test_a_signal_makes_a_recording_of_what_is_there(tool: Tool) -> None:
     process = start(tool, str(TOOL), "-o", "s", "-n", "9", "run", "main.go")
     assert waited((tool.folder / "here").exists, 120)
     os.kill(process.pid, signal.SIGUSR1)
-    said, _ = process.communicate(timeout=120)
-    tool.recorded(said, "s-so-far-1")
-    tool.recorded(said, "s")
+    output, _ = process.communicate(timeout=120)
+    tool.recorded(output, "s-so-far-1")
+    tool.recorded(output, "s")
 
 
 def test_two_variables_make_any_go_record(tool: Tool) -> None:
     tool.written(ENDS)
     script = f'eval "$({TOOL} env)"; export NETREV_LOG=$PWD/e; go run main.go; exec {TOOL} convert e.[0-9]*'
     run = start(tool, "sh", "-c", script)
-    said, _ = run.communicate(timeout=120)
-    assert re.search(r"e\.\d+\.jsonl: ok \d+ steps", said)
+    output, _ = run.communicate(timeout=120)
+    assert re.search(r"e\.\d+\.jsonl: ok \d+ steps", output)
 
 
 def tools_without_go(tool: Tool) -> str:
@@ -395,26 +395,26 @@ def test_what_stands_in_the_way_is_said(tool: Tool) -> None:
         (("--pid", "1", "convert"), {}, "process 1"),
         (("convert", "nothing.1"), {}, "it can't be read: No such file or directory"),
     )
-    for words, settings, said in ways:
-        status, told = tool.called(*words, **settings)
-        assert (status == 0) == (said == "no socket was opened"), words
-        assert said in told, words
-        assert "Traceback" not in told, words
+    for words, settings, output in ways:
+        status, reports = tool.called(*words, **settings)
+        assert (status == 0) == (output == "no socket was opened"), words
+        assert output in reports, words
+        assert "Traceback" not in reports, words
 
 
 def test_another_release_is_named_by_function_and_call(tool: Tool) -> None:
-    status, said = fit(tool, {"runtime/netpoll.go": {"gpp.Swap(": "gpp.Exchange("}})
+    status, output = fit(tool, {"runtime/netpoll.go": {"gpp.Swap(": "gpp.Exchange("}})
     assert status == 1
-    unfit = [line for line in said if line.startswith("unfit")]
+    unfit = [line for line in output if line.startswith("unfit")]
     assert unfit == ["unfit runtime/netpoll.go netpollblock: gpp.Swap(...) occurs there 0 times, not 1"]
 
 
 def test_where_the_orders_do_not_fit_all_else_does(tool: Tool) -> None:
-    status, said = fit(
+    status, output = fit(
         tool, {"runtime/chan.go": {"c.recvq.dequeue()": "c.recvq.first()", "chanbuf(c, c.sendx)": "c.at(c.sendx)"}}
     )
     assert status == 0
-    assert [line for line in said if not line.startswith("fits")] == [
+    assert [line for line in output if not line.startswith("fits")] == [
         "without the program's orders: runtime/chan.go chansend: chanbuf(c, c.sendx) occurs there 0 times, not 1"
     ]
     points, folder = points_program(find_go(), tool.folder), tool.folder / "made"
@@ -431,19 +431,19 @@ def test_a_place_where_go_passes_and_no_rule_is_doesnt_fit(tool: Tool) -> None:
     swap = (
         "func (mu *fdMutex) try(old, new uint64) bool { return atomic.CompareAndSwapUint64(&mu.state, old, new) }\n\n"
     )
-    status, said = fit(tool, {"internal/poll/fd_mutex.go": {more: swap + more}})
+    status, output = fit(tool, {"internal/poll/fd_mutex.go": {more: swap + more}})
     assert status == 1
-    assert [line for line in said if line.startswith("unfit")] == [
+    assert [line for line in output if line.startswith("unfit")] == [
         "unfit internal/poll/fd_mutex.go try: atomic.CompareAndSwap..) occurs there too, and no rule covers it"
     ]
 
 
 def test_the_doctor_says_that_all_is_well(tool: Tool) -> None:
-    status, said = tool.called("doctor")
+    status, output = tool.called("doctor")
     assert status == 0
-    for told in ("rules: all fit\n", "compiled: ", "trial: the trial recording is correct: "):
-        assert told in said
-    assert "calls: " not in said
+    for reports in ("rules: all fit\n", "compiled: ", "trial: the trial recording is correct: "):
+        assert reports in output
+    assert "calls: " not in output
 
 
 def test_it_was_tried() -> None:

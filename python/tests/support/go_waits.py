@@ -148,10 +148,10 @@ class Waits(Tool):
         assert {name: len(parks) for name, parks in found.items()} == {name: 1 + (name in TWICE) for name in WAITS}
         for name, (reason, objects) in WAITS.items():
             for park in found[name]:
-                at = [(self.lines.objects[one.object], one.use) for one in park.objects]
+                at = [(self.lines.objects[object.object], object.use) for object in park.objects]
                 described = sorted((of.sort, -1 if reason == where.A_SELECT else of.room, use) for of, use in at)
                 assert (name, park.reason, described) == (name, reason, sorted(objects))
-        numbers = {name: {one.object for park in parks for one in park.objects} for name, parks in found.items()}
+        numbers = {name: {object.object for park in parks for object in park.objects} for name, parks in found.items()}
         assert [len(numbers[name]) for name in TWICE] == [1] * len(TWICE)
         assert numbers["readLocks"] == numbers["writeLocks"]
         assert numbers["receives"] < numbers["selects"]
@@ -169,7 +169,7 @@ class Waits(Tool):
             (timer,) = by_function[name]
             assert timer.due - timer.time == pytest.approx(HOUR, abs=HOUR / 100)
             (park,) = found[name]
-            assert ([one.object for one in park.objects] or [0]) == [timer.object]
+            assert ([object.object for object in park.objects] or [0]) == [timer.object]
             assert timer.goid == park.goid
 
     def look_at_channels(self) -> None:
@@ -186,14 +186,14 @@ class Waits(Tool):
 
     def look_at_makings(self) -> None:
         found = self.parks()
-        made = {
+        makers = {
             name: self.lines.made[found[name][0].objects[0].object] for name in ("receivesOfMade", "receives", "ticks")
         }
-        functions = {name: self.function_of(making.stack) for name, making in made.items()}
+        functions = {name: self.function_of(making.stack) for name, making in makers.items()}
         assert functions == {"receivesOfMade": "makes", "receives": "main", "ticks": "ticks"}
-        assert made["ticks"].goid == found["ticks"][0].goid
-        assert made["receives"].goid == made["receivesOfMade"].goid
-        for making in made.values():
+        assert makers["ticks"].goid == found["ticks"][0].goid
+        assert makers["receives"].goid == makers["receivesOfMade"].goid
+        for making in makers.values():
             assert making.time > 0
 
     def look_at_holders(self) -> None:
@@ -205,13 +205,13 @@ class Waits(Tool):
         (shared,) = {park.objects[0].object for park in found["readLocks"]}
         (read,) = {park.objects[0].object for park in found["pends"]}
         functions = {
-            number: sorted((one.how, self.function_of(one.stack)) for one in rows) for number, rows in held.items()
+            number: sorted((holder.how, self.function_of(holder.stack)) for holder in rows) for number, rows in held.items()
         }
         readers = [(where.READ, "reads"), (where.READ, "reads")]
         assert functions == {at: [("", "main")], shared: [("", "main")], read: [("", "pends"), *readers]}
-        main = {one.goid for rows in held.values() for one in rows if self.function_of(one.stack) != "pends"}
-        assert main == {made.goid for made in self.lines.made.values() if self.function_of(made.stack) == "makes"}
-        assert found["pends"][0].goid in {one.goid for one in held[read]}
+        main = {holder.goid for rows in held.values() for holder in rows if self.function_of(one.stack) != "pends"}
+        assert main == {maker.goid for maker in self.lines.made.values() if self.function_of(maker.stack) == "makes"}
+        assert found["pends"][0].goid in {holder.goid for holder in held[read]}
 
     def look_at_dials(self) -> None:
         dials = [dial for several in self.lines.failed_dials.values() for dial in several]
@@ -227,7 +227,7 @@ class Waits(Tool):
         goids = {
             park.goid for parks in self.lines.parks.values() for park in parks if self.function_of(park.stack) == name
         }
-        return [one for goid in goids if (one := self.lines.goroutines[goid]).end >= 0]
+        return [goroutine for goid in goids if (goroutine := self.lines.goroutines[goid]).end >= 0]
 
 
 @pytest.fixture
@@ -239,8 +239,8 @@ def test_each_release_has_all_waits_and_their_objects(tool: Waits) -> None:
     tool.written(PROGRAM)
     folders = [str(folder) for folder in map(here, SUITES) if folder] or [""]
     for folder in folders:
-        status, said = tool.called("run", "main.go", PATH=f"{folder}:{os.environ['PATH']}", GOTOOLCHAIN="local")
-        assert status == 0, said
+        status, output = tool.called("run", "main.go", PATH=f"{folder}:{os.environ['PATH']}", GOTOOLCHAIN="local")
+        assert status == 0, output
         steps = len((tool.folder / "recording.jsonl").read_text().splitlines()) - 1
         tool.lines = SourceLines.beside(str(tool.folder / "recording.jsonl"), steps)
         tool.look_at_waits()

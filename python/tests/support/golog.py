@@ -10,7 +10,7 @@ from netrev_go.go_command.line_reader import line_reader
 from netrev_go.go_command.toolchain import find_go
 from netrev_go.log.lines import looked_up
 from netrev_go.log.logfile import read_log
-from netrev_go.steps.converting import program_of
+from netrev_go.steps.conversion import program_of
 
 
 def main(path: pathlib.Path) -> None:

@@ -24,7 +24,7 @@ def loaded(name: str, file: Path) -> ModuleType:
 
 loaded("page_rules", SCRIPTS / "page_rules" / "__init__.py")
 PAGES = loaded("pages", SCRIPTS / "pages.py")
-READING = sys.modules["page_rules.reading"]
+READING = sys.modules["page_rules.reading_list"]
 VERDICT = sys.modules["page_rules.verdict"]
 BELIEFS = loaded("beliefs", SCRIPTS / "beliefs.py")
 VERDICTS = loaded("verdicts", SCRIPTS / "verdicts.py")

@@ -15,7 +15,7 @@ from netrev.explore.environment import Environment
 from netrev.explore.failures import _of_socket
 from netrev.explore.goroutine_scripts import GoroutineScript
 from netrev.explore.schedules import Delay, _late_delays
-from netrev.findings.suspects.keeping import KeptReference
+from netrev.findings.suspects.kept_references import KeptReference
 from netrev.recording.notes import By, Hold
 from netrev.reduce import reduced
 from netrev.reduce.reduced import Wanted, wanted_by
@@ -28,8 +28,8 @@ from netrev.timeline.trace import END, write_events
 from netrev_go import cli as recorder
 from netrev_go.steps.analysis import hanging, never_closed
 from nrdb.cli import session_of
-from nrdb.dap.moving import Moves
-from nrdb.dap.view.looking import NETWORK, thread_of
+from nrdb.dap.moves import Moves
+from nrdb.dap.view.presentation import NETWORK, thread_of
 from nrdb.prompt.answers import answer_display
 
 # sockets and goroutines at the end
@@ -98,7 +98,7 @@ def test_parts_that_the_commands_of_a_mark_take_are_not_answered() -> None:
         return part != "last"
 
     own = Made(
-        attached=Made(takes=lambda part: part == "taken", pending=pending), attempt_one=answer, printer=Made(echo=lambda line: None),
+        attached=Made(takes=lambda part: part == "taken", pending=pending), attempt_line=answer, printer=Made(echo=lambda line: None),
         interrupts=Made(check=lambda: None),
     )  # fmt: skip
     assert Session.attempt(cast(Any, own), "taken") and answered == [] and pending
@@ -110,11 +110,11 @@ def test_parts_that_the_commands_of_a_mark_take_are_not_answered() -> None:
 
 @pytest.mark.parametrize("typed, shown", [("", ["clock"]), ("clock", ["clock"]), ("lock 0", ["clock", "lock 0"])])
 def test_display_adds_a_cell_once_and_shows_all(typed: str, shown: list[str]) -> None:
-    told: list[list[str]] = []
+    shown_cells: list[list[str]] = []
     session = Made(displays=["clock"])
-    session.show_displays = lambda: told.append(list(session.displays))
+    session.show_displays = lambda: shown_cells.append(list(session.displays))
     answer_display(cast(Any, session), typed.split())
-    assert told == [shown]
+    assert shown_cells == [shown]
     with pytest.raises(UsageError):
         answer_display(cast(Any, session), ["lock", "0", "1"])
 
@@ -143,7 +143,7 @@ def test_why_a_move_of_an_editor_stops(
     reason: str,
     monkeypatch: pytest.MonkeyPatch,
 ) -> None:
-    monkeypatch.setattr("nrdb.dap.moving.failure_text", " ".join)
+    monkeypatch.setattr("nrdb.dap.moves.failure_text", " ".join)
     own = Made(
         _marks=Made(reason=lambda number: f"mark {number}"), _go_lines=Made(at=lambda position: lines), _filters=Made(at=lambda position: wrong),
         _session=Made(breaks=Made(hit=lambda position: breaks)), _end_or=lambda reason, move: Made(reason=f"end or {reason}"),
@@ -213,7 +213,7 @@ def test_bytes_that_no_event_has_reported(is_open: bool, tag: int, sides: str, f
 
 
 @pytest.mark.parametrize(
-    "kind, answer, sort, told, is_brief, cause, ends_unread",
+    "kind, answer, sort, event, is_brief, cause, ends_unread",
     [
         ("blockarm", ("code", 0), OperationType.WAIT, None, True, None, False), ("blockarm", ("code", 0), OperationType.WAIT, 4, True, None, False),
         ("blockarm", ("code", 0), OperationType.WAIT, 5, False, 5, False), ("blockarm", ("wait",), OperationType.WAIT, 5, False, None, False),
@@ -226,12 +226,12 @@ def test_what_ended_a_wait(
     kind: str,
     answer: tuple[Any, ...],
     sort: OperationType,
-    told: Optional[int],
+    event: Optional[int],
     is_brief: bool,
     cause: Optional[int],
     ends_unread: bool,
 ) -> None:
-    script = GoroutineScript(cast(Any, None), {}, {(8, "r"): told} if told else {})
+    script = GoroutineScript(cast(Any, None), {}, {(8, "r"): event} if event else {})
     script.operations = [Operation(sort, 3, 8, "r", steps=[5])]
     script._extend(cast(Any, Made(kind=kind, number=6, answer=answer)))
     (operation,) = script.operations
@@ -240,12 +240,12 @@ def test_what_ended_a_wait(
 
 
 @pytest.mark.parametrize(
-    "asked, is_open, sorts",
+    "sizes, is_open, sorts",
     [({}, True, ["RESET", "WAIT", "UNLOCK"]), ({3: 7}, True, ["RESET", "READ", "UNLOCK"]), ({}, False, ["UNLOCK"])],
 )
-def test_what_a_lock_that_failed_would_have_led_to(asked: dict[int, int], is_open: bool, sorts: list[str]) -> None:
+def test_what_a_lock_that_failed_would_have_led_to(sizes: dict[int, int], is_open: bool, sorts: list[str]) -> None:
     uses = [Made(socket=9), Made(socket=3)] if is_open else []
-    script = GoroutineScript(cast(Any, Made(uses=uses, socket_of=lambda event: 3)), asked, {})
+    script = GoroutineScript(cast(Any, Made(uses=uses, socket_of=lambda event: 3)), sizes, {})
     script._rwlock(cast(Any, Made(kind="rwlock", number=6, arguments=(1, 3, "r"), answer=("no",))))
     supposed = [operation for operation in script.operations if not operation.steps]
     assert [operation.sort.name for operation in supposed] == sorts
@@ -295,7 +295,7 @@ def wanted(words: str) -> Wanted:
     session = Made(
         text=lambda: Made(length=9),
         changes=lambda: changes,
-        stands=lambda: Made(position=4),
+        current_position=lambda: Made(position=4),
         words_of=lambda cell, shown: f"{cell} shows {shown}",
     )
     return wanted_by(cast(Any, session), words.split())
@@ -401,8 +401,8 @@ def test_a_session_without_a_file_has_no_recording() -> None:
         batch=True,
         json=False,
     )
-    made = session_of(cast(Any, given), cast(Any, None), cast(Any, None), cast(Any, Made(note=print)))
-    assert (made.recording, made.path, made.program) == (None, "", "netrev")
+    session = session_of(cast(Any, given), cast(Any, None), cast(Any, None), cast(Any, Made(note=print)))
+    assert (session.recording, session.path, session.program) == (None, "", "netrev")
 
 
 @pytest.mark.parametrize(
@@ -427,14 +427,14 @@ def test_bytes_that_come_or_go_as_there_is_room(
 
 
 @pytest.mark.parametrize(
-    "told, every, in_vain, due",
+    "arrivals, every, in_vain, due",
     [
         ([8], [7, 12], [7], 8), ([], [12], [], 20), ([8], [], [], 20), ([8, 11], [12], [], 20), ([8, 13], [12], [], 8), ([6, 8], [12], [7], 8),
         ([7, 8], [12], [7], 8), ([8], [12], [9], 20), ([8], [12], [8], 20), ([10, 13], [12], [], 20), ([8, 9], [12], [], 8),
     ],
 )  # fmt: skip
-def test_when_what_came_is_due(told: list[int], every: list[int], in_vain: list[int], due: int) -> None:
-    events = [Made(number=number, arguments=(0, 1, "r")) for number in told] + [Made(number=9, arguments=(0, 1, "w"))]
+def test_when_what_came_is_due(arrivals: list[int], every: list[int], in_vain: list[int], due: int) -> None:
+    events = [Made(number=number, arguments=(0, 1, "r")) for number in arrivals] + [Made(number=9, arguments=(0, 1, "w"))]
     item = Made(due=20, event=Made(number=10, kind="arrive"))
     found = scripts._due(cast(Any, item), cast(Any, events), cast(Any, Made(all=every, in_vain=in_vain)))
     assert found == (20 if due == 20 else due - scripts.JUST_BEFORE)

@@ -5,7 +5,7 @@ from typing import Any, NamedTuple
 
 import pytest
 
-from netrev.findings.suspects.found import HANGS, STILL_THERE, TIMED_OUT, Suspect, Weight
+from netrev.findings.suspects.suspect import HANGS, STILL_THERE, TIMED_OUT, Suspect, Weight
 from netrev.findings.suspects.ranking import suspects_of
 from netrev.findings.suspects.rules_of_calls.left_open import SINCE
 from netrev.run.changes import changes_of
@@ -138,7 +138,7 @@ LIMITS: dict[str, tuple[Steps, str]] = {
 
 @pytest.mark.parametrize("steps, rule", LIMITS.values(), ids=LIMITS)
 def test_a_limit_is_what_it_allows(steps: Steps, rule: str) -> None:
-    assert [one.rule for one in shown(recording_of(OPEN + steps))] == ([rule] if rule else [])
+    assert [suspect.rule for suspect in shown(recording_of(OPEN + steps))] == ([rule] if rule else [])
 
 
 # Steps that are nearly a bug: by another goroutine, at another descriptor or side, in another order, or in an earlier
@@ -203,7 +203,7 @@ NEAR: dict[str, tuple[Steps, str]] = {
 
 @pytest.mark.parametrize("steps, rule", NEAR.values(), ids=NEAR)
 def test_what_is_nearly_a_bug_is_none(steps: Steps, rule: str) -> None:
-    assert [one.rule for one in shown(recording_of(OPEN + steps))] == ([rule] if rule else [])
+    assert [suspect.rule for suspect in shown(recording_of(OPEN + steps))] == ([rule] if rule else [])
 
 
 class Row(NamedTuple):
@@ -276,8 +276,8 @@ WEIGHTS: dict[str, Row] = {
 @pytest.mark.parametrize("steps, weight, says", WEIGHTS.values(), ids=WEIGHTS)
 def test_a_weight_says_what_came_of_it(steps: Steps, weight: int, says: str) -> None:
     found: list[Suspect] = suspects_of(recording_of(OPEN + steps)).suspects
-    assert [(one.weight, says in one.sentence()) for one in found] == [(weight, True)], [
-        one.sentence() for one in found
+    assert [(suspect.weight, says in suspect.sentence()) for suspect in found] == [(weight, True)], [
+        suspect.sentence() for suspect in found
     ]
     assert ("ends with that timeout" in found[0].sentence()) == ("ends with that timeout" in says)
 
@@ -317,10 +317,10 @@ WHOLE: dict[str, Whole] = {
 @pytest.mark.parametrize("rule", PAIRS)
 def test_a_suspect_says_where_to_look(rule: str) -> None:
     recording = recording_of(PAIRS[rule].bad)
-    (one,) = suspects_of(recording).suspects
-    evidence = [f"{position} {cell} = {value}" for position, cell, value in one.evidence]
-    assert WHOLE[rule] == (one.step, one.weight, one.subject[1:], evidence, one.looks, one.steps)
-    assert all(changes_of(recording).value(cell, at) == value for at, cell, value in one.evidence if value is not None)
+    (suspect,) = suspects_of(recording).suspects
+    evidence = [f"{position} {cell} = {value}" for position, cell, value in suspect.evidence]
+    assert WHOLE[rule] == (suspect.step, suspect.weight, suspect.subject[1:], evidence, suspect.looks, suspect.steps)
+    assert all(changes_of(recording).value(cell, at) == value for at, cell, value in suspect.evidence if value is not None)
 
 
 # ---- the rules of calls

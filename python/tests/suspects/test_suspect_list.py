@@ -8,9 +8,9 @@ from typing import Iterable, Optional, Union
 import pytest
 
 from dev.fuzz.generators.injections import Bug, Traffic
-from netrev.findings.suspects.found import Suspect
+from netrev.findings.suspects.suspect import Suspect
 from netrev.findings.suspects.ranking import suspects_of
-from netrev.findings.suspects.reckoned import by_the_notes
+from netrev.findings.suspects.computed_facts import by_the_notes
 from netrev.machine.observer import Observer
 from netrev.model.suspects import HUNTS, suspects
 from netrev.recording.notes import By
@@ -18,7 +18,7 @@ from netrev.recording.recording import Recording
 from netrev.recording.suspect_list import HeldReference, LostWakeUp, OfDeadline, SuspectEntries, SuspectList
 from netrev.run.notes import Notes
 from netrev.system.interrupts import Interrupts, SearchInterruptedError
-from netrev.text.writing import write_plain
+from netrev.text.writer import write_plain
 from tests.machine.test_suspect_lines import random_recording, random_waits
 from tests.support.examples import ALL, REFUSED
 
@@ -153,7 +153,7 @@ def found(recording: Recording, is_listed: bool = True) -> list[Suspect]:
 
 def told(suspects: list[Suspect]) -> list[tuple[object, ...]]:
     """The text of suspects, without netrev's lines."""
-    return [(one.weight, one.sentence(), one.looks, one.steps, one.evidence, *one.subject) for one in suspects]
+    return [(suspect.weight, suspect.sentence(), suspect.looks, suspect.steps, suspect.evidence, *suspect.subject) for suspect in suspects]
 
 
 SHUT: Steps = [["incref", 1, 0], ["increfclose", 0, 0], ["evict", 0, 0], ["decref", 0, 0]]
@@ -189,7 +189,7 @@ LISTED = {
 @pytest.mark.parametrize("rule", LISTED)
 def test_a_suspect_has_netrev_s_lines(rule: str) -> None:
     recording, lines = recording_of(LISTED[rule][0]), LISTED[rule][1]
-    assert [(one.rule, one.listed) for one in found(recording)] == [(rule, lines)]
+    assert [(suspect.rule, suspect.listed) for suspect in found(recording)] == [(rule, lines)]
     assert told(found(recording)) == told(found(recording, is_listed=False))
 
 
@@ -204,11 +204,11 @@ def test_the_list_says_what_set_a_deadline_and_what_moved_since() -> None:
 
 def test_a_deadline_that_was_set_in_the_past_and_taken_back_is_found_and_not_listed() -> None:
     recording = recording_of(PAIRS["deadline taken back too soon"].bad)
-    assert [(one.rule, one.listed) for one in found(recording)] == [("deadline taken back too soon", [])]
+    assert [(suspect.rule, suspect.listed) for suspect in found(recording)] == [("deadline taken back too soon", [])]
 
 
 def test_a_reference_of_an_open_socket_has_no_line() -> None:
-    assert [one.listed for one in found(recording_of(PAIRS["leaked reference"].bad))] == [[]]
+    assert [suspect.listed for suspect in found(recording_of(PAIRS["leaked reference"].bad))] == [[]]
 
 
 NOT_THROWN_AWAY = {
@@ -255,9 +255,9 @@ def test_a_goroutine_that_has_read_since_is_doubtful() -> None:
     """A read that gets fewer bytes than it asks for isn't an EAGAIN, so netrev lists the wait after it; but nothing is unread."""
     steps = PAIRS["lost wake-up"].good
     assert len(Reading(recording_of(steps)).lines) == 1 and found(recording_of(steps)) == []
-    assert [one.rule for one in found(recording_of([*steps[:3], ["arrive", 0, "00" * 16], *steps[4:]]))] == []
+    assert [suspect.rule for suspect in found(recording_of([*steps[:3], ["arrive", 0, "00" * 16], *steps[4:]]))] == []
     more = [*steps[:3], ["arrive", 0, "00" * 16], *steps[4:7], ["sysread", 1, 0, 15], *steps[8:]]
-    assert [(one.rule, one.step) for one in found(recording_of(more))] == [("lost wake-up", 7)]
+    assert [(suspect.rule, suspect.step) for suspect in found(recording_of(more))] == [("lost wake-up", 7)]
 
 
 def test_none_is_lost_behind_a_try_of_another_goroutine() -> None:
@@ -269,10 +269,10 @@ def test_none_is_lost_behind_a_try_of_another_goroutine() -> None:
 def test_bytes_that_came_after_the_event_have_none_of_their_own() -> None:
     """The lost wake-up isn't the event that the goroutine is missing: no event came for these bytes."""
     steps = OPEN + COMES[1:] + PARK[:2] + PARK + COMES[:1] + WHILE
-    assert [one.rule for one in found(recording_of(steps))] == ["no event", "lost wake-up"]
+    assert [suspect.rule for suspect in found(recording_of(steps))] == ["no event", "lost wake-up"]
 
 
-@pytest.mark.parametrize("example", [one for one in ALL if one.name not in REFUSED], ids=lambda one: one.name)
+@pytest.mark.parametrize("example", [suspect for suspect in ALL if suspect.name not in REFUSED], ids=lambda suspect: suspect.name)
 def test_examples_have_the_same_suspects(example: "object") -> None:
     recording = Recording.read(str(example.path))  # type: ignore[attr-defined]
     assert told(found(recording)) == told(found(recording, is_listed=False))
@@ -303,7 +303,7 @@ def test_random_recordings_have_the_same_facts_by_the_notes() -> None:
 
 def without_lines(facts: Iterable[Union[LostWakeUp, OfDeadline]]) -> list[str]:
     """Facts without netrev's lines, sorted."""
-    return sorted(repr(one._replace(line="")) for one in facts)
+    return sorted(repr(suspect._replace(line="")) for suspect in facts)
 
 
 def test_a_close_that_goes_on_has_a_line_and_is_no_suspect() -> None:

@@ -8,21 +8,21 @@ from netrev.timeline.calls import packed
 KINDS = {1: "B", 2: "H", 4: "I", 8: "d"}
 
 
-def read_back(told: object, count: int) -> list[int]:
+def read_back(column: object, count: int) -> list[int]:
     """The numbers of a column, as the page's script reads them."""
-    if not isinstance(told, list):
-        assert isinstance(told, int)
-        return [told] * count
-    wide, text = told
-    return [int(one) for one in struct.unpack(f"<{count}{KINDS[wide]}", b64decode(text))]
+    if not isinstance(column, list):
+        assert isinstance(column, int)
+        return [column] * count
+    wide, text = column
+    return [int(number) for number in struct.unpack(f"<{count}{KINDS[wide]}", b64decode(text))]
 
 
 def test_each_width_holds_its_greatest_number() -> None:
     for most, wide in ((255, 1), (256, 2), (65_535, 2), (65_536, 4), (2**32 - 1, 4), (2**32, 8), (2**53, 8)):
         column = [most, 0, 1, most - 1]
-        told = packed(column)
-        assert told[0] == wide
-        assert read_back(told, len(column)) == column
+        column_text = packed(column)
+        assert column_text[0] == wide
+        assert read_back(column_text, len(column)) == column
 
 
 def test_one_value_stands_once() -> None:

@@ -11,9 +11,9 @@ from netrev.model.program import replay
 from netrev.model.session import recording_of
 from netrev.recording.recording import Recording
 from netrev.system.interrupts import Interrupts
-from netrev.text.writing import write_plain
+from netrev.text.writer import write_plain
 from netrev.timeline.cell_runs import QUEUES, Window, runs_of, value_at
-from tests.support.modelled import Modelled, changes_in
+from tests.support.model_sessions import Modelled, changes_in
 
 SEEDS, STEPS = range(12), 150
 
@@ -21,16 +21,16 @@ SEEDS, STEPS = range(12), 150
 def shown(world: World) -> dict[str, str]:
     """The values of all cells and queues of a state."""
     cells = {name: str(value(world, name)) for name in CELLS_OF_ALL}
-    for shows, made in ((SHOWS_GOROUTINE, world.goroutines), (SHOWS_SOCKET, world.sockets), (SHOWS_DESC, world.descs)):
-        cells |= {f"{name} {at}": str(value(world, name, at)) for at in range(len(made)) for name in shows}
+    for shows, objects in ((SHOWS_GOROUTINE, world.goroutines), (SHOWS_SOCKET, world.sockets), (SHOWS_DESC, world.descs)):
+        cells |= {f"{name} {at}": str(value(world, name, at)) for at in range(len(objects)) for name in shows}
     return cells | {f"{name} {at}": dumped(world, name, at) for at in range(len(world.sockets)) for name in QUEUES}
 
 
 def test_runs_are_what_the_model_shows() -> None:
     queued = 0
     for seed in SEEDS:
-        made, _ = Author(random.Random(f"runs-{seed}")).recording(STEPS)
-        text = write_plain(made)
+        steps, _ = Author(random.Random(f"runs-{seed}")).recording(STEPS)
+        text = write_plain(steps)
         replayed = replay(text, Observer())
         model = recording_of(replayed.text.steps, replayed.worlds)
         scout, changes = Scout(lambda: Modelled(model, Interrupts(), lambda _: None)), changes_in(text)

@@ -20,11 +20,11 @@ from netrev.machine.steps import apply
 from netrev.recording.changes import RecordedChanges
 from netrev.recording.recording import Recording
 from netrev.run.index import run_of
-from netrev.text.writing import write_plain
-from netrev.timeline.events_beside import beside
+from netrev.text.writer import write_plain
+from netrev.timeline.other_trace_events import beside
 from netrev.timeline.searched_cells import DEADLINES_AND_CLOCK, STATUSES, searched
 from netrev.timeline.trace import AT_ONCE, Tracing, packed, together, write_events
-from tests.support.modelled import changes_in
+from tests.support.model_sessions import changes_in
 
 pytestmark = pytest.mark.together
 
@@ -54,7 +54,7 @@ def slices_of(events: list[Event]) -> dict[tuple[int, int], list[Event]]:
         if event["ph"] == "X":
             threads.setdefault((event["pid"], event["tid"]), []).append(event)
     for slices in threads.values():
-        slices.sort(key=lambda one: (one["ts"], -one["dur"]))
+        slices.sort(key=lambda item: (item["ts"], -item["dur"]))
     return threads
 
 
@@ -64,12 +64,12 @@ def faults_of(events: list[Event]) -> list[str]:
     threads = slices_of(events)
     for slices in threads.values():
         ends: list[int] = []
-        for one in slices:
-            while ends and ends[-1] <= one["ts"]:
+        for slice in slices:
+            while ends and ends[-1] <= slice["ts"]:
                 ends.pop()
-            if one["dur"] < 1 or (ends and one["ts"] + one["dur"] > ends[-1]):
-                faults.append(f"neither within nor behind: {one}")
-            ends.append(one["ts"] + one["dur"])
+            if slice["dur"] < 1 or (ends and slice["ts"] + slice["dur"] > ends[-1]):
+                faults.append(f"neither within nor behind: {slice}")
+            ends.append(slice["ts"] + slice["dur"])
     flows: dict[int, list[Event]] = {}
     for event in events:
         if event["ph"] in "sf":
@@ -118,10 +118,10 @@ def test_has_the_form_and_the_statuses_of_the_model() -> None:
         recording, worlds = Author(random.Random(f"trace-{seed}")).recording(200)
         events = traced(Recording(write_plain(recording)))
         assert faults_of(events) == []
-        told = statuses_of(events, len(recording.steps))
+        reports = statuses_of(events, len(recording.steps))
         for position, world in enumerate(worlds):
             busy = {g: status for g, status in enumerate(world.goroutines) if status[0] not in ("idle", "gone")}
-            assert told[position] == {g: " ".join(map(str, status)) for g, status in busy.items()}
+            assert reports[position] == {g: " ".join(map(str, status)) for g, status in busy.items()}
 
 
 def test_of_examples_and_traffic() -> None:
@@ -202,12 +202,12 @@ def test_calls_deadlines_the_clock_and_suspects_are_there() -> None:
             }
             assert len(values) == 1
             assert (one["name"] == "has passed") == values.pop().startswith("-")
-        told = [event for event in events if event["ph"] == "i"]
+        reports = [event for event in events if event["ph"] == "i"]
         found = [suspect for suspect in all_suspects_of(recording).suspects if suspect.is_shown]
         for suspect in found:
-            names = {item["ts"]: item["name"] for item in told if item["args"]["says"] == suspect.sentence()}
+            names = {item["ts"]: item["name"] for item in reports if item["args"]["says"] == suspect.sentence()}
             assert sorted({suspect.step, *suspect.steps}) == sorted(names)
-        assert told, path.stem
+        assert reports, path.stem
 
 
 def test_the_first_line_of_each_piece_is_found_too() -> None:
@@ -234,4 +234,4 @@ def test_a_trace_is_compressed_if_its_name_says_so(name: str, is_packed: bool, t
 def test_events_are_written_in_groups(length: int, groups: list[int]) -> None:
     events = [str(number) for number in range(length)]
     found = list(together(iter(events)))
-    assert [len(group) for group in found] == groups and [one for group in found for one in group] == events
+    assert [len(group) for group in found] == groups and [item for group in found for item in group] == events

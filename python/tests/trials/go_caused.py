@@ -19,10 +19,10 @@ from netrev_go.go_command.line_reader import line_reader
 from netrev_go.go_command.toolchain import Go, find_go
 from netrev_go.log.lines import SourceRoots, lines_of
 from netrev_go.log.logfile import read_log
-from netrev_go.steps.converting import everybody_of, program_of
-from netrev_go.steps.making import make, write
+from netrev_go.steps.conversion import everybody_of, program_of
+from netrev_go.steps.recording_builder import make, write
 from netrev_go.steps.where import write_where
-from netrev_go.trying import ready
+from netrev_go.release_check import ready
 
 SOURCE, OVERSIGHTS, ROOTS, TURNS, GONE, SKIPS, JOINS, SIZES, SOURCES, HANDS, CHAINS = (
     SAMPLES / name / "main.go"
@@ -93,14 +93,14 @@ def recorded(go: Go, program: pathlib.Path, words: list[str], name: pathlib.Path
         run = subprocess.run([program, *words], env=os.environ | settings, capture_output=True, check=False)
         log = next(path for path in pathlib.Path(folder).iterdir() if ".program" not in path.name)
         read = read_log(log)
-        made = make(read, all_bytes=False)
+        recording = make(read, all_bytes=False)
         roots = SourceRoots(go.sources(), pathlib.Path.cwd())
-        used = set(made.stacks) | made.everybody.stacks()
+        used = set(recording.stacks) | recording.everybody.stacks()
         calls = lines_of(read, used, program_of(log, read.program), line_reader(go), roots)
-    write(made, name)
-    more = [{"bytes": made.bytes}] if made.bytes else []
-    everybody = everybody_of(made, made.everybody, calls)
-    write_where(name.with_suffix(".where"), made.stacks, calls, made.orders, made.beside, more, made.times, everybody)
+    write(recording, name)
+    more = [{"bytes": recording.bytes}] if recording.bytes else []
+    everybody = everybody_of(recording, recording.everybody, calls)
+    write_where(name.with_suffix(".where"), recording.stacks, calls, recording.orders, recording.beside, more, recording.times, everybody)
     return run.returncode
 
 
@@ -110,7 +110,7 @@ def of_one(go: Go, program: pathlib.Path, name: str, folder: pathlib.Path) -> tu
     bad, good = (folder / f"{name}-{kind}.jsonl" for kind in ("bad", "good"))
     ended = recorded(go, program, [name, "bad"], bad), recorded(go, program, [name, "good"], good)
     is_named = bug_line(name) in "\n".join(first_words(Recording.read(str(bad)), name))
-    of_good = [one for one in all_suspects_of(Recording.read(str(good))).suspects if one.is_shown]
+    of_good = [suspect for suspect in all_suspects_of(Recording.read(str(good))).suspects if suspect.is_shown]
     print(
         f"{name}: ended with {ended}; {'named' if is_named else 'missing'}; good: {len(of_good)} suspects", flush=True
     )
@@ -125,8 +125,8 @@ def main(folder: pathlib.Path) -> int:
             program = pathlib.Path(built) / source.parent.name
             build(go, source, program)
             os.chdir(source.parent)
-            came = [of_one(go, program, name, folder) for name in names]
-            missing, suspected = (sum(not is_named for is_named, _ in came), sum(count for _, count in came))
+            reply = [of_one(go, program, name, folder) for name in names]
+            missing, suspected = (sum(not is_named for is_named, _ in reply), sum(count for _, count in reply))
             status |= suspected > 0 or missing > 1
     return status
 

@@ -16,7 +16,7 @@ from dataclasses import dataclass
 from pathlib import Path
 
 from dev.recorder.fetching import commands_of
-from netrev.system.built import netrev_program
+from netrev.system.program_path import netrev_program
 from netrev_go.steps.analysis import check
 from tests.support.go_stand_in import wait_until
 from tests.support.go_tool import TOOL, program

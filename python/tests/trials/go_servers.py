@@ -198,16 +198,16 @@ def old_sockets(name: pathlib.Path) -> set[int]:
     return set(range(sum(opened)))
 
 
-def faults(server: Server, came: Came, name: pathlib.Path, options: argparse.Namespace) -> list[str]:
+def faults(server: Server, reply: Came, name: pathlib.Path, options: argparse.Namespace) -> list[str]:
     """The differences from the expected result."""
     found = []
-    if not re.search(r"\.jsonl: ok \d+ steps", came.printed):
+    if not re.search(r"\.jsonl: ok \d+ steps", reply.printed):
         return ["netrev doesn't accept the recording"]
-    if came.points <= options.points:
+    if reply.points <= options.points:
         found.append("no point was lost")
     wanted = [words.format(line=bug_line(server)) if "{" in words else words for words in server.printed]
-    found += [f"{words!r} isn't printed" for words in wanted if words not in came.printed]
-    named = {int(number) for number in re.findall(r"socket (\d+)", came.printed)}
+    found += [f"{words!r} isn't printed" for words in wanted if words not in reply.printed]
+    named = {int(number) for number in re.findall(r"socket (\d+)", reply.printed)}
     if server.has_old_socket and not named & old_sockets(name):
         found.append("no socket is named that was open before")
     return found
@@ -234,15 +234,15 @@ def main(words: list[str]) -> int:
                 own = pathlib.Path(tempfile.mkdtemp(dir=place))
                 folder.chmod(0o755)
                 with database(own) as settings:
-                    came = ran(server, program, options, kept / name, settings)
+                    reply = ran(server, program, options, kept / name, settings)
             else:
-                came = ran(server, program, options, kept / name, {})
-            (kept / f"{name}.txt").write_text(came.printed)
-            wrong = faults(server, came, kept / name, options)
-            steps = re.search(r"ok (\d+ steps; .*)", came.printed)
+                reply = ran(server, program, options, kept / name, {})
+            (kept / f"{name}.txt").write_text(reply.printed)
+            wrong = faults(server, reply, kept / name, options)
+            steps = re.search(r"ok (\d+ steps; .*)", reply.printed)
             print(
-                f"{name}: {'; '.join(wrong) or 'named'}; {options.seconds} s, {came.points} points, {came.megabytes} MB; "
-                f"{steps[1] if steps else came.printed}",
+                f"{name}: {'; '.join(wrong) or 'named'}; {options.seconds} s, {reply.points} points, {reply.megabytes} MB; "
+                f"{steps[1] if steps else reply.printed}",
                 flush=True,
             )
             status |= bool(wrong)

@@ -22,13 +22,13 @@ from dataclasses import dataclass, field
 from pathlib import Path
 from typing import Iterator
 
-from netrev.system.built import netrev_program
+from netrev.system.program_path import netrev_program
 from netrev_go.go_command.running import places
 from netrev_go.go_command.toolchain import Go, overlay, quiet_go
 from netrev_go.log.logfile import NotALogError, copy_of, log_of
 from netrev_go.steps.analysis import check
 from netrev_go.steps.compare import by_the_model, differing
-from netrev_go.steps.making import NewRecording, NothingRecordedError, UnconvertibleError, make, write, write_words
+from netrev_go.steps.recording_builder import NewRecording, NothingRecordedError, UnconvertibleError, make, write, write_words
 
 from .go_untouched import go_of
 
@@ -125,28 +125,28 @@ def compared(copy: bytes, name: Path, netrev: str) -> tuple[NewRecording | None,
     write(recording, name)
     write_words(recording, name.with_suffix(".words"))
     if not netrev:
-        good, said = by_the_model(name)
-        return recording, "" if good else said
-    good, said = check(netrev, name)
+        good, output = by_the_model(name)
+        return recording, "" if good else output
+    good, output = check(netrev, name)
     differ = differing(netrev, name)[1] if good else []
-    return recording, said if not good else "; ".join(differ[:1])
+    return recording, output if not good else "; ".join(differ[:1])
 
 
 def tried(
     program: Path, words: tuple[str, ...], processors: int, points: int, count: int, chance: random.Random, netrev: str
 ) -> Came:
     """Snapshots of one program."""
-    came = Came()
+    outcome = Came()
     with running(program, words, processors, points) as log:
         found = list(copies(log, count, points, chance))
     for copy in found:
         recording, wrong = compared(copy, program.parent / "snapshot.jsonl", netrev)
         if recording:
-            came.add(recording, wrong)
+            outcome.add(recording, wrong)
         else:
-            came.made += 1
-            came.wrong.append(wrong)
-    return came
+            outcome.made += 1
+            outcome.wrong.append(wrong)
+    return outcome
 
 
 def main(words: list[str]) -> int:
@@ -168,11 +168,11 @@ def main(words: list[str]) -> int:
                 program = Path(folder, name)
                 build(go_of(release), source, program)
                 for processors in PROCESSORS:
-                    came = tried(program, given, processors, options.points, options.each, chance, netrev)
-                    print(f"{release} {name} GOMAXPROCS={processors}: {came.line()}", flush=True)
-                    for wrong in came.wrong[:3]:
+                    reply = tried(program, given, processors, options.points, options.each, chance, netrev)
+                    print(f"{release} {name} GOMAXPROCS={processors}: {reply.line()}", flush=True)
+                    for wrong in reply.wrong[:3]:
                         print(f"  {wrong}", flush=True)
-                    status = status or bool(came.wrong)
+                    status = status or bool(reply.wrong)
     return int(status)
 
 

@@ -14,7 +14,7 @@ import pytest
 
 from nrdb.web.document import document
 from nrdb.web.requests import Gate
-from nrdb.web.serving import Server, UnavailableError, listening
+from nrdb.web.page_server import Server, UnavailableError, listening
 from nrdb.web.streams import Streams
 from tests.support.stubs import raising
 from tests.support.web_client import LOOPBACK, Address, Listener
@@ -32,25 +32,25 @@ class Written:
         self.parts: list[tuple[int, int]] = []
         self.is_gone = False
 
-    def post(self, who: str, line: str) -> None:
+    def post(self, user: str, line: str) -> None:
         if self.is_gone:
             raise UnavailableError("netrev has ended")
-        self.lines.append((who, line))
+        self.lines.append((user, line))
 
     def complete(self, line: str) -> "Future[bytes]":
         if self.is_gone:
             raise UnavailableError("netrev has ended")
-        made: Future[bytes] = Future()
-        made.set_result(json.dumps([line, f"{line}!"]).encode("ascii"))
-        return made
+        future: Future[bytes] = Future()
+        future.set_result(json.dumps([line, f"{line}!"]).encode("ascii"))
+        return future
 
     def timeline(self) -> "Future[bytes]":
-        made: Future[bytes] = Future()
+        future: Future[bytes] = Future()
         if self.is_gone:
-            made.set_exception(UnavailableError("netrev has ended"))
+            future.set_exception(UnavailableError("netrev has ended"))
         else:
-            made.set_result(DATA)
-        return made
+            future.set_result(DATA)
+        return future
 
     def part(self, first: int, last: int) -> "Future[bytes]":
         if last > 100:
@@ -318,7 +318,7 @@ def test_a_body_of_100_mb(served: Served) -> None:
 def test_who_is_slow_is_ended(monkeypatch: pytest.MonkeyPatch, served: Served) -> None:
     whole = served.address.request("POST", "/line", b"stepi")
     with monkeypatch.context() as patch:
-        patch.setattr("nrdb.web.wire.IN_TIME", 0.2)
+        patch.setattr("nrdb.web.http_connection.IN_TIME", 0.2)
         for part in (b"GET", whole[:-7], whole[:-1]):
             assert served.address.send(part).status == 408
         with served.address.connect() as connection:
@@ -345,7 +345,7 @@ def test_a_socket_that_cannot_listen_is_closed(monkeypatch: pytest.MonkeyPatch, 
 
     monkeypatch.setattr(Failing, "bind", lambda *_: None)
     monkeypatch.setattr(Failing, call, raising(error))
-    monkeypatch.setattr("nrdb.web.serving.socket.socket", Failing)
+    monkeypatch.setattr("nrdb.web.page_server.socket.socket", Failing)
     with pytest.raises(OSError, match=str(error.args[-1])):
         listening(7)
     assert len(closed) == 1

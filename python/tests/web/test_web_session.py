@@ -17,14 +17,14 @@ from netrev.messages.browsers import NO_COMMANDS, NO_FILES, NO_QUIT
 from netrev.recording.recording import Recording
 from netrev.session.session import Session
 from netrev.system.interrupts import Interrupts
-from netrev.timeline.picture import MOST, STAGES
+from netrev.timeline.page_contents import MOST, STAGES
 from nrdb.prompt.answers import ANSWERS
-from nrdb.web.painting import MOST_WAITING as MOST_PICTURES
-from nrdb.web.painting import Painter
-from nrdb.web.running import MOST_WAITING, Running
-from nrdb.web.serving import UnavailableError
-from nrdb.web.shared import OutputSender, Shared
-from tests.support.modelled import Modelled, changes_at, recording_at
+from nrdb.web.painter import MOST_WAITING as MOST_PICTURES
+from nrdb.web.painter import Painter
+from nrdb.web.page_session import MOST_WAITING, Running
+from nrdb.web.page_server import UnavailableError
+from nrdb.web.shared_session import OutputSender, Shared
+from tests.support.model_sessions import Modelled, changes_at, recording_at
 
 EXAMPLES = Path(__file__).resolve().parents[3] / "examples"
 FIRST, OTHER = EXAMPLES / "first.jsonl", EXAMPLES / "lost-wakeup.jsonl"
@@ -60,7 +60,7 @@ class Page:
     """The session of the page, over a model of netrev."""
 
     def __init__(self, monkeypatch: pytest.MonkeyPatch) -> None:
-        monkeypatch.setattr("nrdb.web.running.EVERY", 0.0)
+        monkeypatch.setattr("nrdb.web.page_session.EVERY", 0.0)
         self.streams, self.interrupts = Streams(), Interrupts()
         self.netrev = self.modelled()
         scout = Scout(self.modelled)
@@ -80,9 +80,9 @@ class Page:
     def refused(self, _: Printer) -> Netrev:
         raise ConnectionRefusedError(111, "Connection refused")
 
-    def types(self, line: str, who: str = "browser 1") -> list[dict[str, Any]]:
+    def types(self, line: str, user: str = "browser 1") -> list[dict[str, Any]]:
         """The events that a line causes."""
-        self.running.post(who, line)
+        self.running.post(user, line)
         self.running.turn()
         return self.streams.take()
 
@@ -116,8 +116,8 @@ def test_a_line_is_told_with_who_moved_to_where(web: Page) -> None:
     assert events[0] == {"event": "line", "who": "browser 1", "line": "stepi 6"}
     assert events[1] == {"event": "said", "of": "reply", "lines": ["at 6"]}
     moved = {"event": "moved", "who": "browser 1", "line": "stepi 6", "from": 0, "to": 6}
-    stands = {"event": "stands", "position": 6, "steps": 10, "direction": "forward"}
-    assert events[2:4] == [moved, stands]
+    current_position = {"event": "stands", "position": 6, "steps": 10, "direction": "forward"}
+    assert events[2:4] == [moved, current_position]
     assert events[4]["of"] == "place"
     assert events[-1] == {"event": "answered", "who": "browser 1", "line": "stepi 6"}
 

@@ -13,7 +13,7 @@ import pytest
 
 from nrdb.web.document import document
 from nrdb.web.requests import Gate
-from nrdb.web.serving import MOST_CONNECTIONS, Server, listening
+from nrdb.web.page_server import MOST_CONNECTIONS, Server, listening
 from nrdb.web.streams import MOST_STREAMS, Streams
 from tests.support.web_client import Address, Listener, rest_of
 
@@ -38,7 +38,7 @@ def test_a_hundred_lines_of_the_page(served: Served) -> None:
 
 
 def test_a_hundred_who_say_nothing(monkeypatch: pytest.MonkeyPatch, served: Served) -> None:
-    monkeypatch.setattr("nrdb.web.wire.IN_TIME", 600)  # so that none ends by itself
+    monkeypatch.setattr("nrdb.web.http_connection.IN_TIME", 600)  # so that none ends by itself
     with ExitStack() as stack:
         silent = [stack.enter_context(served.address.connect()) for _ in range(HUNDRED)]
         served.expect_that_it_goes_on()
@@ -47,7 +47,7 @@ def test_a_hundred_who_say_nothing(monkeypatch: pytest.MonkeyPatch, served: Serv
 
 
 def test_one_that_was_answered_makes_room_at_once(monkeypatch: pytest.MonkeyPatch, served: Served) -> None:
-    monkeypatch.setattr("nrdb.web.wire.IN_TIME", 600)
+    monkeypatch.setattr("nrdb.web.http_connection.IN_TIME", 600)
     with ExitStack() as stack:
         for _ in range(HUNDRED):
             stack.enter_context(served.address.connect())
@@ -77,20 +77,20 @@ def test_the_guide_says_how_many() -> None:
 
 
 def test_all_are_told_the_same_and_who_is_here(served: Served) -> None:
-    with Listener(served.address) as one:
+    with Listener(served.address) as item:
         served.streams.tell("said", lines=["at 1"])
         served.streams.tell("stands", position=1)
         served.streams.tell("stands", position=2)
-        one.until(lambda event: event.get("position") == 2)
+        item.until(lambda event: event.get("position") == 2)
         with Listener(served.address) as other:
-            assert [one.you["number"], other.you["number"], one.you["recording"]] == [1, 2, "first.jsonl"]
+            assert [item.you["number"], other.you["number"], item.you["recording"]] == [1, 2, "first.jsonl"]
             assert other.named("browsers")["here"] == ["browser 1", "browser 2"]
             events = [event["event"] for event in other.events]
             assert events == ["you", "said", "stands", "browsers"]  # only the last state
             assert other.events[2]["position"] == 2
             served.streams.tell("moved", who="browser 1")
-            assert one.named("moved") == other.named("moved")
-        assert one.until(lambda event: event.get("here") == ["browser 1"])["event"] == "browsers"
+            assert item.named("moved") == other.named("moved")
+        assert item.until(lambda event: event.get("here") == ["browser 1"])["event"] == "browsers"
 
 
 def test_texts_of_others_are_written_out(served: Served) -> None:
@@ -107,7 +107,7 @@ def test_who_doesnt_read_is_ended_and_holds_nobody(monkeypatch: pytest.MonkeyPat
         listener.until(lambda event: event.get("here") == ["browser 1", "browser 2"])
         with monkeypatch.context() as patch:
             patch.setattr("nrdb.web.streams.WAITING_BYTES", 2**20)
-            patch.setattr("nrdb.web.wire.IN_TIME", 2)
+            patch.setattr("nrdb.web.http_connection.IN_TIME", 2)
             for number in range(60):
                 served.streams.tell("said", lines=["x" * 200_000], number=number)
                 assert listener.named("said")["number"] == number
@@ -125,7 +125,7 @@ def test_a_browser_that_is_gone_is_found_out(served: Served) -> None:
 def test_a_listener_that_is_sent_pulses_alone_does_not_wait_for_ever(
     monkeypatch: pytest.MonkeyPatch, served: Served
 ) -> None:
-    monkeypatch.setattr("nrdb.web.serving.PULSE", 0.01)
+    monkeypatch.setattr("nrdb.web.page_server.PULSE", 0.01)
     with Listener(served.address) as listener:
         monkeypatch.setattr("tests.support.web_client.PATIENCE", 0.1)
         with pytest.raises(TimeoutError):

@@ -3,6 +3,6 @@
 import os
 
 if "NETREV_CALLED" in os.environ:
-    from mutating.called import note_process
+    from mutating.recorded_calls import note_process
 
     note_process(os.environ["NETREV_CALLED"])

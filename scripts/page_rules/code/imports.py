@@ -76,20 +76,20 @@ def imports(tree: Tree) -> Iterator[Finding]:
     if not rows:
         yield Finding(PAGE, 1, f"no table under {HEADING!r}")
         return
-    met = set[Row]()
+    seen = set[Row]()
     for path in tree.matching("python/*/*.py"):
         own = _row_of(rows, path.removeprefix(PYTHON))
         if own is None:
             if not path.endswith("/__init__.py"):
                 yield Finding(path, 1, f"the table of {PAGE} has no row for it")
             continue
-        met.add(own)
+        seen.add(own)
         for line, other in sorted(set(imported(tree, path))):
             row = _row_of(rows, other)
             if row is not None and rows.index(row) > rows.index(own):
                 yield Finding(path, line, f"imports {other}, and {row.name} is below {own.name} in {PAGE}")
     for row in rows:
-        if row not in met:
+        if row not in seen:
             yield Finding(PAGE, row.line, f"{row.name} contains no module")
     folders = Counter(str(PurePosixPath(path).parent) for path in tree.matching("python/*.py", "scripts/*.py"))
     for folder, count in folders.items():

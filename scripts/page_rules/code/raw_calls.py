@@ -88,17 +88,17 @@ def _count(call: str, line: str) -> int:
 
 def _made(tree: Tree) -> dict[str, Counter[tuple[str, str]]]:
     """For each file, the functions that make each call, and how often."""
-    made: dict[str, Counter[tuple[str, str]]] = {call: Counter() for call in CALLS}
+    calls_by_name: dict[str, Counter[tuple[str, str]]] = {call: Counter() for call in CALLS}
     for crate in verdict.below(tree, verdict.PROGRAM):
         for path in tree.matching(f"crates/{crate}/src/*.rt"):
             for function, line in lines_by_function(without_comments(tree.text(path))):
-                for call, functions in made.items():
+                for call, functions in calls_by_name.items():
                     if count := _count(call, line):
                         functions[path, function] += count
-    return made
+    return calls_by_name
 
 
-def _by_eye(tree: Tree, made: dict[str, Counter[tuple[str, str]]]) -> Iterator[Finding]:
+def _by_eye(tree: Tree, calls_by_name: dict[str, Counter[tuple[str, str]]]) -> Iterator[Finding]:
     """Code that must be reviewed by hand but is missing from TRUSTED's table, and rows of the table that need no review."""
     text = tree.text(PAGE)
     if HEADING not in text:
@@ -106,7 +106,7 @@ def _by_eye(tree: Tree, made: dict[str, Counter[tuple[str, str]]]) -> Iterator[F
     rows = set(ROW.findall(text.partition(HEADING)[2].partition("\n## ")[0]))
     wanted = {
         path if path in FILES else function
-        for functions in made.values()
+        for functions in calls_by_name.values()
         for path, function in functions
         if function not in HELD
     }
@@ -123,8 +123,8 @@ def _by_eye(tree: Tree, made: dict[str, Counter[tuple[str, str]]]) -> Iterator[F
 
 def raw_calls(tree: Tree) -> Iterator[Finding]:
     """Calls that bypass the logs, calls that a function makes more or less often than listed, and differences from TRUSTED's table."""
-    made = _made(tree)
-    for call, functions in made.items():
+    calls_by_name = _made(tree)
+    for call, functions in calls_by_name.items():
         wanted = CALLS[call]
         counted: Counter[str] = Counter()
         for (path, function), count in functions.items():
@@ -139,4 +139,4 @@ def raw_calls(tree: Tree) -> Iterator[Finding]:
             for function, count in wanted.items():
                 if counted[function] < count:
                     yield Finding(PAGE, 1, f"{call} stands {counted[function]} times in {function}, and not {count}")
-    yield from _by_eye(tree, made)
+    yield from _by_eye(tree, calls_by_name)

@@ -3,7 +3,7 @@
 import random
 import re
 
-from netrev.text.reading import LONGEST_LINE, RANGES
+from netrev.text.parser import LONGEST_LINE, RANGES
 
 from .texts import BLANKS, NO_ANSWERS, NUMBERS, PIECES, TEXTS
 

@@ -9,7 +9,7 @@ import sys
 from enum import Enum
 from typing import Any, Callable, NamedTuple, Optional
 
-from netrev.findings.suspects.found import Suspect
+from netrev.findings.suspects.suspect import Suspect
 from netrev.findings.suspects.ranking import suspects_of
 from netrev.recording.recording import Recording
 from netrev.text.contents import Limits

@@ -15,9 +15,9 @@ from typing import Any
 
 from netrev.machine.in_place import Machine
 from netrev.text.contents import Limits, Step
-from netrev.text.reading import read_text
+from netrev.text.parser import read_text
 from netrev_go.log.points import Log, Point, PointKind
-from netrev_go.steps.making import NewRecording, NothingRecordedError, make
+from netrev_go.steps.recording_builder import NewRecording, NothingRecordedError, make
 
 from .small_runtime import AGAIN, BROKEN_PIPE, MODES, NIL, NO_ERROR, OTHER, READY, WAIT, Descriptor, Runtime, Turns
 
@@ -391,8 +391,8 @@ def wrong_by(seed: str, folder: Path, netrev: str) -> str:
     def check(recording: NewRecording) -> str:
         path = folder / "made.jsonl"
         path.write_bytes(text_of(recording))
-        ran = subprocess.run([netrev, "check", path], stdout=subprocess.PIPE, check=False)
-        return "" if ran.stdout == f"ok {len(recording.lines)} steps\n".encode() else f"netrev says {ran.stdout!r}"
+        process = subprocess.run([netrev, "check", path], stdout=subprocess.PIPE, check=False)
+        return "" if process.stdout == f"ok {len(recording.lines)} steps\n".encode() else f"netrev says {process.stdout!r}"
 
     is_asked = random.Random(f"{seed} netrev").random() < ASKED
     return wrong_with(program_of(seed), check) if is_asked else wrong_with(program_of(seed))

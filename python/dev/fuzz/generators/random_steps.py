@@ -9,7 +9,7 @@ from netrev.machine.machine import IDLE, StepRefusedError, World
 from netrev.machine.steps import apply
 from netrev.run.flow import ASLEEP, step_by_status
 from netrev.text.contents import GREATEST_TIME, Answer, Contents, Limits, Step
-from netrev.text.reading import ARGUMENTS, KINDS, RANGES
+from netrev.text.parser import ARGUMENTS, KINDS, RANGES
 from netrev.text.vocabulary import COUNTED_ANSWERS, KINDS as OF_NRDB, PLAIN_ANSWERS, VERSIONS
 
 OF_IDLE = {

@@ -6,9 +6,9 @@ import re
 from itertools import chain
 
 from netrev.text.contents import Contents
-from netrev.text.reading import ARGUMENTS, KINDS, MOST_DIGITS, RANGES
+from netrev.text.parser import ARGUMENTS, KINDS, MOST_DIGITS, RANGES
 from netrev.text.vocabulary import COUNTED_ANSWERS, PLAIN_ANSWERS, VERSIONS
-from netrev.text.writing import header_of, write_plain
+from netrev.text.writer import header_of, write_plain
 
 BLANKS = [b"", b"  ", b"\t", b"\r", b" \t \r"]
 PIECES = """[ ] { } , : " \\ 0 1 -0 1.0 1e0 -1 1e999 true false null "r" "rw" [] {} "spawn" "exit" ["spawn"] ["exit",0]

@@ -9,7 +9,7 @@ from typing import Any, Callable, Iterable, Mapping, Optional, Sequence
 from netrev.machine.cells import look
 from netrev.machine.machine import World
 from netrev.model.session import ModelSession
-from netrev.recording.words import LockWord, in_words
+from netrev.recording.cell_meanings import LockWord, in_words
 from netrev.text.contents import Step
 from netrev.text.vocabulary import CELLS, Of, cell_of
 

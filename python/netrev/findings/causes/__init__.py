@@ -4,8 +4,8 @@ the steps on which it rests."""
 
 from netrev.findings.hangs.wait_graph import graph_at
 
-from .failing import causes_of
-from .first import first_words, opening_words, root_sentence
+from .failed_calls import causes_of
+from .first_output import first_words, opening_words, root_sentence
 from .tables import errors_table, hangs_table, requests_table
 
 __all__ = [

@@ -5,14 +5,14 @@ from typing import Hashable
 
 from netrev.findings.evidence.past_tense import in_the_past
 from netrev.findings.finding import Cause, with_others
-from netrev.findings.hangs.chains import chain_says
+from netrev.findings.hangs.chains import chain_sentence
 from netrev.findings.http.ended_contexts import of_a_handler
 from netrev.findings.http.requests import CancelledRequest, cancelled_requests
-from netrev.findings.streams.unaccepted import unaccepted
+from netrev.findings.streams.unaccepted_connections import unaccepted
 from netrev.recording.recording import Recording
 from netrev.run.index import RunIndex, run_of
 
-from .failing import served_says
+from .failed_calls import served_sentence
 
 
 def requests_that_ended(recording: Recording, is_late: bool) -> list[Cause]:
@@ -29,16 +29,16 @@ def of_request(recording: Recording, ended: CancelledRequest) -> Cause:
     """The cause for a request that ended because its context ended."""
     steps, looks = [ended.request.last, ended.step], [f"goto {ended.step}", f"calls sock {ended.request.socket}"]
     index = run_of(recording)
-    served = served_says(index, ended.closed, ended.closed.first) or unserved_says(index, ended)
+    served = served_sentence(index, ended.closed, ended.closed.first) or unserved_sentence(index, ended)
     handler = [] if ended.is_late else of_a_handler(recording, ended.request.goid)
     return Cause(ended.closed, [*ended.says(recording), *handler, *served], steps, looks)
 
 
-def unserved_says(index: RunIndex, ended: CancelledRequest) -> list[str]:
+def unserved_sentence(index: RunIndex, ended: CancelledRequest) -> list[str]:
     """Sentences about a request on a connection that no goroutine had accepted. The sentences say what the goroutine
     that should have accepted the connection did instead."""
     step = ended.closed.first
     reads = (call for call in index.by_socket[ended.request.socket] if call.name == "Read" and call.first < step)
     read = next((candidate for candidate in reads if not 0 < candidate.last < step), None)
     need = unaccepted(index, read, step) if read else None
-    return [in_the_past(line) for line in [*need.says, *chain_says(index, read, need, step)]] if read and need else []
+    return [in_the_past(line) for line in [*need.says, *chain_sentence(index, read, need, step)]] if read and need else []

@@ -7,7 +7,7 @@ from typing import Iterator, NamedTuple, Optional
 from netrev.findings.datagrams.cut_datagrams import causes_of_cuts
 from netrev.findings.evidence.responses import SERVE, contains
 from netrev.findings.evidence.sizes import are_known, moved_at, size_of
-from netrev.findings.evidence.words import is_of_go, place_of_step, result_words, text_of_call, waits_words
+from netrev.findings.evidence.call_words import is_of_go, place_of_step, result_words, text_of_call, waits_words
 from netrev.findings.finding import Cause
 from netrev.findings.pools.given_up_waits import given_up_waits
 from netrev.findings.streams.exchanges import is_cut
@@ -20,7 +20,7 @@ from netrev.recording.where import OF_THE_PROGRAM
 from netrev.run.index import MOVING, RunIndex, run_of, went_well
 from netrev.text.plurals import counted
 
-from .failing import cause_of
+from .failed_calls import cause_of
 
 
 FAREWELL = "crypto/tls.(*Conn).closeNotify"  # an alert that the other end needn't read

@@ -4,8 +4,8 @@ from collections import defaultdict
 from typing import Optional
 
 from netrev.connection.output import Row, Table
-from netrev.findings.evidence.words import is_by_go, place_in
-from netrev.findings.hangs.hang_words import hang_looks, hang_says, tree_lines
+from netrev.findings.evidence.call_words import is_by_go, place_in
+from netrev.findings.hangs.hang_words import hang_queries, hang_sentences, tree_lines
 from netrev.findings.hangs.wait_graph import Hang, WaitGraph, graph_at
 from netrev.findings.http.requests import CancelledRequest, ClientRequests, cancelled_requests, requests_of
 from netrev.recording.call import Call
@@ -15,7 +15,7 @@ from netrev.run.index import run_of
 from netrev.text.plurals import counted
 from netrev.views.calls import call_row
 
-from .failing import cause_of
+from .failed_calls import cause_of
 
 
 def errors_table(recording: Recording, position: int, most: Optional[int]) -> Table:
@@ -71,7 +71,7 @@ def hangs_table(recording: Recording, position: int) -> Table:
 
 def rows_of(graph: WaitGraph, hang: Hang) -> list[Row]:
     """The rows of a hang: its sentences, the goroutines that wait for its goroutine, and the line to type next."""
-    root, (first, *rest), tree, looks = hang.root, hang_says(graph, hang), tree_lines(graph, hang), hang_looks(hang)
+    root, (first, *rest), tree, looks = hang.root, hang_sentences(graph, hang), tree_lines(graph, hang), hang_queries(hang)
     values = {
         **root.name.values,
         "call": root.call and root.call.name,

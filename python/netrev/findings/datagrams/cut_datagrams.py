@@ -7,19 +7,19 @@ from functools import lru_cache
 from operator import attrgetter
 from typing import Iterator, NamedTuple
 
-from netrev.findings.evidence.asked import read_sizes_of
+from netrev.findings.evidence.read_sizes import read_sizes_of
 from netrev.findings.evidence.sizes import size_of
-from netrev.findings.evidence.words import text_of_call
+from netrev.findings.evidence.call_words import text_of_call
 from netrev.findings.finding import Cause
 from netrev.findings.source.functions import found_in, text_at
-from netrev.findings.streams.flushes import ways_without_an_answer
-from netrev.findings.streams.unaccepted import is_datagram
+from netrev.findings.streams.flushes import paths_without_answer
+from netrev.findings.streams.unaccepted_connections import is_datagram
 from netrev.recording.call import Call
 from netrev.recording.where import Stack
 from netrev.run.index import RunIndex
 from netrev.text.plurals import counted
 
-from .unheard import is_same, sent_at
+from .undelivered_datagrams import is_same, sent_at
 
 
 INTO = re.compile(r"\.Read\w*\((\w+)")
@@ -107,7 +107,7 @@ def cause_of(index: RunIndex, pair: CutDatagram, others: int) -> Cause:
     return Cause(pair.read, [*pair.says(index), *more], [pair.write.first, pair.read.first], looks)
 
 
-def cut_says(index: RunIndex, call: Call, position: int) -> list[str]:
+def cut_sentence(index: RunIndex, call: Call, position: int) -> list[str]:
     """Sentences about a Read that waits for a datagram. If the last datagram that the Read's goroutine sent was
     truncated, the sentences say so, and say what the receiver did next. Otherwise they say so if the last datagram that
     the goroutine received was truncated."""
@@ -119,7 +119,7 @@ def cut_says(index: RunIndex, call: Call, position: int) -> list[str]:
     following = next((own_call for own_call in own if own_call.first > pair.read.last), None)
     says = pair.says(index)
     if following and following.name == "Read" and following.socket == pair.read.socket:
-        ways = ways_without_an_answer(
+        ways = paths_without_answer(
             index.recording, index.recording.lines.of(pair.read.first), writes_of(index, pair.read)
         )
         says.append(

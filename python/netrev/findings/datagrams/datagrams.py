@@ -3,10 +3,10 @@ looks for the only Read on another socket that got as many bytes."""
 
 from typing import Optional
 
-from netrev.findings.evidence.asked import read_sizes_of
-from netrev.findings.evidence.words import text_of_call
+from netrev.findings.evidence.read_sizes import read_sizes_of
+from netrev.findings.evidence.call_words import text_of_call
 from netrev.findings.streams.exchanges import FEWEST
-from netrev.findings.streams.unaccepted import is_datagram
+from netrev.findings.streams.unaccepted_connections import is_datagram
 from netrev.recording.call import Call
 from netrev.run.index import RunIndex, back
 

@@ -1,7 +1,7 @@
 """Datagram sockets on which several goroutines read. Each goroutine gets whatever datagram comes next, even if it was
 meant for another goroutine."""
 
-from netrev.findings.streams.unaccepted import is_datagram
+from netrev.findings.streams.unaccepted_connections import is_datagram
 from netrev.recording.call import Call
 from netrev.recording.waits import Name, of_names
 from netrev.run.index import RunIndex
@@ -9,7 +9,7 @@ from netrev.run.index import RunIndex
 MOST = 6
 
 
-def shared_says(index: RunIndex, call: Call) -> list[str]:
+def shared_sentence(index: RunIndex, call: Call) -> list[str]:
     """Sentences about a Read on a datagram socket, if several goroutines read and write there, so that each waits for
     an answer of its own."""
     if not is_datagram(index, call.socket):

@@ -6,10 +6,10 @@ from typing import NamedTuple, Optional
 
 from netrev.recording.call import Call
 from netrev.recording.recording import Recording
-from netrev.recording.words import duration
+from netrev.recording.cell_meanings import duration
 from netrev.run.index import READING, RunIndex
 
-from .words import name_of, place_of_step
+from .call_words import name_of, place_of_step
 
 
 class DeadlineSetting(NamedTuple):
@@ -52,7 +52,7 @@ def until_words(index: RunIndex, call: Call) -> str:
     return f"until the deadline of the {name_of(index.recording, call)}{at} passes"
 
 
-def setting_says(index: RunIndex, setting: DeadlineSetting) -> str:
+def setting_sentence(index: RunIndex, setting: DeadlineSetting) -> str:
     """A sentence that names the line that set a deadline, and the time until the deadline."""
     at = place_of_step(index.recording, setting.step, setting.goroutine)
     return f"Its deadline was set{at}, {duration(setting.time)} ahead, and hasn't passed."

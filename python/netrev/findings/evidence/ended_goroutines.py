@@ -12,7 +12,7 @@ from netrev.recording.waits import Name
 from netrev.recording.where import OF_THE_PROGRAM, SourceCall, Stack
 from netrev.run.index import RunIndex
 
-from .words import place_in, short
+from .call_words import place_in, short
 
 DEFERRED, WRAPPED = ".deferwrap", ".gowrap"
 LOOP, LEAVES = re.compile(r"\s*for\b"), re.compile(r"\s*(return|break|panic\(|runtime\.Goexit\()")
@@ -62,7 +62,7 @@ def time_of(recording: Recording, step: int) -> int:
 
 def ended_where(index: RunIndex, name: Name, known: Optional[Stack] = None) -> str:
     """Text for the last known place of a goroutine that ended, such as `, last known at a.go:15 in parse`, followed by
-    the text of `ways_out` for its loop. The text is empty if the place is unknown, and omits the place if it is the
+    the text of `paths_out` for its loop. The text is empty if the place is unknown, and omits the place if it is the
     known line."""
     stack = last_stack(index, name)
     own = [call for call in stack.calls if call.of == OF_THE_PROGRAM and WRAPPED not in call.function] if stack else []
@@ -76,17 +76,17 @@ def ended_where(index: RunIndex, name: Name, known: Optional[Stack] = None) -> s
     failed = next(iter(index.recording.lines.failed_dials.get(goid_of(index.recording, name), ())[-1:]), None)
     is_refused = failed is not None and index.recording.lines.stacks[failed.stack] == stack
     why = f", where its Dial failed ({failed.why})" if failed and is_refused and failed.why else ""
-    return f"{last}{why}{ways_out(index.recording, own[-1])}"
+    return f"{last}{why}{paths_out(index.recording, own[-1])}"
 
 
 def loop_words(recording: Recording, stack: Stack) -> str:
-    """The lines that leave the loop in which a goroutine did something, in the form of `ways_out`; empty if the
+    """The lines that leave the loop in which a goroutine did something, in the form of `paths_out`; empty if the
     stack has only one function of the program."""
     own = [call for call in stack.calls if call.of == OF_THE_PROGRAM and WRAPPED not in call.function]
-    return ways_out(recording, own[0]) if len(own) > 1 else ""
+    return paths_out(recording, own[0]) if len(own) > 1 else ""
 
 
-def ways_out(recording: Recording, call: SourceCall) -> str:
+def paths_out(recording: Recording, call: SourceCall) -> str:
     """The lines that leave the loop around a line, as text, such as `, from whose loop only a.go:18 leads`; empty if no
     line or too many lines leave it."""
     leaves, over = leaves_of(recording, call), ranged_over(recording, call)
@@ -143,10 +143,10 @@ def loop_at(recording: Recording, call: SourceCall) -> tuple[Lines, int]:
     """The lines of a call's file, and the line at which the innermost loop around the call begins; 0 if no loop
     surrounds it."""
     lines, within = function_of(recording, call)
-    return lines, loop_round(lines, within, call.line) if within else 0
+    return lines, loop_around(lines, within, call.line) if within else 0
 
 
-def loop_round(lines: Lines, within: range, line: int) -> int:
+def loop_around(lines: Lines, within: range, line: int) -> int:
     """The line at which the innermost loop around a line begins; 0 if no loop surrounds the line."""
     margin = indent_of(lines[line - 1])
     if LOOP.match(lines[line - 1]):

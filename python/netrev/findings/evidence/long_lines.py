@@ -4,12 +4,12 @@ up."""
 from netrev.recording.call import Call
 from netrev.run.index import RunIndex
 
-from .asked import read_sizes_of
+from .read_sizes import read_sizes_of
 
 SCAN, HALF = "bufio.(*Scanner).Scan", 32_768
 
 
-def long_line_says(index: RunIndex, last: Call) -> list[str]:
+def long_line_sentence(index: RunIndex, last: Call) -> list[str]:
     """Sentences about the last Read of a goroutine on a socket; none unless that Read was for a Scanner whose buffer
     had its greatest size."""
     functions = (call.function for call in index.recording.lines.of(last.first).calls)

@@ -10,7 +10,7 @@ from netrev.findings.source.functions import LITERAL, Lines, begin_of_literal, i
 from netrev.recording.recording import Recording
 from netrev.recording.where import OF_THE_PROGRAM, SourceCall
 
-from .ended_goroutines import loop_round
+from .ended_goroutines import loop_around
 
 LOOP = re.compile(r"\bfor (?:(\w+), )?(\w+) := ")
 LANGUAGE = re.compile(r"^go 1\.(\d+)", re.MULTILINE)
@@ -47,7 +47,7 @@ def shared_at(lines: Lines, statement: SourceCall) -> Iterator[tuple[int, str]]:
     begin = statement.line if "go func()" in text else begin_of_literal(lines, statement.line)
     if not within or not begin or "go func()" not in lines[begin - 1]:
         return
-    head = loop_round(lines, within, begin)
+    head = loop_around(lines, within, begin)
     loop = LOOP.search(lines[head - 1]) if head else None
     ends = (at for at in range(begin + 1, within.stop) if indent_of(lines[at - 1]) <= indent_of(lines[begin - 1]))
     body = " ".join(line.partition("//")[0] for line in lines[begin - 1 : next(ends, begin + 1) - 1])

@@ -12,7 +12,7 @@ from netrev.recording.where import OF_THE_PROGRAM, SourceCall, Stack
 from netrev.run.index import run_of
 from netrev.text.plurals import counted
 
-from .words import short
+from .call_words import short
 
 MOST_LINES = 2
 DEFERRED = ".deferwrap"  # part of the names of Go's functions for `defer`, which run however a function ends

@@ -10,7 +10,7 @@ from netrev.recording.waits import ALL_REQUESTS, Name, ObjectWait, waits_of
 from netrev.recording.where import OF_THE_PROGRAM, Stack
 from netrev.run.index import READING, WRITING, RunIndex
 
-from .words import is_of_a_lock, is_of_the_program
+from .call_words import is_of_a_lock, is_of_the_program
 
 TICKERS = ("time.NewTicker", "time.Tick", "time.(*Ticker).Reset")
 

@@ -7,11 +7,11 @@ from typing import Mapping, NamedTuple, Optional
 
 from netrev.findings.evidence.need import Need
 from netrev.findings.evidence.waiters import Waiter
-from netrev.findings.evidence.words import text_of_call
+from netrev.findings.evidence.call_words import text_of_call
 from netrev.findings.pools.senders import PUTS, givings_of
-from netrev.findings.pools.unclosed import RECEIVE
+from netrev.findings.pools.unclosed_channels import RECEIVE
 from netrev.findings.source.functions import Lines, indent_of, range_of, source_of, text_at
-from netrev.findings.source.lost_entries import entry_says
+from netrev.findings.source.lost_entries import entry_sentence
 from netrev.recording.call import Call
 from netrev.recording.goroutines import FOR_VALUE, PUT, TOOK
 from netrev.recording.recording import Recording
@@ -20,7 +20,7 @@ from netrev.recording.where import OF_THE_PROGRAM, SourceCall as LineCall, Stack
 from netrev.run.index import MOVING, RunIndex
 from netrev.text.plurals import counted
 
-from .handed_over import sockets_of_request, written_for
+from .handed_over_requests import sockets_of_request, written_for
 
 GOES_ON = re.compile(r"\s*(continue\b|default:)")
 CONDITION = re.compile(r"\s*(?:\} else )?if\b")
@@ -49,7 +49,7 @@ def dropped_answer(index: RunIndex, wait: ObjectWait, hands: Mapping[int, list[H
         request = request_of(index, wait, hand.call.socket)
         read = read_since(index, hand, request) if request else None
         if request and read and not has_put(index.recording, wait, read) and is_answered(index, request):
-            return Need(says_of(index, wait, hand, request, read), stopped=read.first, is_odd=True)
+            return Need(sentence_of(index, wait, hand, request, read), stopped=read.first, is_odd=True)
     return None
 
 
@@ -153,7 +153,7 @@ def reads_on(index: RunIndex, goroutine: int, socket: int) -> bool:
     return now is not None and now.name == "Read" and now.socket == socket
 
 
-def says_of(index: RunIndex, wait: ObjectWait, hand: Hand, request: Call, read: Call) -> list[str]:
+def sentence_of(index: RunIndex, wait: ObjectWait, hand: Hand, request: Call, read: Call) -> list[str]:
     """The sentences about the request, the goroutine that read the answer, and the lines at which that goroutine
     continues without passing the answer on."""
     recording, name = index.recording, hand.reader.name
@@ -164,18 +164,18 @@ def says_of(index: RunIndex, wait: ObjectWait, hand: Hand, request: Call, read: 
         f"{counted(read.moved or 0, 'byte')} after "
         f"that, in step {read.last}, and reads on since step {hand.call.first}: it handed that to no goroutine that waits there."
     ]
-    ways, place = ways_past(recording, hand.reader.stack, hand.line.file, hand.line.line), hand.line.place()
-    by = ways_words(hand.line.file, ways)
-    goes = f"{by} without {place}, where it hands values on" if ways else f"it hands values on at {place}"
-    return [*says, f"Perhaps {name} dropped the answer: {goes}.", *entry_says(recording, hand.line)]
+    ways, place = paths_past(recording, hand.reader.stack, hand.line.file, hand.line.line), hand.line.place()
+    by = paths_text(hand.line.file, ways)
+    continuation = f"{by} without {place}, where it hands values on" if ways else f"it hands values on at {place}"
+    return [*says, f"Perhaps {name} dropped the answer: {continuation}.", *entry_sentence(recording, hand.line)]
 
 
-def ways_words(file: str, ways: list[int]) -> str:
+def paths_text(file: str, ways: list[int]) -> str:
     """Text for the lines at which a goroutine continues: `a.go:3 goes on`."""
     return f"{' and '.join(f'{file}:{number}' for number in ways)} {'go' if len(ways) > 1 else 'goes'} on"
 
 
-def ways_past(recording: Recording, stack: Stack, file: str, number: int) -> list[int]:
+def paths_past(recording: Recording, stack: Stack, file: str, number: int) -> list[int]:
     """The lines at which a goroutine continues after its wait without reaching a line that puts a value into a channel:
     `continue`, `default:`, or the condition around that line."""
     lines = source_of(recording, file)
@@ -189,11 +189,11 @@ def ways_past(recording: Recording, stack: Stack, file: str, number: int) -> lis
         return []
     begin = max((call.line for call in calls if call.line in within), default=within.start)
     found = [at for at in range(begin + 1, number) if GOES_ON.match(lines[at - 1])]
-    found += conditions_round(lines, begin, number) + defaults_behind(lines, number)
+    found += conditions_around(lines, begin, number) + defaults_after(lines, number)
     return sorted(found)[-MOST_WAYS:]
 
 
-def defaults_behind(lines: Lines, number: int) -> list[int]:
+def defaults_after(lines: Lines, number: int) -> list[int]:
     """The `default:` of the select that has this line as a case."""
     if not lines[number - 1].lstrip().startswith("case "):
         return []
@@ -208,7 +208,7 @@ def defaults_behind(lines: Lines, number: int) -> list[int]:
     return []
 
 
-def conditions_round(lines: Lines, begin: int, number: int) -> list[int]:
+def conditions_around(lines: Lines, begin: int, number: int) -> list[int]:
     """The innermost condition around a line, if the condition comes after another line."""
     margin = indent_of(lines[number - 1])
     for at in range(number - 1, begin, -1):

@@ -4,7 +4,7 @@ lines of the program's source that put a value into that channel in a select wit
 import re
 from typing import Optional
 
-from netrev.findings.pools.closed_later import channels_of
+from netrev.findings.pools.later_closes import channels_of
 from netrev.findings.pools.senders import TAKES
 from netrev.findings.source.functions import Lines, indent_of, range_of, text_at
 from netrev.findings.source.package import files_of, place_of_variable

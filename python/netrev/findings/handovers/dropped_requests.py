@@ -5,17 +5,17 @@ from typing import Mapping, NamedTuple, Optional
 
 from netrev.findings.evidence.need import Need
 from netrev.findings.evidence.waiters import Waiter
-from netrev.findings.evidence.words import place_in
+from netrev.findings.evidence.call_words import place_in
 from netrev.findings.pools.senders import givings_at
-from netrev.findings.pools.stopped_timers import timers_of_select, ways_past_reset
+from netrev.findings.pools.stopped_timers import timers_of_select, paths_past_reset
 from netrev.findings.source.functions import range_of, source_of
 from netrev.recording.goroutines import FOR_VALUE, PUT, TOOK, ObjectUse
 from netrev.recording.recording import Recording
 from netrev.recording.waits import Name, ObjectWait, name_of_goid, waits_of
 from netrev.recording.where import OF_THE_PROGRAM
 
-from .dropped_answers import ways_past, ways_words
-from .handed_over import put_before
+from .dropped_answers import paths_past, paths_text
+from .handed_over_requests import put_before
 
 
 class Taken(NamedTuple):
@@ -46,9 +46,9 @@ def dropped_request(recording: Recording, wait: ObjectWait, waiters: Mapping[Nam
     )
     if left := left_to_a_timer(recording, taken.taker):
         return Need([says, left], is_odd=True)
-    ways, place = ways_past(recording, taken.taker.stack, taken.file, taken.line), f"{taken.file}:{taken.line}"
-    goes = f"{ways_words(taken.file, ways)} without {place}, where it answers" if ways else f"it answers at {place}"
-    return Need([says, f"Perhaps {name} left it without an answer: {goes}."], is_odd=True)
+    ways, place = paths_past(recording, taken.taker.stack, taken.file, taken.line), f"{taken.file}:{taken.line}"
+    continuation = f"{paths_text(taken.file, ways)} without {place}, where it answers" if ways else f"it answers at {place}"
+    return Need([says, f"Perhaps {name} left it without an answer: {continuation}."], is_odd=True)
 
 
 def answered_before(recording: Recording, wait: ObjectWait) -> int:
@@ -68,7 +68,7 @@ def left_to_a_timer(recording: Recording, taker: Waiter) -> str:
     """Words about a goroutine that took a request and waits in a select: it perhaps answers when a timer goes off, and
     nothing resets that timer. The text is empty if the program's source has no such timer."""
     says = timers_of_select(recording, taker.wait) if taker.wait else []
-    is_skipped = taker.wait is not None and bool(says) and ways_past_reset(recording, taker.wait)
+    is_skipped = taker.wait is not None and bool(says) and paths_past_reset(recording, taker.wait)
     return f"Perhaps {taker.name} keeps it until a timer goes off. {says[0]}" if is_skipped else ""
 
 

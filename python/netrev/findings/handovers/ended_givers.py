@@ -7,7 +7,7 @@ from typing import Iterator, Optional
 from netrev.findings.evidence.ended_goroutines import ended_where, goid_of
 from netrev.findings.evidence.need import Need
 from netrev.findings.evidence.siblings import lines_of
-from netrev.findings.pools.closed_later import DONE, channels_of
+from netrev.findings.pools.later_closes import DONE, channels_of
 from netrev.findings.pools.senders import PUTS, WORDS, Giving, givings_at, givings_of
 from netrev.findings.source.functions import source_of, text_at
 from netrev.recording.goroutines import A_SELECT, FOR_VALUE

@@ -5,10 +5,10 @@ way."""
 from functools import lru_cache
 from typing import NamedTuple, Optional, Sequence
 
-from netrev.findings.evidence.ended_goroutines import ended_where, ways_out
+from netrev.findings.evidence.ended_goroutines import ended_where, paths_out
 from netrev.findings.evidence.ledger import END
 from netrev.findings.evidence.need import Need
-from netrev.findings.evidence.words import ENDED, text_of_call
+from netrev.findings.evidence.call_words import ENDED, text_of_call
 from netrev.findings.pools.balances import has_ended
 from netrev.findings.pools.new_channels import channel_since
 from netrev.recording.call import Call as OneCall
@@ -42,7 +42,7 @@ def ended_hand(index: RunIndex, wait: ObjectWait) -> Optional[Need]:
     names = tuple(hand.name for hand in hands)
     if not hands or not all(has_ended(index.recording, name) for name in names) or wait.name in names:
         return None
-    return Need(says_of(index, hands), gone=names[0] if len(names) == 1 else None, is_odd=True, ended=names)
+    return Need(sentence_of(index, hands), gone=names[0] if len(names) == 1 else None, is_odd=True, ended=names)
 
 
 @lru_cache(maxsize=256)
@@ -61,13 +61,13 @@ def hands_at(index: RunIndex, line: SourceCall) -> tuple[EndedHand, ...]:
     return tuple(found.values())
 
 
-def says_of(index: RunIndex, hands: Sequence[EndedHand]) -> list[str]:
+def sentence_of(index: RunIndex, hands: Sequence[EndedHand]) -> list[str]:
     """Sentences about the lines at which these goroutines put values for others, and about the last call of each."""
     last, recording = hands[-1], index.recording
     if len(hands) > 1:
         names = of_names([hand.name for hand in hands[:MOST_NAMED]])
         more = f" and {len(hands) - MOST_NAMED} more" if len(hands) > MOST_NAMED else ""
-        says = f"{names}{more}, which put such values at {last.line.place()}, have all ended{ways_out(recording, last.line)}."
+        says = f"{names}{more}, which put such values at {last.line.place()}, have all ended{paths_out(recording, last.line)}."
         return [says[0].upper() + says[1:]]
     known = recording.lines.goroutines.get(
         last.name.number if last.name.is_goid else recording.lines.goid_of(last.name.number)

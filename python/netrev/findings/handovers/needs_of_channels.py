@@ -11,18 +11,18 @@ from netrev.findings.evidence.loop_variables import shared_variables
 from netrev.findings.evidence.need import Certainty, Need
 from netrev.findings.evidence.siblings import Kind, ended_words, kinds_of
 from netrev.findings.evidence.waiters import Waiter
-from netrev.findings.evidence.words import place_in
+from netrev.findings.evidence.call_words import place_in
 from netrev.findings.locks.groups import outermost
 from netrev.findings.pools.balances import Balance, balances_of, give_back, has_ended
-from netrev.findings.pools.balances_in_words import excess_says, kept_says
-from netrev.findings.pools.kept_ways import gives_on_most_ways, ways_with_an_error
+from netrev.findings.pools.balance_sentences import excess_sentence, kept_sentence
+from netrev.findings.pools.leaking_paths import gives_on_most_paths, paths_with_an_error
 from netrev.findings.pools.made_channels import is_filled_by_maker
 from netrev.findings.pools.new_channels import channel_since
 from netrev.findings.pools.senders import later_giver
 from netrev.findings.pools.sibling_channels import giver_at_siblings
 from netrev.findings.pools.slots import of_slots
-from netrev.findings.pools.uncancelled import uncancelled
-from netrev.findings.pools.unclosed import unclosed
+from netrev.findings.pools.uncancelled_contexts import uncancelled
+from netrev.findings.pools.unclosed_channels import unclosed
 from netrev.recording.goroutines import FOR_ROOM, FOR_VALUE, PUT, TOOK, At
 from netrev.recording.recording import Recording
 from netrev.recording.waits import Name, ObjectWait, Waits, name_of_goid
@@ -64,7 +64,7 @@ class NeedsOfChannels:
 
         def find() -> list[Balance]:
             found = balances_of(self._recording, number, self._stacks)
-            return found if give_back(found) or gives_on_most_ways(self._recording, found) else []
+            return found if give_back(found) or gives_on_most_paths(self._recording, found) else []
 
         return self._once(("balances", number), find)
 
@@ -73,7 +73,7 @@ class NeedsOfChannels:
 
         def find() -> list[str]:
             is_pool = any(self._balances(at.object) for at in wait.objects if self.is_buffered(at))
-            kept = [] if is_pool else ways_with_an_error(self._recording, wait)
+            kept = [] if is_pool else paths_with_an_error(self._recording, wait)
             own = wait.stack.own()
             shared = shared_variables(self._recording, own[0].file) if own and self.is_new(wait) else []
             return dropped_notices(self._recording, wait) or kept or shared
@@ -91,9 +91,9 @@ class NeedsOfChannels:
         if takes == wanted and is_filled_by_maker(self._recording, at):
             return None
         if takes == wanted:  # the goroutine waits to give back: the channel has too many values
-            return Need(excess_says(balances)) if any(balance.missing < 0 for balance in balances) else None
+            return Need(excess_sentence(balances)) if any(balance.missing < 0 for balance in balances) else None
         by = next((balance.name for balance in balances if self._is_holder(balance, wait)), None)
-        says = self._once(("kept", at.object), lambda: kept_says(self._recording, balances))
+        says = self._once(("kept", at.object), lambda: kept_sentence(self._recording, balances))
         if by is None:
             return Need(says, is_kept=True) if says else None
         return Need(
@@ -141,7 +141,7 @@ class NeedsOfChannels:
         for number in self._recording.lines.objects:
             if self.is_buffered(At(number, "")) and (balances := self._balances(number)):
                 mine = [balance for balance in balances if balance.name in names and balance.takes == TOOK]
-                if says := excess_says(mine):
+                if says := excess_sentence(mine):
                     return [f"{says[0]} So perhaps two goroutines have the same."]
         return []
 

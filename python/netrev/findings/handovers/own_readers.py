@@ -4,8 +4,8 @@ a connection, for example because it serves the requests itself, and the connect
 from typing import Optional
 
 from netrev.findings.evidence.need import Need
-from netrev.findings.evidence.words import place_in, short, text_of_call
-from netrev.findings.streams.unread import unread
+from netrev.findings.evidence.call_words import place_in, short, text_of_call
+from netrev.findings.streams.unread_bytes import unread
 from netrev.recording.waits import ObjectWait
 from netrev.recording.where import OF_THE_PROGRAM
 from netrev.run.index import RunIndex

@@ -4,7 +4,7 @@ which itself waited for another, and so on."""
 from netrev.findings.evidence.ledger import GIVES
 from netrev.findings.evidence.need import Need
 from netrev.findings.evidence.waiters import Waiter, waiters_during
-from netrev.findings.evidence.words import capital, place_in
+from netrev.findings.evidence.call_words import capital, place_in
 from netrev.recording.call import Call
 from netrev.recording.waits import Name
 from netrev.run.index import RunIndex
@@ -15,7 +15,7 @@ from .needs import Needs
 MOST_LINKS = 4
 
 
-def chain_says(index: RunIndex, call: Call, need: Need, position: int) -> list[str]:
+def chain_sentence(index: RunIndex, call: Call, need: Need, position: int) -> list[str]:
     """The sentences about the goroutines of the chain, starting with the goroutine that the failed call needed."""
     waiters = waiters_during(index, position)
     needs, known = Needs(index, waiters, position), list(need.says)
@@ -26,7 +26,7 @@ def chain_says(index: RunIndex, call: Call, need: Need, position: int) -> list[s
         if is_elsewhere(index, call, waiter, need):
             break
         need = needs.of(waiter) if is_still_so(index, waiter, position) else Need([])
-        found = link_says(index, waiter, need, need.by in seen, known + says)
+        found = link_sentence(index, waiter, need, need.by in seen, known + says)
         says += [line for line in found if line not in known + says]
         by = need.by
     return says
@@ -48,7 +48,7 @@ def is_still_so(index: RunIndex, waiter: Waiter, position: int) -> bool:
     )
 
 
-def link_says(index: RunIndex, waiter: Waiter, need: Need, is_back: bool, known: list[str]) -> list[str]:
+def link_sentence(index: RunIndex, waiter: Waiter, need: Need, is_back: bool, known: list[str]) -> list[str]:
     """The sentences about one goroutine of the chain. `is_back` means that it waits for a goroutine that is already in
     the chain. The sentences then leave out `need.how`. If the goroutine waits in a call, they also leave out
     `need.says`."""

@@ -4,20 +4,20 @@ and a tree of the goroutines that wait."""
 from collections import defaultdict
 from typing import Sequence
 
-from netrev.findings.evidence.deadlines_ahead import deadline_ahead, setting_says, until_words
+from netrev.findings.evidence.deadlines_ahead import deadline_ahead, setting_sentence, until_words
 from netrev.findings.evidence.need import GOES_FIRST
 from netrev.findings.evidence.waiters import Waiter
-from netrev.findings.evidence.words import capital, name_of, place_in, text_of_call, waits_words
+from netrev.findings.evidence.call_words import capital, name_of, place_in, text_of_call, waits_words
 from netrev.findings.streams.gone_readers import gone_readers
-from netrev.findings.streams.unread import unread_says
+from netrev.findings.streams.unread_bytes import unread_sentence
 from netrev.recording.goroutines import FOR_VALUE
 from netrev.recording.recording import Recording
 from netrev.recording.waits import Name, listed, of_names
-from netrev.recording.words import SIDES
+from netrev.recording.cell_meanings import SIDES
 from netrev.run.index import READING, RunIndex, run_of
 from netrev.text.plurals import counted
 
-from .missing_cases import missing_case_says
+from .missing_cases import missing_case_sentence
 from .wait_graph import Certainty, Hang, WaitBranch, WaitGraph, kind_of, waiters_of
 
 NUMBERS = {2: "two", 3: "three", 4: "four"}
@@ -39,12 +39,12 @@ MOST_LOOSE = 4  # how many goroutines to name that may hold mutexes for one anot
 INDENT = "  "
 
 
-def hang_says(graph: WaitGraph, hang: Hang) -> list[str]:
+def hang_sentences(graph: WaitGraph, hang: Hang) -> list[str]:
     """The sentences about a hang, without its tree. The first sentence sums up the hang, and the others say why it
     doesn't end."""
     recording = graph.recording
     if hang.is_deadlock:
-        members = zip(members_words(recording, hang), hang.needs, ahead_says(graph, hang))
+        members = zip(members_words(recording, hang), hang.needs, ahead_sentence(graph, hang))
         paragraphs = [[f"{words}.", *ahead, *need.more] for words, need, ahead in members]
         shown = paragraphs[:MOST_LOOSE] if hang.is_loose else paragraphs
         left = (
@@ -63,7 +63,7 @@ def hang_says(graph: WaitGraph, hang: Hang) -> list[str]:
     of_first = (
         [f"Of socket {hang.root.call.socket}: {says[0]}", *says[1:]] if hang.alike and hang.root.call and says else says
     )
-    cases = missing_case_says(recording, hang)
+    cases = missing_case_sentence(recording, hang)
     others = [line for line in of_waiters(graph, hang) if line not in says]
     return [
         first_sentence(graph, hang),
@@ -83,11 +83,11 @@ def of_waiters(graph: WaitGraph, hang: Hang) -> list[str]:
     return list(dict.fromkeys(says))[:MOST_BESIDE]
 
 
-def ahead_says(graph: WaitGraph, hang: Hang) -> list[list[str]]:
+def ahead_sentence(graph: WaitGraph, hang: Hang) -> list[list[str]]:
     """Sentences about the deadlines that the roots' calls still have."""
     index = run_of(graph.recording)
     settings = (deadline_ahead(index, root.call, graph.position) if root.call else None for root in hang.roots)
-    return [[setting_says(index, setting)] if setting else [] for setting in settings]
+    return [[setting_sentence(index, setting)] if setting else [] for setting in settings]
 
 
 def beside_words(graph: WaitGraph, hang: Hang) -> list[str]:
@@ -111,7 +111,7 @@ def unread_words(graph: WaitGraph, hang: Hang) -> list[str]:
     if any(root.call and root.call.name == "Write" for root in hang.roots) or (call and call.is_asking):
         return []
     is_one = not hang.waiting and not hang.is_deadlock
-    says = [] if is_one else unread_says(index, names, graph.position)
+    says = [] if is_one else unread_sentence(index, names, graph.position)
     return says or reader_words(
         index, {waiter.name for waiter in waiters_of(hang) if wants_value(waiter)}, graph.position
     )
@@ -291,8 +291,8 @@ def of_sockets(waiters: list[Waiter]) -> str:
     return f"sockets {listed(numbers)}"
 
 
-def hang_looks(hang: Hang) -> list[str]:
+def hang_queries(hang: Hang) -> list[str]:
     """The line to type next, which shows the root's goroutine and the step at which it began to wait."""
     root = hang.root
-    goes = [f"goto {max(waiter.since for waiter in hang.roots)}"]
-    return [*goes, f"calls sock {root.call.socket}" if root.call and not hang.is_deadlock else "info goroutines"]
+    queries = [f"goto {max(waiter.since for waiter in hang.roots)}"]
+    return [*queries, f"calls sock {root.call.socket}" if root.call and not hang.is_deadlock else "info goroutines"]

@@ -5,7 +5,7 @@ from typing import Iterator, NamedTuple, Optional
 
 from netrev.findings.evidence.responses import server_of
 from netrev.findings.evidence.waiters import Waiter
-from netrev.findings.evidence.words import name_of
+from netrev.findings.evidence.call_words import name_of
 from netrev.findings.finding import Cause
 from netrev.recording.call import CLOSE, Call
 from netrev.recording.waits import Name

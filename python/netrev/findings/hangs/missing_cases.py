@@ -6,7 +6,7 @@ from operator import attrgetter
 from typing import NamedTuple, Optional
 
 from netrev.findings.evidence.responses import SERVE, contains
-from netrev.findings.evidence.words import place_in
+from netrev.findings.evidence.call_words import place_in
 from netrev.findings.source.locks import owner
 from netrev.recording.goroutines import A_SELECT, A_WAIT_GROUP, CLOSED, FOR_VALUE, PUT, ObjectUse
 from netrev.recording.recording import Recording
@@ -23,7 +23,7 @@ class Lacking(NamedTuple):
     wait: ObjectWait
 
 
-def missing_case_says(recording: Recording, hang: Hang) -> list[str]:
+def missing_case_sentence(recording: Recording, hang: Hang) -> list[str]:
     """Sentences about a root that waits in a select. The sentences name the Shutdown that waits for the root, and the
     closed channel for which the select perhaps lacks a case. The list is empty if no Shutdown or WaitGroup waits."""
     wait = hang.root.wait
@@ -34,7 +34,7 @@ def missing_case_says(recording: Recording, hang: Hang) -> list[str]:
     if ends is None:
         return []
     lacking = lacking_of(recording, wait, ends)
-    return [*([shutdown_says(shutdown)] if shutdown else []), *([lacking_says(recording, lacking)] if lacking else [])]
+    return [*([shutdown_sentence(shutdown)] if shutdown else []), *([lacking_sentence(recording, lacking)] if lacking else [])]
 
 
 def own_of(stack: Stack) -> Optional[SourceCall]:
@@ -62,7 +62,7 @@ def shutdown_of(recording: Recording, wait: ObjectWait) -> Optional[ObjectWait]:
     return min(yet or others, key=attrgetter("first", "begin"), default=None)
 
 
-def shutdown_says(shutdown: ObjectWait) -> str:
+def shutdown_sentence(shutdown: ObjectWait) -> str:
     waits = "waits" if shutdown.last is None else "waited"
     return f"Shutdown{place_in(shutdown.stack)} ({shutdown.name}) {waits} for the ends of all requests, and cancels none of their contexts."
 
@@ -102,7 +102,7 @@ def closed_by(recording: Recording, name: Name) -> dict[int, ObjectUse]:
     }  # fmt: skip
 
 
-def lacking_says(recording: Recording, lacking: Lacking) -> str:
+def lacking_sentence(recording: Recording, lacking: Lacking) -> str:
     """The sentence about the missing case."""
     lines, closed, wait = recording.lines, lacking.closed, lacking.wait
     by = f"{name_of_goid(lines, closed.goid)}, step {closed.last}"

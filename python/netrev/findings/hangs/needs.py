@@ -4,28 +4,28 @@ earlier uses, or in stacks alone."""
 from operator import attrgetter
 from typing import Optional
 
-from netrev.findings.datagrams.cut_datagrams import cut_says
+from netrev.findings.datagrams.cut_datagrams import cut_sentence
 from netrev.findings.datagrams.datagrams import unanswered_datagram
-from netrev.findings.datagrams.shared_sockets import shared_says
-from netrev.findings.datagrams.unheard import unheard
+from netrev.findings.datagrams.shared_sockets import shared_sentence
+from netrev.findings.datagrams.undelivered_datagrams import unheard
 from netrev.findings.evidence.need import Certainty, Need
 from netrev.findings.evidence.waiters import Waiter
-from netrev.findings.evidence.words import place_of_step, result_words, since_begin, text_of_call, waits_words
-from netrev.findings.http.held_back import held_back
+from netrev.findings.evidence.call_words import place_of_step, result_words, since_begin, text_of_call, waits_words
+from netrev.findings.http.held_answers import held_back
 from netrev.findings.locks.new_readers import left_reader, thrown_away
 from netrev.findings.pools.left_sockets import left_socket
-from netrev.findings.streams.ends_of_reads import end_says
+from netrev.findings.streams.ends_of_reads import end_sentence
 from netrev.findings.streams.exchanges import lacking, unanswered, unasked
 from netrev.findings.streams.gone_readers import ended_reader
 from netrev.findings.streams.idle_listeners import idle_listeners
 from netrev.findings.streams.left_in_buffers import left_in_buffer
 from netrev.findings.streams.partial_reads import part_taken, partial_reads
-from netrev.findings.streams.unaccepted import is_dialed, unaccepted
+from netrev.findings.streams.unaccepted_connections import is_dialed, unaccepted
 from netrev.findings.streams.unfinished_replies import unfinished_reply
-from netrev.findings.streams.unread import unread_answers
+from netrev.findings.streams.unread_bytes import unread_answers
 from netrev.recording.call import CLOSE, Call
 from netrev.recording.waits import Name, Waits, name_of_goid, waits_of
-from netrev.recording.words import SIDES
+from netrev.recording.cell_meanings import SIDES
 from netrev.run.index import READING, RunIndex
 
 from .needs_elsewhere import NeedsElsewhere
@@ -58,8 +58,8 @@ class Needs:
             if is_dialed(index, call.socket) and (idle := idle_listeners(index, self._position)):
                 return Need(idle, is_odd=True)
             need = need or unaccepted(index, call, self._position)
-            of_datagram = cut_says(index, call, self._position) or unanswered_datagram(index, call, self._position)
-            return need or Need([], more=[*of_datagram, *shared_says(index, call)])
+            of_datagram = cut_sentence(index, call, self._position) or unanswered_datagram(index, call, self._position)
+            return need or Need([], more=[*of_datagram, *shared_sentence(index, call)])
         if by := index.closing(other, self._position, whole=not is_reading):
             how = "closed" if by.name == CLOSE else "closed for writing"
             where = place_of_step(self._recording, by.first, by.goroutine)
@@ -72,7 +72,7 @@ class Needs:
         lost = left_reader(index, call, other, self._position) or thrown_away(index, call, other, self._position)
         more = lost or part_taken(index, call) or self._of_exchange(call, other) or partial_reads(index, call)
         more = more or left_socket(index, other, self._position) or ended_reader(index, call, other, self._position)
-        ends = [] if more else end_says(index, call, other, self._position)
+        ends = [] if more else end_sentence(index, call, other, self._position)
         return need._replace(more=more or ends, beside=tuple(lost), is_plain=bool(ends))
 
     def _of_exchange(self, call: Call, other: int) -> list[str]:

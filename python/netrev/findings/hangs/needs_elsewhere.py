@@ -8,24 +8,24 @@ from netrev.findings.evidence.ledger import Ledger
 from netrev.findings.evidence.need import Certainty, Need
 from netrev.findings.evidence.responses import SERVE, contains, server_of, socket_of
 from netrev.findings.evidence.waiters import Waiter
-from netrev.findings.evidence.words import text_of_call, waits_words
+from netrev.findings.evidence.call_words import text_of_call, waits_words
 from netrev.findings.handovers.dropped_answers import Hand, by_socket, dropped_answer, hands_of, is_for_values
 from netrev.findings.handovers.dropped_requests import dropped_request
 from netrev.findings.handovers.ended_hands import ended_hand
 from netrev.findings.handovers.needs_of_channels import NOBODY, NeedsOfChannels
 from netrev.findings.handovers.own_readers import of_own_reader
 from netrev.findings.http.bodies_left_open import open_bodies
-from netrev.findings.http.held_back import held_back
+from netrev.findings.http.held_answers import held_back
 from netrev.findings.http.rpc_calls import dropped_by_rpc
 from netrev.findings.locks.conditions import single_signal, unsignalled
 from netrev.findings.locks.groups import Groups
 from netrev.findings.locks.mutex_holders import MutexHolders
 from netrev.findings.locks.needs_of_mutexes import NeedsOfMutexes
-from netrev.findings.pools.closed_later import closed_later
+from netrev.findings.pools.later_closes import closed_later
 from netrev.findings.pools.made_channels import without_receiver
 from netrev.findings.pools.stopped_timers import of_timers, timers_of_select
-from netrev.findings.source.contextless import contextless_says
-from netrev.findings.streams.unaccepted import is_dialed
+from netrev.findings.source.requests_without_context import contextless_sentence
+from netrev.findings.streams.unaccepted_connections import is_dialed
 from netrev.recording.goroutines import A_CONDITION, A_SELECT, A_WAIT_GROUP, MUTEXES
 from netrev.recording.waits import ALL_REQUESTS, A_CONNECTION, A_RESPONSE, LAST_USE, Name, ObjectWait, Waits
 from netrev.recording.where import OF_THE_PROGRAM, Stack
@@ -215,7 +215,7 @@ class NeedsElsewhere:
         does = "" if server in self._waiters else self._does(server)
         says = [f"{str(server).capitalize()} serves the request on socket {socket}; it {does}."] if does else []
         held = held_back(self._index, socket, self._position)
-        beside = *held, *contextless_says(self._recording, wait)
+        beside = *held, *contextless_sentence(self._recording, wait)
         return Need(says, server, "{by} serves the request", Certainty.LIKELY, more=held, beside=beside)
 
     def _reads_on(self, server: Name) -> bool:

@@ -6,37 +6,37 @@ import re
 from typing import Optional
 
 from netrev.findings.evidence.past_tense import in_the_past
-from netrev.findings.evidence.words import is_of_go, place_of_step
+from netrev.findings.evidence.call_words import is_of_go, place_of_step
 from netrev.findings.source.package import places_with
 from netrev.recording.call import Call
 from netrev.run.index import READING, RunIndex
 
-from .chains import chain_says
+from .chains import chain_sentence
 from .needs import Needs
 
 DUPLICATES = re.compile(r"\.File\(\)|\bsyscall\.Dup")
 
 
-def given_up_says(index: RunIndex, call: Call, by: Optional[Call]) -> list[str]:
+def given_up_sentence(index: RunIndex, call: Call, by: Optional[Call]) -> list[str]:
     """Sentences about what a call waited for when Go's own code closed its descriptor, as Go does if a connection's
     context has ended."""
     if by is None or not call.first < call.cause or not is_of_go(index.recording, by) or by.goroutine == call.goroutine:
         return []
     need = Needs(index, {}, call.cause).of_call(call)
-    return list(map(in_the_past, [*need.says, *need.more, *chain_says(index, call, need, call.cause)]))
+    return list(map(in_the_past, [*need.says, *need.more, *chain_sentence(index, call, need, call.cause)]))
 
 
-def found_says(index: RunIndex, call: Call) -> list[str]:
+def found_sentence(index: RunIndex, call: Call) -> list[str]:
     """Further sentences about a Read or a Write that timed out. Its deadline was set while it waited, or earlier calls
     had ended under the same deadline. The sentences say why the bytes, or the room, that the call waited for didn't
     come."""
     if index.is_listening(call) or not call.first < call.last:
         return []
     need = Needs(index, {}, call.last).of_call(call)
-    return list(map(in_the_past, [*([] if need.is_plain else need.more), *chain_says(index, call, need, call.last)]))
+    return list(map(in_the_past, [*([] if need.is_plain else need.more), *chain_sentence(index, call, need, call.last)]))
 
 
-def endless_says(index: RunIndex, call: Call) -> list[str]:
+def endless_sentence(index: RunIndex, call: Call) -> list[str]:
     """Sentences about a Read that didn't get the end of the stream, although its other end was closed before the Read
     ended. Perhaps another descriptor keeps the connection open."""
     other = index.other_end(call.socket)

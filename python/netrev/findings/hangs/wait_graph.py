@@ -8,7 +8,7 @@ from typing import Callable, Hashable, Iterable, Iterator, NamedTuple, Optional
 from netrev.findings.evidence.deadlines_ahead import deadline_ahead
 from netrev.findings.evidence.need import Certainty, Need
 from netrev.findings.evidence.waiters import Waiter, waiters_at
-from netrev.findings.evidence.words import name_of, place_in
+from netrev.findings.evidence.call_words import name_of, place_in
 from netrev.recording.call import Call
 from netrev.recording.goroutines import A_CONDITION, MUTEXES
 from netrev.recording.recording import Recording

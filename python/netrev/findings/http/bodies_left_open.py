@@ -6,8 +6,8 @@ from operator import attrgetter
 from typing import Optional
 
 from netrev.findings.evidence.ledger import Ledger
-from netrev.findings.evidence.words import place_in
-from netrev.findings.pools.kept_ways import ways_past_close
+from netrev.findings.evidence.call_words import place_in
+from netrev.findings.pools.leaking_paths import paths_past_close
 from netrev.recording.goroutines import FOR_VALUE, PUT
 from netrev.recording.recording import Recording
 from netrev.recording.waits import Name, ObjectWait, Waits, name_of_goid, of_names
@@ -33,7 +33,7 @@ def open_bodies(recording: Recording, ledger: Ledger, waits: Waits, position: in
     many = f"{counted(len(kept), 'connection')} {'is' if len(kept) == 1 else 'are'} kept by responses"
     whose = "; ".join(f"of the request{place} ({of_names(names)})" for place, names in by_line.items())
     says = f"{many} whose body was neither read to its end nor closed{': ' if whose else ''}{whose}."
-    return [says, *ways_past_close(recording, stacks)]
+    return [says, *paths_past_close(recording, stacks)]
 
 
 def is_kept(wait: ObjectWait) -> bool:

@@ -28,7 +28,7 @@ def is_of_a_body(recording: Recording, call: Call) -> bool:
     return OF_A_LENGTH in functions and any(function.startswith(OF_A_BODY) for function in functions)
 
 
-def body_says(recording: Recording, call: Call, closed: Call) -> list[str]:
+def body_sentence(recording: Recording, call: Call, closed: Call) -> list[str]:
     """Sentences about a body that is shorter than its Content-Length because the other end was closed. The sentences
     name the lines of the program that set a Content-Length."""
     file = next((frame.file for frame in recording.lines.of(call.first).calls if frame.of == OF_THE_PROGRAM), "")

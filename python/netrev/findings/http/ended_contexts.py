@@ -6,7 +6,7 @@ from typing import Iterator, NamedTuple, Optional
 
 from netrev.findings.evidence.ledger import Ledger
 from netrev.findings.evidence.responses import SERVE
-from netrev.findings.evidence.words import place_in
+from netrev.findings.evidence.call_words import place_in
 from netrev.findings.finding import Cause
 from netrev.findings.source.functions import range_of, source_of
 from netrev.findings.source.package import places_with

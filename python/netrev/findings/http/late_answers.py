@@ -3,7 +3,7 @@ own code wrote these answers."""
 
 from typing import Iterator
 
-from netrev.findings.evidence.words import duration, is_of_go, text_of_call, waits_words
+from netrev.findings.evidence.call_words import duration, is_of_go, text_of_call, waits_words
 from netrev.findings.finding import Cause
 from netrev.recording.call import Call, Outcome
 from netrev.recording.waits import Name, ObjectWait, waits_of

@@ -6,16 +6,16 @@ from operator import attrgetter
 from typing import Iterator, NamedTuple, Optional
 
 from netrev.findings.evidence.responses import WRITE_LOOP, contains
-from netrev.findings.evidence.words import place_in
+from netrev.findings.evidence.call_words import place_in
 from netrev.recording.call import Call
 from netrev.recording.goroutines import CLOSED, ENDED, PUT, TOOK, ObjectUse, Timer
 from netrev.recording.recording import Recording
 from netrev.recording.waits import Name, name_of_goid
 from netrev.recording.where import Stack
-from netrev.recording.words import duration
+from netrev.recording.cell_meanings import duration
 from netrev.run.index import RunIndex
 
-from .cancels import is_of_a_rest
+from .cancellations import is_of_a_rest
 
 ROUND_TRIP, CAUSE_OF_END = "net/http.(*persistConn).roundTrip", "context.Cause"
 BY_A_TIMER = "context.WithDeadlineCause.func"  # the function that a context's timer calls

@@ -4,7 +4,7 @@ that its caller passed to Client.Go, but only if that channel has room."""
 import re
 
 from netrev.findings.evidence.responses import contains
-from netrev.findings.pools.unclosed import RECEIVE
+from netrev.findings.pools.unclosed_channels import RECEIVE
 from netrev.findings.source.functions import text_at
 from netrev.findings.source.package import files_of
 from netrev.recording.goroutines import FOR_VALUE, PUT

@@ -7,7 +7,7 @@ from typing import Iterator, NamedTuple, Optional
 
 from netrev.findings.evidence.ledger import END
 from netrev.findings.evidence.responses import WRITE_LOOP, contains
-from netrev.findings.evidence.words import place_in
+from netrev.findings.evidence.call_words import place_in
 from netrev.findings.finding import Cause
 from netrev.findings.source.functions import found_in
 from netrev.recording.call import CLOSE, Call

@@ -4,7 +4,7 @@ change the condition of the loop around the Wait but call neither Signal nor Bro
 import re
 from typing import Iterator, NamedTuple, Optional
 
-from netrev.findings.evidence.ended_goroutines import body_of, loop_round
+from netrev.findings.evidence.ended_goroutines import body_of, loop_around
 from netrev.findings.source.functions import Lines, indent_of, range_of, source_of
 from netrev.findings.source.locks import owner
 from netrev.recording.recording import Recording
@@ -63,7 +63,7 @@ def mistaken_signal(recording: Recording, wait: ObjectWait) -> list[str]:
     if source is None:
         return []
     call, lines, within = source
-    head = loop_round(lines, within, call.line)
+    head = loop_around(lines, within, call.line)
     looks = [lines[head - 1], *conditions_of(lines, head)] if head else []
     entry = next((found for text in looks if (found := ENTRY.search(text))), None)
     others = sorted({place for place in places_of_waits(recording, wait) if place != call.place()})

@@ -5,7 +5,7 @@ from collections import Counter
 from typing import NamedTuple, Optional
 
 from netrev.findings.evidence.siblings import DEFERRED, Kind, lines_in, lines_words
-from netrev.findings.evidence.words import place_in
+from netrev.findings.evidence.call_words import place_in
 from netrev.recording.goroutines import ADDED, DONE, ObjectUse
 from netrev.recording.recording import Recording
 from netrev.recording.waits import Name, name_of_goid, of_names
@@ -47,7 +47,7 @@ def count_of(recording: Recording, number: int) -> Optional[Count]:
     return count if count.added and count.missing > 0 else None
 
 
-def count_says(recording: Recording, count: Count) -> str:
+def count_sentence(recording: Recording, count: Count) -> str:
     """A sentence which says how many calls of Done are missing."""
     missing = f"{count.missing} calls of Done are" if count.missing > 1 else "1 call of Done is"
     done = f"{total(count.done)} done{places_of(recording, count.done)}" if count.done else "none done"
@@ -83,10 +83,10 @@ def kinds_at(recording: Recording, count: Count) -> list[Kind]:
             has_ended = goroutines[goid].last >= 0
             (kind.did if goid in count.done_by else kind.ended if has_ended else kind.alive).append(goid)
     did = [kind for kind in found.values() if kind.did]
-    return did if count.done else next_behind(recording, count, list(found.values()))
+    return did if count.done else next_after(recording, count, list(found.values()))
 
 
-def next_behind(recording: Recording, count: Count, kinds: list[Kind]) -> list[Kind]:
+def next_after(recording: Recording, count: Count, kinds: list[Kind]) -> list[Kind]:
     """The next `go` statement after the line that called Add, in the same function."""
     own = recording.lines.stacks[count.added[0].stack].own()
     near = [
@@ -97,11 +97,11 @@ def next_behind(recording: Recording, count: Count, kinds: list[Kind]) -> list[K
     return sorted(near, key=lambda kind: kind.statement.line)[:1]
 
 
-def ended_says(recording: Recording, count: Count) -> list[str]:
+def ended_sentence(recording: Recording, count: Count) -> list[str]:
     """Sentences about the goroutines that should have called Done and ended without it, and the lines by which they
     differ from the others. If all goroutines have called Done, a sentence says so."""
     kinds = kinds_at(recording, count)
-    says = [kind_says(recording, count, kind) for kind in kinds if kind.ended][:MOST_KINDS]
+    says = [kind_sentence(recording, count, kind) for kind in kinds if kind.ended][:MOST_KINDS]
     if says or not kinds or not count.is_once or any(kind.alive for kind in kinds):
         return says
     number, places = sum(len(kind.did) for kind in kinds), " and ".join(
@@ -121,7 +121,7 @@ def ended_names(recording: Recording, count: Count) -> tuple[Name, ...]:
     return tuple(name_of_goid(recording.lines, goid) for goid in goids)
 
 
-def kind_says(recording: Recording, count: Count, kind: Kind) -> str:
+def kind_sentence(recording: Recording, count: Count, kind: Kind) -> str:
     """A sentence which says that goroutines of a `go` statement ended without calling Done."""
     lines, every = recording.lines, [*kind.did, *kind.ended, *kind.alive]
     names = of_names(name_of_goid(lines, goid) for goid in kind.ended)

@@ -8,7 +8,7 @@ from typing import Callable, Container, NamedTuple, Optional
 from netrev.findings.evidence.need import Certainty, Need
 from netrev.findings.evidence.siblings import lines_words, odd_goroutines
 from netrev.findings.evidence.waiters import Waiter
-from netrev.findings.evidence.words import short
+from netrev.findings.evidence.call_words import short
 from netrev.findings.pools.made_channels import has_returned
 from netrev.findings.source.functions import found_in, indent_of, is_last_line, is_same_variable, source_of, text_at
 from netrev.findings.streams.failed_dials import failed_dial, refused, refused_words
@@ -16,7 +16,7 @@ from netrev.recording.waits import Name, Waits, name_of_goid, of_names
 from netrev.recording.where import OF_THE_PROGRAM, SourceCall, Stack
 from netrev.run.index import RunIndex
 
-from .group_counts import Count, count_of, count_says, ended_names, ended_says, started_by
+from .group_counts import Count, count_of, count_sentence, ended_names, ended_sentence, started_by
 from .skipped_done import skipped_done
 
 LITERAL = re.compile(r"\.(?:func\d+|gowrap\d+|deferwrap\d+)(?:\..*)?\Z")
@@ -64,7 +64,7 @@ class Groups:
         if itself and count and self._goid(itself) in started_by(self._recording, count):
             at = f"{itself.line.file}:{itself.number}"
             when = self._when(itself) or " after that"
-            return Need([f"It waits for itself: it calls Done at {at} only{when}.", count_says(self._recording, count)])
+            return Need([f"It waits for itself: it calls Done at {at} only{when}.", count_sentence(self._recording, count)])
         if count and (passed := self._passed_by(count, does)):
             return Need(passed, is_odd=True)
         skipped = skipped_done(self._recording, self._waits, count, self._position) if count else []
@@ -126,8 +126,8 @@ class Groups:
     def _without_done(self, count: Optional[Count]) -> list[str]:
         """Sentences about the number of missing calls of Done and the goroutines that ended without calling it; none if
         no such goroutine is known."""
-        ended = ended_says(self._recording, count) if count else []
-        return [count_says(self._recording, count), *ended] if count and ended else []
+        ended = ended_sentence(self._recording, count) if count else []
+        return [count_sentence(self._recording, count), *ended] if count and ended else []
 
     def _in_order(self, members: list[Member], count: Optional[Count]) -> list[Member]:
         """The goroutines that may call Done, first those that haven't called it yet. If callers of Add started some of

@@ -6,10 +6,10 @@ from typing import Callable, Iterator, Mapping, NamedTuple, Optional
 from netrev.findings.evidence.need import GOES_FIRST, Certainty, Need
 from netrev.findings.evidence.responses import contains
 from netrev.findings.evidence.waiters import Waiter
-from netrev.findings.evidence.words import place_in, short
-from netrev.findings.source.copied_structs import copies_says
+from netrev.findings.evidence.call_words import place_in, short
+from netrev.findings.source.copied_structs import copies_sentence
 from netrev.findings.source.functions import found_in, text_at
-from netrev.findings.source.left_locked import returns_locked
+from netrev.findings.source.missing_unlocks import returns_locked
 from netrev.findings.source.locks import LOCK, UNLOCK
 from netrev.recording.goroutines import READ, HeldMutex
 from netrev.recording.recording import Recording
@@ -144,7 +144,7 @@ class MutexHolders:
         if not times or times[-1] - wait.begin < A_MOMENT:
             return Need([])
         own = wait.stack.own()
-        at = copies_says(self._recording, own[0]) if own else ""
+        at = copies_sentence(self._recording, own[0]) if own else ""
         return Need(
             [f"No goroutine has locked it. Perhaps it is a copy of a mutex that was locked as it was copied{at}."],
             is_odd=True,

@@ -7,7 +7,7 @@ from netrev.findings.evidence.ledger import Ledger
 from netrev.findings.evidence.need import Certainty, Need
 from netrev.findings.evidence.waiters import Waiter
 from netrev.findings.source.functions import is_same_variable, source_of, text_at
-from netrev.findings.source.left_locked import left_locked
+from netrev.findings.source.missing_unlocks import left_locked
 from netrev.findings.source.locks import LOCK, LockedMutex, held_at, owner
 from netrev.findings.source.package import place_of_variable
 from netrev.recording.goroutines import MUTEXES
@@ -154,10 +154,10 @@ class NeedsOfMutexes:
         certain, and None if the goroutine holds no such mutex there."""
         key = call, lock, frozenset(locks)
         if key not in self._locks:
-            self._locks[key] = self._look_for_lock(call, lock, locks)
+            self._locks[key] = self._check_for_lock(call, lock, locks)
         return self._locks[key]
 
-    def _look_for_lock(self, call: SourceCall, lock: SourceCall, locks: set[SourceCall]) -> Optional[int]:
+    def _check_for_lock(self, call: SourceCall, lock: SourceCall, locks: set[SourceCall]) -> Optional[int]:
         name = LOCK.search(text_at(self._recording, lock))
         for held in self._held(call):
             is_alike = owner(call.function) == owner(lock.function)
@@ -167,5 +167,5 @@ class NeedsOfMutexes:
                 return held.line
             if name and not is_alike and self._is_same_field(call, held.name, lock, name[1]):
                 return held.line
-        is_behind = any(place.function == call.function and place.line < call.line for place in locks)
-        return 0 if is_behind and source_of(self._recording, call.file) is None else None
+        is_after = any(place.function == call.function and place.line < call.line for place in locks)
+        return 0 if is_after and source_of(self._recording, call.file) is None else None

@@ -4,7 +4,7 @@ had read ahead are lost with that reader, and the other end waits for answers to
 import re
 from typing import Optional
 
-from netrev.findings.evidence.words import result_words, text_of_call
+from netrev.findings.evidence.call_words import result_words, text_of_call
 from netrev.findings.source.functions import range_of, source_of, text_at
 from netrev.recording.call import Call
 from netrev.recording.where import OF_THE_PROGRAM, SourceCall as LineCall, Stack

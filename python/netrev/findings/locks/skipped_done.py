@@ -6,16 +6,16 @@ import re
 from collections import defaultdict
 from typing import NamedTuple, Optional
 
-from netrev.findings.evidence.ended_goroutines import body_of, loop_round
+from netrev.findings.evidence.ended_goroutines import body_of, loop_around
 from netrev.findings.source.functions import Lines, range_of, source_of, text_at
-from netrev.findings.source.skipped_ways import is_match, is_text, skipped_ways, that_stay, ways_words
+from netrev.findings.source.skipped_paths import is_match, is_text, skipped_paths, that_stay, paths_text
 from netrev.recording.goroutines import PUT, TOOK, ObjectUse
 from netrev.recording.recording import Recording
 from netrev.recording.waits import Waits, name_of_goid
 from netrev.recording.where import OF_THE_PROGRAM, SourceCall, Stack
 from netrev.text.plurals import counted
 
-from .group_counts import Count, count_says, total
+from .group_counts import Count, count_sentence, total
 
 OVER = re.compile(r"for \w+ :?= range [\w.]+ \{$")
 TAKES = re.compile(r"(?:case )?\w+(?:, \w+)? :?= <-[\w.]+:?$")
@@ -51,10 +51,10 @@ def skipped_done(recording: Recording, waits: Waits, count: Count, position: int
             if not takes or not all(is_free(recording, waits, use, position) for use in takes):
                 continue
             if missing == count.missing:
-                return [count_says(recording, count), *rounds_say(recording, every, takes, done)]
+                return [count_sentence(recording, count), *rounds_sentence(recording, every, takes, done)]
             puts = [use for use in uses if use.what == PUT]
             if not missing and total(done) == total(count.done) and total(puts) == total(takes):
-                return [count_says(recording, count), *unput_says(recording, count, puts)]
+                return [count_sentence(recording, count), *unput_sentence(recording, count, puts)]
     return perhaps_skipped(recording, count, loops)
 
 
@@ -62,13 +62,13 @@ def perhaps_skipped(recording: Recording, count: Count, loops: dict[tuple[str, i
     """Sentences about a loop that takes values for several WaitGroups: the paths that skip Done."""
     for of_loop in loops.values():
         every = sorted(of_loop, key=lambda rounds: rounds.line.line)
-        if ways := words_of_ways(recording, every, False):
+        if ways := paths_sentence(recording, every, False):
             done = f"{every[-1].done.place()}, which calls Done"
-            return [count_says(recording, count), f"Perhaps it is skipped on this way: {ways} without {done}."]
+            return [count_sentence(recording, count), f"Perhaps it is skipped on this way: {ways} without {done}."]
     return []
 
 
-def unput_says(recording: Recording, count: Count, puts: list[ObjectUse]) -> list[str]:
+def unput_sentence(recording: Recording, count: Count, puts: list[ObjectUse]) -> list[str]:
     """Sentences for a loop that called Done for each value. Fewer values were put into the channel than were added to
     the WaitGroup, and the sentences name the paths that put no value."""
     owns = [own[0] for use in puts if (own := recording.lines.stacks[use.stack].own())]
@@ -79,10 +79,10 @@ def unput_says(recording: Recording, count: Count, puts: list[ObjectUse]) -> lis
     within = range_of(lines, line) if lines and line else None
     if not line or not lines or not within:
         return [f"{many} came, and each had its Done: more was added than that."]
-    head, text = loop_round(lines, within, line.line), code(lines, line.line).partition(" <- ")[0]
-    ways = skipped_ways(lines, within, is_text(code(lines, head)), is_match(rf"{re.escape(text)} <- ")) if head else []
-    goes = f": {ways_words(line.file, ways)} without it" if ways else ""
-    return [f"{many} came from {line.place()}, and each had its Done: more was added than that{goes}."]
+    head, text = loop_around(lines, within, line.line), code(lines, line.line).partition(" <- ")[0]
+    ways = skipped_paths(lines, within, is_text(code(lines, head)), is_match(rf"{re.escape(text)} <- ")) if head else []
+    path_words = f": {paths_text(line.file, ways)} without it" if ways else ""
+    return [f"{many} came from {line.place()}, and each had its Done: more was added than that{path_words}."]
 
 
 def rounds_of(recording: Recording, stack: Stack) -> Optional[Rounds]:
@@ -94,7 +94,7 @@ def rounds_of(recording: Recording, stack: Stack) -> Optional[Rounds]:
     for call in calls[:MOST_CALLS]:
         lines = source_of(recording, call.file)
         within = range_of(lines, call) if lines else None
-        head = loop_round(lines, within, call.line) if lines and within else 0
+        head = loop_around(lines, within, call.line) if lines and within else 0
         if lines and head:
             takes = takes_at(lines, head, call.line)
             return Rounds(call, head, takes, calls[0]) if takes else None
@@ -138,18 +138,18 @@ def has_ended(recording: Recording, use: ObjectUse) -> bool:
     return known is not None and known.last >= 0
 
 
-def rounds_say(recording: Recording, every: list[Rounds], takes: list[ObjectUse], done: list[ObjectUse]) -> list[str]:
+def rounds_sentence(recording: Recording, every: list[Rounds], takes: list[ObjectUse], done: list[ObjectUse]) -> list[str]:
     """Sentences that say how often a loop took a value and how often it called Done, and name the paths that skip
     Done."""
     rounds = every[-1]
     file, place = rounds.line.file, " and ".join(dict.fromkeys(loop.done.place() for loop in every))
     many = f"{counted(total(takes), 'value')} from a channel and called Done at {place} {counted(total(done), 'time')}"
     says = f"The loop at {file}:{rounds.head} took {many}"
-    ways = words_of_ways(recording, every, any(has_ended(recording, use) for use in takes))
+    ways = paths_sentence(recording, every, any(has_ended(recording, use) for use in takes))
     return [f"{says}: {ways} without it." if ways else f"{says}."]
 
 
-def words_of_ways(recording: Recording, every: list[Rounds], has_left: bool) -> str:
+def paths_sentence(recording: Recording, every: list[Rounds], has_left: bool) -> str:
     """Text for the paths that skip Done, in a loop and in the function that the loop calls; empty if no path does."""
     rounds = every[-1]
     lines, inner = source_of(recording, rounds.line.file), source_of(recording, rounds.done.file)
@@ -158,9 +158,9 @@ def words_of_ways(recording: Recording, every: list[Rounds], has_left: bool) -> 
         return ""
     texts = {text_at(recording, loop.line).strip().partition("(")[0] for loop in every}
     ends = is_match(rf"(?:{'|'.join(map(re.escape, sorted(texts)))})\(")
-    ways = skipped_ways(lines, within, is_text(code(lines, rounds.takes)), ends)
-    words = [ways_words(rounds.line.file, ways if has_left else that_stay(ways))]
+    ways = skipped_paths(lines, within, is_text(code(lines, rounds.takes)), ends)
+    words = [paths_text(rounds.line.file, ways if has_left else that_stay(ways))]
     function = range_of(inner, rounds.done) if rounds.done != rounds.line else None
     if function:
-        words.append(ways_words(rounds.done.file, skipped_ways(inner, function, None, is_match(r"\.Done\(\)"))))
+        words.append(paths_text(rounds.done.file, skipped_paths(inner, function, None, is_match(r"\.Done\(\)"))))
     return " and ".join(some for some in words if some)

@@ -6,7 +6,7 @@ from collections import Counter, defaultdict
 from operator import attrgetter
 from typing import NamedTuple, Optional
 
-from netrev.findings.evidence.words import short
+from netrev.findings.evidence.call_words import short
 from netrev.recording.goroutines import PUT, TOOK, ObjectUse
 from netrev.recording.recording import Recording
 from netrev.recording.waits import Name, name_of_goid
@@ -39,8 +39,8 @@ class Form(NamedTuple):
     def has_at(self, line: SourceCall) -> bool:
         """Whether a call at this line has taken a value and gives it back at a later line or in a deferred function."""
         deferred = any(giving.function != self.function for giving in self.giving)
-        is_behind = any(taking.line < line.line for taking in self.taking)
-        return is_behind and (deferred or any(line.line < giving.line for giving in self.giving))
+        is_after = any(taking.line < line.line for taking in self.taking)
+        return is_after and (deferred or any(line.line < giving.line for giving in self.giving))
 
 
 class Balance(NamedTuple):

@@ -4,7 +4,7 @@ empty, and stays so until the end of the recording."""
 from operator import attrgetter
 from typing import Iterator
 
-from netrev.findings.evidence.words import place_in
+from netrev.findings.evidence.call_words import place_in
 from netrev.findings.finding import Cause
 from netrev.recording.goroutines import A_SELECT, FOR_ROOM, FOR_VALUE, PUT, TOOK, At
 from netrev.recording.recording import Recording
@@ -14,8 +14,8 @@ from netrev.run.index import RunIndex
 from netrev.text.plurals import counted
 
 from .balances import balances_of
-from .balances_in_words import kept_says
-from .kept_ways import ways_with_an_error
+from .balance_sentences import kept_sentence
+from .leaking_paths import paths_with_an_error
 
 A_WHILE = 20_000_000  # nanoseconds, the shortest wait that counts
 
@@ -74,7 +74,7 @@ def says(recording: Recording, wait: ObjectWait, at: At) -> list[str]:
         if at.use == FOR_ROOM
         else "for a value from a channel that is empty"
     )
-    kept = kept_says(recording, balances_of(recording, at.object, {})) or ways_with_an_error(
+    kept = kept_sentence(recording, balances_of(recording, at.object, {})) or paths_with_an_error(
         recording, wait._replace(objects=(at,))
     )
     return [

@@ -6,7 +6,7 @@ from typing import Optional
 
 from netrev.findings.source.functions import range_of, text_at
 from netrev.findings.source.package import HEAD, files_of
-from netrev.findings.source.skipped_ways import is_match, ways_are, ways_words
+from netrev.findings.source.skipped_paths import is_match, paths_are, paths_text
 from netrev.findings.source.statements import code_at
 from netrev.recording.call import Call
 from netrev.recording.recording import Recording
@@ -14,7 +14,7 @@ from netrev.recording.waits import Name, waits_of
 from netrev.recording.where import OF_THE_PROGRAM, SourceCall as LineCall, Stack
 from netrev.run.index import RunIndex, back
 
-from .kept_ways import USES, closed_in_a_loop, value_of, ways_of
+from .leaking_paths import USES, closed_in_a_loop, value_of, paths_through
 
 TAKEN = re.compile(r"(?:if )?(\w+)(?:, \w+)? :?= ")
 CALL = re.compile(r"(?<![\w.])(\w+)\(([^()]*)\)")
@@ -57,7 +57,7 @@ def left_by(index: RunIndex, opened: Call, line: LineCall) -> list[str]:
     name = taken[1]
     closes = rf"\b{re.escape(name)}\.Close\(\)"
     hands_on = value_of(text, TO_OTHERS)
-    ways = ways_of(
+    ways = paths_through(
         index.recording,
         line,
         text,
@@ -66,9 +66,9 @@ def left_by(index: RunIndex, opened: Call, line: LineCall) -> list[str]:
     )
     if not ways:
         return []
-    does = ways_words(line.file, ways)
+    does = paths_text(line.file, ways)
     return [
-        f"Socket {opened.socket}, opened at {line.place()}, is still open. Perhaps it was left open {ways_are(ways)}: {does} without a Close."
+        f"Socket {opened.socket}, opened at {line.place()}, is still open. Perhaps it was left open {paths_are(ways)}: {does} without a Close."
     ]
 
 

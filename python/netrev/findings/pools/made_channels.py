@@ -3,7 +3,7 @@ function made the channel. In the program's source, the module finds the lines a
 
 import re
 
-from netrev.findings.evidence.words import short
+from netrev.findings.evidence.call_words import short
 from netrev.findings.source.functions import found_in, text_at
 from netrev.recording.goroutines import A_RECEIVER, PUT, At
 from netrev.recording.recording import Recording
@@ -30,7 +30,7 @@ def without_receiver(index: RunIndex, wait: ObjectWait, position: int) -> list[s
     if not is_local(index, own[0]) or not has_returned(index, name_of_goid(lines, creation.goid), own[0], position):
         return []
     return [
-        f"{own[0].place()} in {short(own[0].function)} made that channel, without room for a value, and has returned{returns_says(index, own[0])}."
+        f"{own[0].place()} in {short(own[0].function)} made that channel, without room for a value, and has returned{returns_sentence(index, own[0])}."
     ]
 
 
@@ -54,7 +54,7 @@ def has_returned(index: RunIndex, maker: Name, line: SourceCall, position: int) 
     return now is not None and bool(now.calls) and not is_in(now, line)
 
 
-def returns_says(index: RunIndex, line: SourceCall) -> str:
+def returns_sentence(index: RunIndex, line: SourceCall) -> str:
     """Text for the lines at which a function returns; empty if there are none or too many."""
     found = [number for number, _ in found_in(index.recording, line, RETURNS) if number > line.line]
     places = " or ".join(f"{line.file}:{number}" for number in found)

@@ -3,7 +3,7 @@ concerned an older channel whose memory was reused."""
 
 import re
 
-from netrev.findings.evidence.ended_goroutines import loop_round
+from netrev.findings.evidence.ended_goroutines import loop_around
 from netrev.findings.source.functions import range_of, source_of, text_at
 from netrev.recording.recording import Recording
 from netrev.recording.waits import ObjectWait
@@ -33,5 +33,5 @@ def channel_since(recording: Recording, wait: ObjectWait) -> int:
     ]
     frames = recording.lines.of(writes[-1].first).calls if maker and writes else ()
     line = next((call.line for call in frames if call.function == own[0].function), 0)
-    is_once = maker < line < own[0].line and max(loop_round(lines, within, at) for at in (line, own[0].line)) <= maker
+    is_once = maker < line < own[0].line and max(loop_around(lines, within, at) for at in (line, own[0].line)) <= maker
     return writes[-1].first if maker and is_once else 0

@@ -5,7 +5,7 @@ from typing import Container, Optional
 
 from netrev.findings.evidence.ledger import END, GIVES
 from netrev.findings.evidence.need import Certainty, Need
-from netrev.findings.evidence.words import place_in
+from netrev.findings.evidence.call_words import place_in
 from netrev.recording.goroutines import CLOSED, FOR_VALUE, PUT, TOOK, ObjectUse
 from netrev.recording.recording import Recording
 from netrev.recording.waits import Name, ObjectWait, name_of_goid

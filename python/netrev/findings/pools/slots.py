@@ -5,7 +5,7 @@ import re
 from typing import Iterable, Iterator, Mapping, NamedTuple, Optional
 
 from netrev.findings.evidence.need import Certainty, Need
-from netrev.findings.evidence.words import short
+from netrev.findings.evidence.call_words import short
 from netrev.findings.source.functions import Lines, range_of, source_of
 from netrev.recording.goroutines import FOR_ROOM, FOR_VALUE, PUT, TOOK, At, ObjectUse
 from netrev.recording.recording import Recording
@@ -61,14 +61,14 @@ def slots_in(recording: Recording, name: Name, use: ObjectUse, stack: Stack, lea
     taken = recording.lines.stacks[use.stack]
     own = taken.own()
     for call in stack.calls:
-        if own and call.of == OF_THE_PROGRAM and is_behind(taken, call):
+        if own and call.of == OF_THE_PROGRAM and is_after(taken, call):
             lines = source_of(recording, call.file)
             back = leaving_line(lines, call, leavings) if lines else 0
             if back:
                 yield Slot(name, own[0], f"{call.file}:{back}")
 
 
-def is_behind(taken: Stack, call: SourceCall) -> bool:
+def is_after(taken: Stack, call: SourceCall) -> bool:
     """Whether a call is in a function that took a slot, after the line that took it."""
     return any(frame.function == call.function and frame.line < call.line for frame in taken.calls)
 

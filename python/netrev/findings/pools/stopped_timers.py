@@ -6,9 +6,9 @@ from typing import NamedTuple, Optional
 
 from netrev.findings.evidence.need import Need
 from netrev.findings.evidence.waiters import TICKERS, last_time_of
-from netrev.findings.evidence.words import place_in
+from netrev.findings.evidence.call_words import place_in
 from netrev.findings.source.functions import range_of, source_of
-from netrev.findings.source.skipped_ways import is_match, is_text, skipped_ways, that_stay, ways_are, ways_words
+from netrev.findings.source.skipped_paths import is_match, is_text, skipped_paths, that_stay, paths_are, paths_text
 from netrev.recording.goroutines import TOOK, Timer
 from netrev.recording.recording import Recording
 from netrev.recording.waits import ObjectWait, name_of_goid
@@ -54,7 +54,7 @@ def silent_at(recording: Recording, number: int, begin: int = 0) -> Optional[Sil
     return Silent(name, last, None) if has_gone_off and is_taken else None
 
 
-def silent_says(recording: Recording, silent: Silent) -> str:
+def silent_sentence(recording: Recording, silent: Silent) -> str:
     """The sentence about a timer that will send nothing more."""
     lines, name = recording.lines, silent.name
 
@@ -80,7 +80,7 @@ def of_timers(recording: Recording, wait: ObjectWait) -> Optional[Need]:
     silent = silent_at(recording, wait.objects[0].object, wait.begin) if len(wait.objects) == 1 else None
     if not silent or not own or own[0].of != OF_THE_PROGRAM:
         return None
-    return Need([f"{silent_says(recording, silent)}{'' if silent.stopped else ways_past_reset(recording, wait)}"])
+    return Need([f"{silent_sentence(recording, silent)}{'' if silent.stopped else paths_past_reset(recording, wait)}"])
 
 
 def timers_of_select(recording: Recording, wait: ObjectWait) -> list[str]:
@@ -89,11 +89,11 @@ def timers_of_select(recording: Recording, wait: ObjectWait) -> list[str]:
     silent = next((candidate for candidate in candidates if candidate), None)
     if silent is None:
         return []
-    ways = "" if silent.stopped else ways_past_reset(recording, wait)
-    return [f"One of its cases can't come: {lower(silent_says(recording, silent))}{ways}"]
+    ways = "" if silent.stopped else paths_past_reset(recording, wait)
+    return [f"One of its cases can't come: {lower(silent_sentence(recording, silent))}{ways}"]
 
 
-def ways_past_reset(recording: Recording, wait: ObjectWait) -> str:
+def paths_past_reset(recording: Recording, wait: ObjectWait) -> str:
     """A sentence about a timer that has gone off and was perhaps not set again. It names the path in the program's
     source that skips the reset: ` Perhaps on this way: after main.go:65, main.go:67 goes on without main.go:75, which
     sets it anew.` The sentence is empty if no such path exists."""
@@ -115,10 +115,10 @@ def ways_past_reset(recording: Recording, wait: ObjectWait) -> str:
     if len(cases) != 1 or not resets:
         return ""
     sets = is_match(rf"(?<![\w.]){re.escape(name)}\.Reset\(")
-    ways = that_stay(skipped_ways(lines, within, is_text(text[cases[0][0]]), sets))
-    file, does = own[0].file, ways_words(own[0].file, ways)
+    ways = that_stay(skipped_paths(lines, within, is_text(text[cases[0][0]]), sets))
+    file, does = own[0].file, paths_text(own[0].file, ways)
     words = f"after {file}:{cases[0][0]}, {does} without {file}:{resets[-1]}, which sets it anew"
-    return f" Perhaps {ways_are(ways)}: {words}." if ways else ""
+    return f" Perhaps {paths_are(ways)}: {words}." if ways else ""
 
 
 def lower(words: str) -> str:

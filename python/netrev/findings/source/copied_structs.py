@@ -16,7 +16,7 @@ COPY = re.compile(r"=\s*\*([\w.]+)\s*$")
 MOST = 2
 
 
-def copies_says(recording: Recording, lock: SourceCall) -> str:
+def copies_sentence(recording: Recording, lock: SourceCall) -> str:
     """Text that names the lines that copy a struct together with its mutex, for example `, as a.go:12 copies it`; empty
     if unknown. A goroutine waits for that mutex in the call `lock`."""
     name = LOCK.search(text_at(recording, lock)) if lock.of == OF_THE_PROGRAM else None

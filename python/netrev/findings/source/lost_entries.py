@@ -22,7 +22,7 @@ class TableUse(NamedTuple):
     key: str
 
 
-def entry_says(recording: Recording, line: SourceCall) -> list[str]:
+def entry_sentence(recording: Recording, line: SourceCall) -> list[str]:
     """Sentences about the line at which a goroutine passes answers to other goroutines. The sentences name the table in
     which the goroutine looks up the receiver, and the lines that add entries and remove them."""
     lines = source_of(recording, line.file)

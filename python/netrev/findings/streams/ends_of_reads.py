@@ -5,7 +5,7 @@ import re
 from typing import Optional
 
 from netrev.findings.evidence.responses import SERVE, contains
-from netrev.findings.evidence.words import is_of_go, since_begin, text_of_call
+from netrev.findings.evidence.call_words import is_of_go, since_begin, text_of_call
 from netrev.findings.source.package import places_with
 from netrev.recording.call import Call
 from netrev.recording.waits import Name, waits_of
@@ -24,14 +24,14 @@ OF_A_LINE = {
 }  # fmt: skip
 
 
-def end_says(index: RunIndex, call: Call, other: int, position: int) -> list[str]:
+def end_sentence(index: RunIndex, call: Call, other: int, position: int) -> list[str]:
     """Sentences about what a Read looks for; none if only Go's own code made the Read."""
     if call.name != "Read" or is_of_go(index.recording, call):
         return []
     functions = {frame.function for frame in index.recording.lines.of(call.first).calls}
     if functions.intersection(OF_A_BODY) and is_served(index, other, position):
         return []
-    if says := bound_says(functions, other):
+    if says := bound_sentence(functions, other):
         return [says, *(half_closes(index, other, position) if "for writing" in says else [])]
     if not index.moved(call.socket, "Write", position) and not index.moved(other, "Write", position):
         since = since_begin(index.recording, index.by_socket[call.socket][0].first)
@@ -59,7 +59,7 @@ def is_served(index: RunIndex, socket: int, position: int) -> bool:
     return wait is not None and contains(wait.stack, SERVE)
 
 
-def bound_says(functions: set[str], other: int) -> str:
+def bound_sentence(functions: set[str], other: int) -> str:
     """Text that says how far a Read's callers read: to the end of a body, up to a number of bytes, or to the end of the
     stream."""
     if functions.intersection(OF_A_BODY):

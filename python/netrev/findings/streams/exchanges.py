@@ -4,19 +4,19 @@ than the other end wrote."""
 
 from typing import Iterator, NamedTuple, Optional
 
-from netrev.findings.evidence.asked import ReadSizes, read_sizes_of
+from netrev.findings.evidence.read_sizes import ReadSizes, read_sizes_of
 from netrev.findings.evidence.sizes import are_known, moved_at, size_of
-from netrev.findings.evidence.words import place_of, text_of_call
+from netrev.findings.evidence.call_words import place_of, text_of_call
 from netrev.recording.call import OPEN, Call
 from netrev.recording.recording import Recording
 from netrev.run.index import MOVING, RunIndex, back
 from netrev.text.plurals import counted
 
 from .ends_of_reads import line_reader_of
-from .flushes import ways_round_a_flush, ways_without_an_answer, writes_through_a_buffer
-from .frame_lengths import is_of_a_body, length_says
+from .flushes import paths_around_flush, paths_without_answer, writes_through_a_buffer
+from .frame_lengths import is_of_a_body, length_sentence
 from .left_in_buffers import never_flushed
-from .unaccepted import is_dialed
+from .unaccepted_connections import is_dialed
 
 MOST_ASKED = 65_536  # the most bytes that a Read counts
 FEW_ASKED = 256  # bytes that a Read may ask for at once, as for a header
@@ -113,7 +113,7 @@ def unanswered(index: RunIndex, call: Call, other: int, position: int) -> list[s
         return []
     if not answers:
         return unended(index, request, read, now)
-    if len(answers) < FEWEST and not ways_round_a_flush(index.recording, index.recording.lines.of(now.first)):
+    if len(answers) < FEWEST and not paths_around_flush(index.recording, index.recording.lines.of(now.first)):
         return []
     return [
         f"The request, {text_of_call(index.recording, request)} in {request.steps()}, was read by "
@@ -154,7 +154,7 @@ def perhaps_why(index: RunIndex, call: Call, now: Call) -> str:
     if is_buffered is None:
         is_buffered = any(exchange.reads and len(exchange.writes) == len(last.writes) for exchange in before)
     lacks = f"the request lacks what ends it, for which {line} reads on"
-    ways = ways_round_a_flush(index.recording, stack)
+    ways = paths_around_flush(index.recording, stack)
     kept = f"the answer is in a buffer that wasn't flushed{ways}"
     skips = "" if ways else skips_an_answer(index, now)
     if ways or skips:
@@ -170,7 +170,7 @@ def skips_an_answer(index: RunIndex, now: Call) -> str:
         write for write in index.by_socket[now.socket] if write.goroutine == now.goroutine and write.name == "Write"
     )
     stacks = {index.recording.lines.of(write.first) for write in calls}
-    ways = ways_without_an_answer(index.recording, index.recording.lines.of(now.first), stacks)
+    ways = paths_without_answer(index.recording, index.recording.lines.of(now.first), stacks)
     return f"it gives no answer there: {ways}" if ways else ""
 
 
@@ -212,7 +212,7 @@ def lacking(index: RunIndex, call: Call, other: int) -> list[str]:
     if begin is call and is_of_a_buffer and is_of_a_body(recording, call):
         return [
             f"It waits for the rest of a message: {text_of_call(recording, write)} was the last there.",
-            *length_says(recording, write, call),
+            *length_sentence(recording, write, call),
         ]
     if begin is call and (rest < FEW_ASKED or is_of_a_buffer):
         return []
@@ -225,7 +225,7 @@ def lacking(index: RunIndex, call: Call, other: int) -> list[str]:
                 f"{text_of_call(recording, write)}, the last there, ended in step {write.last}, and nobody writes there "
                 ""
                 "now.",
-                *length_says(recording, write, begin),
+                *length_sentence(recording, write, begin),
             ]
         )
     if moved_at(index, call.socket, "Read", recording.length) != moved_at(index, other, "Write", recording.length):
@@ -235,13 +235,13 @@ def lacking(index: RunIndex, call: Call, other: int) -> list[str]:
             f"It asks for {'at least ' if rest >= MOST_ASKED else ''}{counted(rest, 'byte')}: "
             f"{text_of_call(recording, write)}, the last there, put {counted(size_of(index, write), 'byte')}, and all "
             "of them are read.",
-            *length_says(recording, write, begin),
+            *length_sentence(recording, write, begin),
         ]
     return [
         f"It asked for {counted(whole, 'byte')} and has {whole - rest}: {text_of_call(recording, write)}, the last "
         f"there, put {counted(size_of(index, write), 'byte')}, and all of them are read. "
         f"{counted(rest, 'byte')} more must come.",
-        *length_says(recording, write, begin),
+        *length_sentence(recording, write, begin),
     ]
 
 

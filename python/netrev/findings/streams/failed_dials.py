@@ -2,7 +2,7 @@
 
 from typing import Iterator, NamedTuple, Optional
 
-from netrev.findings.evidence.words import place_in, place_of_step
+from netrev.findings.evidence.call_words import place_in, place_of_step
 from netrev.findings.finding import Cause
 from netrev.recording.call import CLOSE, OPEN, Call
 from netrev.recording.goroutines import CLOSED, FailedDial
@@ -10,7 +10,7 @@ from netrev.recording.recording import Recording
 from netrev.recording.waits import name_of_goid
 from netrev.run.index import RunIndex, run_of
 
-from .unaccepted import CONNECTS, accepts_at, closed, is_dialed
+from .unaccepted_connections import CONNECTS, accepts_at, closed, is_dialed
 
 ONCE = "sync.(*Once).Do"
 FAILED = "net.socket"  # closes a socket that it couldn't connect
@@ -73,7 +73,7 @@ def refused_words(recording: Recording, failed: FailedDial) -> str:
     return f"Dial{place_in(stack)} ({name}, step {failed.step}) failed" + (f": {why}" if why else "")
 
 
-def ended_says(recording: Recording, failed: FailedDial) -> list[str]:
+def ended_sentence(recording: Recording, failed: FailedDial) -> list[str]:
     """Sentences about a dial that failed. The sentences name the goroutine that had cancelled the dial's context, and
     the line; or they say that a sync.Once made the dial and doesn't run again."""
     lines = recording.lines
@@ -125,7 +125,7 @@ def failed_dials(index: RunIndex) -> Iterator[Cause]:
                 if by
                 else []
             )
-        says += ended_says(recording, failed) if failed else []
+        says += ended_sentence(recording, failed) if failed else []
         yield Cause(
             dial.close, says, [dial.close.first], [f"goto {dial.close.first}", f"calls sock {dial.close.socket}"]
         )

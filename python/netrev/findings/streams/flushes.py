@@ -5,11 +5,11 @@ import re
 from typing import Iterable, Optional
 
 from netrev.findings.source.functions import Lines, indent_of, range_of, source_of
-from netrev.findings.source.skipped_ways import Test, is_match, is_text, skipped_ways, that_stay, ways_words
+from netrev.findings.source.skipped_paths import Test, is_match, is_text, skipped_paths, that_stay, paths_text
 from netrev.recording.recording import Recording
 from netrev.recording.where import OF_THE_PROGRAM, Stack
 
-from .left_in_buffers import Named, calls_one_of, is_write, names_near
+from .left_in_buffers import Named, calls_any_of, is_write, names_near
 
 FLUSH = re.compile(r"([\w.]+)\.Flush\(\)")
 CALLED = re.compile(r"[\w.]+\(")
@@ -18,7 +18,7 @@ OTHER_CASES = ("case ", "default:", "} else")
 BUFFERED = re.compile(r"bufio\.NewWriter|bufio\.NewReadWriter|\.Flush\(\)")
 
 
-def ways_round_a_flush(recording: Recording, stack: Stack) -> str:
+def paths_around_flush(recording: Recording, stack: Stack) -> str:
     """The paths in the function in which a goroutine reads: ` (main.go:57 goes on without main.go:66, which flushes)`;
     empty if no such path exists."""
     own = stack.own()
@@ -36,18 +36,18 @@ def ways_round_a_flush(recording: Recording, stack: Stack) -> str:
         return ""
     text = " ".join(code(lines, number).strip() for number in within)
     flush_of = is_match(rf"(?<![\w.]){re.escape(writer)}\.Flush\(")
-    ways = that_stay(skipped_ways(lines, within, writes_to(writer, text), flush_of, is_match(r"\.Buffered\(\)")))
-    return f" ({ways_words(own[0].file, ways)} without {own[0].file}:{flush}, which flushes)" if ways else ""
+    ways = that_stay(skipped_paths(lines, within, writes_to(writer, text), flush_of, is_match(r"\.Buffered\(\)")))
+    return f" ({paths_text(own[0].file, ways)} without {own[0].file}:{flush}, which flushes)" if ways else ""
 
 
 def unflushed_line(lines: Lines, within: range, read: int, named: Named) -> int:
     """The first line after the line `read` that writes into a buffer without a flush before the next read. The result
     is 0 if no such line exists, or if no path of the function flushes."""
     later = range(read + 1, within.stop)
-    habit = any(calls_one_of(code(lines, number), named.flushes) for number in later)
+    habit = any(calls_any_of(code(lines, number), named.flushes) for number in later)
     for number in later if habit else ():
         text = code(lines, number)
-        is_flushed = calls_one_of(text, named.flushes) or flushes_after(lines, within, read, number, named)
+        is_flushed = calls_any_of(text, named.flushes) or flushes_after(lines, within, read, number, named)
         if is_write(text, named.buffers) and not is_flushed:
             return number
     return 0
@@ -63,12 +63,12 @@ def flushes_after(lines: Lines, within: range, read: int, written: int, named: N
             return False
         if indent <= margin:
             margin, is_other = indent, text.lstrip().startswith(OTHER_CASES)
-        if not is_other and calls_one_of(text, named.flushes):
+        if not is_other and calls_any_of(text, named.flushes):
             return True
     return False
 
 
-def ways_without_an_answer(recording: Recording, stack: Stack, writes: Iterable[Stack]) -> str:
+def paths_without_answer(recording: Recording, stack: Stack, writes: Iterable[Stack]) -> str:
     """The paths that lead from a goroutine's read to its next read in the same function, but skip the lines at which
     the goroutine has written: `main.go:58 goes on without main.go:60, which answers`; empty if no such path exists."""
     own = stack.own()
@@ -83,9 +83,9 @@ def ways_without_an_answer(recording: Recording, stack: Stack, writes: Iterable[
     if not names:
         return ""
     ends = is_match("|".join([WRITES, *sorted(names)]))
-    ways = that_stay(skipped_ways(lines, within, is_text(code(lines, own[0].line).strip()), ends))
+    ways = that_stay(skipped_paths(lines, within, is_text(code(lines, own[0].line).strip()), ends))
     place = f"{own[0].file}:{max(call.line for call in found)}"
-    return f"{ways_words(own[0].file, ways)} without {place}, which answers" if ways else ""
+    return f"{paths_text(own[0].file, ways)} without {place}, which answers" if ways else ""
 
 
 def writes_to(writer: str, function: str) -> Test:

@@ -32,7 +32,7 @@ class Line(NamedTuple):
         return f"{self.file}:{self.number}"
 
 
-def length_says(recording: Recording, write: Call, read: Call) -> list[str]:
+def length_sentence(recording: Recording, write: Call, read: Call) -> list[str]:
     """Sentences about the lines that wrote and read the length that a Read asks for. The sentences say so if that
     length belongs to something other than the bytes that were written."""
     written = length_line(recording, write)

@@ -4,8 +4,8 @@ may have come."""
 from typing import Iterator, NamedTuple, Optional
 
 from netrev.findings.evidence.ended_goroutines import left_by
-from netrev.findings.evidence.long_lines import long_line_says
-from netrev.findings.evidence.words import is_of_go, result_words, text_of_call
+from netrev.findings.evidence.long_lines import long_line_sentence
+from netrev.findings.evidence.call_words import is_of_go, result_words, text_of_call
 from netrev.findings.finding import Cause
 from netrev.recording.call import CLOSE, Call, Outcome
 from netrev.run.index import RunIndex
@@ -26,7 +26,7 @@ class GoneReader(NamedTuple):
             f"nobody reads on socket {read.socket} any more: goroutine {read.goroutine}, which alone had read there, ended after step {self.ended}.",
             f"Its last was {text_of_call(recording, read)}, {read.steps()}, {result_words(recording, read)}.",
         ]
-        says += long_line_says(index, read)
+        says += long_line_sentence(index, read)
         if self.write:
             says.append(
                 f"{text_of_call(recording, self.write)} came after that, in {self.write.steps()}: nobody has read it."
@@ -52,14 +52,14 @@ def gone_reader(index: RunIndex, socket: int, position: int) -> Optional[GoneRea
     reads = [call for call in calls if call.name == "Read"]
     if not reads or len({read.goroutine for read in reads}) > 1 or any(call.name == CLOSE for call in calls):
         return None
-    last, ended = reads[-1], ended_behind(index, reads[-1], position)
+    last, ended = reads[-1], ended_after(index, reads[-1], position)
     if ended is None or is_of_go(index.recording, last):
         return None
     writes = (call for call in index.by_socket.get(other, ()) if call.name == "Write" and call.moved and call.last)
     return GoneReader(last, ended, next((write for write in writes if ended < write.first <= position), None))
 
 
-def ended_behind(index: RunIndex, call: Call, position: int) -> Optional[int]:
+def ended_after(index: RunIndex, call: Call, position: int) -> Optional[int]:
     """The step after which a call's goroutine ended, if it had ended by a position; None if it hadn't, or if the step
     is unknown."""
     lines = index.recording.lines
@@ -89,5 +89,5 @@ def ended_reader(index: RunIndex, call: Call, other: int, position: int) -> list
         f"Nobody reads at socket {other} any more: goroutine {read.goroutine}, whose last was "
         f"{text_of_call(index.recording, read)}, ended after step "
         f"{reader.ended}{left_by(index, read)}.",
-        *long_line_says(index, read),
+        *long_line_sentence(index, read),
     ]

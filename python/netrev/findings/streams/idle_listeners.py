@@ -4,13 +4,13 @@ listener."""
 from collections import defaultdict
 
 from netrev.findings.evidence.loop_variables import shared_variables
-from netrev.findings.evidence.words import capital
+from netrev.findings.evidence.call_words import capital
 from netrev.recording.call import OPEN
 from netrev.recording.waits import Name, of_names
 from netrev.recording.where import SourceCall as LineCall
 from netrev.run.index import RunIndex
 
-from .unaccepted import accepts_at, closed
+from .unaccepted_connections import accepts_at, closed
 
 LISTENS = "net.(*netFD).listen"
 

@@ -57,9 +57,9 @@ def unflushed_in(recording: Recording, frame: LineCall) -> str:
     writes = 0
     for number in range(within.start + 1, frame.line):
         text = lines[number - 1].partition("//")[0]
-        if FLUSHES.search(text) or calls_one_of(text, named.flushes):
+        if FLUSHES.search(text) or calls_any_of(text, named.flushes):
             writes = 0
-        elif is_write(text, named.buffers) or (calls_one_of(text, named.writes) and not STARTS.search(text)):
+        elif is_write(text, named.buffers) or (calls_any_of(text, named.writes) and not STARTS.search(text)):
             writes = number
     return f"{frame.file}:{writes}" if writes else ""
 
@@ -92,7 +92,7 @@ def names_of(files: tuple[Lines, ...]) -> Named:
     bodies = {name: body for lines in files for name, body in bodies_of(lines)}
     flushes = {name for name, body in bodies.items() if FLUSHES.search(body)}
     writes = {name for name, body in bodies.items() if name not in flushes and is_write(body, buffers)}
-    flushes |= {name for name, body in bodies.items() if calls_one_of(body, frozenset(flushes))}
+    flushes |= {name for name, body in bodies.items() if calls_any_of(body, frozenset(flushes))}
     flushed = {found[1] for lines in files for text in lines for found in FLUSHED.finditer(text.partition("//")[0])}
     return Named(frozenset(writes), frozenset(flushes), buffers, frozenset(flushed))
 
@@ -113,6 +113,6 @@ def is_write(text: str, buffers: frozenset[str]) -> bool:
     return bool(names) and re.search(pattern, text) is not None
 
 
-def calls_one_of(text: str, names: frozenset[str]) -> bool:
+def calls_any_of(text: str, names: frozenset[str]) -> bool:
     """Whether a text calls one of these functions."""
     return any(found[1] in names for found in re.finditer(r"\b(\w+)\(", text))

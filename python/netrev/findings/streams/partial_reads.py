@@ -5,9 +5,9 @@ whatever has arrived."""
 import re
 from typing import Optional
 
-from netrev.findings.evidence.asked import read_sizes_of
+from netrev.findings.evidence.read_sizes import read_sizes_of
 from netrev.findings.evidence.sizes import are_known, size_of
-from netrev.findings.evidence.words import text_of_call
+from netrev.findings.evidence.call_words import text_of_call
 from netrev.findings.source.functions import Lines, range_of, source_of
 from netrev.recording.call import Call
 from netrev.recording.where import OF_THE_PROGRAM

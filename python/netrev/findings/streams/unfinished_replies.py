@@ -6,9 +6,9 @@ import re
 from typing import Iterator, NamedTuple
 
 from netrev.findings.evidence.ended_goroutines import body_of
-from netrev.findings.evidence.words import place_of
+from netrev.findings.evidence.call_words import place_of
 from netrev.findings.source.functions import Lines, range_of, source_of
-from netrev.findings.source.skipped_ways import Way, is_text, skipped_ways, ways_words
+from netrev.findings.source.skipped_paths import Way, is_text, skipped_paths, paths_text
 from netrev.recording.call import Call
 from netrev.recording.where import OF_THE_PROGRAM, SourceCall as LineCall
 from netrev.run.index import RunIndex
@@ -52,7 +52,7 @@ def unfinished_reply(index: RunIndex, call: Call, other: int, position: int) -> 
     place = place_of(index.recording, write.first).partition(", called")[0]
     return [
         f"Perhaps the reply isn't whole: its last Write was{place}, {'in' if part.is_inside else 'after'} the loop at {part.file}:{part.loop}, "
-        f"where {ways_words(part.file, part.ways)} without {part.file}:{part.writes}, which writes."
+        f"where {paths_text(part.file, part.ways)} without {part.file}:{part.writes}, which writes."
     ]
 
 
@@ -84,7 +84,7 @@ def loops_of(lines: Lines, call: LineCall) -> Iterator[Part]:
         body = list(body_of(lines, head))
         writes = [number for number in within if number >= head and is_write(code(lines, number))]
         if writes and writes[0] in body and writes[-1] in body:
-            if ways := skipped_ways(lines, within, is_text(code(lines, head)), is_write):
+            if ways := skipped_paths(lines, within, is_text(code(lines, head)), is_write):
                 yield Part(call.file, head, writes[0], ways, call.line in body)
 
 

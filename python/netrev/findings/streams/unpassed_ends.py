@@ -5,7 +5,7 @@ writing, so the reader at that socket's other end hangs."""
 from typing import Iterator, NamedTuple, Optional
 
 from netrev.findings.evidence.waiters import is_waiting
-from netrev.findings.evidence.words import is_of_go, text_of_call
+from netrev.findings.evidence.call_words import is_of_go, text_of_call
 from netrev.findings.pools.balances import has_ended
 from netrev.recording.call import Call, Outcome
 from netrev.recording.recording import Recording
@@ -47,24 +47,24 @@ def unpassed_ends(index: RunIndex) -> Iterator[UnpassedEnd]:
             yield UnpassedEnd(call, write, waits)
 
 
-def last_write_of_relay(index: RunIndex, met: Call) -> Optional[Call]:
+def last_write_of_relay(index: RunIndex, end: Call) -> Optional[Call]:
     """A relay's last Write, if it came after the relay's last Read that got something. The relay's Reads are all on one
     socket, its Writes are all on another, and its last call is this Read. The result is None if the goroutine isn't
     such a relay."""
-    calls = [call for call in index.by_goroutine[met.goroutine] if call.name in MOVING]
+    calls = [call for call in index.by_goroutine[end.goroutine] if call.name in MOVING]
     reads, writes = ([call for call in calls if call.name == name] for name in MOVING)
-    if not writes or calls[-1] is not met or len({read.socket for read in reads}) > 1 or not is_over(index, met):
+    if not writes or calls[-1] is not end or len({read.socket for read in reads}) > 1 or not is_over(index, end):
         return None
-    if len({write.socket for write in writes}) > 1 or writes[-1].socket == met.socket:
+    if len({write.socket for write in writes}) > 1 or writes[-1].socket == end.socket:
         return None
     data_reads = [read for read in reads if read.moved]
     return writes[-1] if not data_reads or data_reads[-1].first < writes[-1].first else None
 
 
-def is_over(index: RunIndex, met: Call) -> bool:
+def is_over(index: RunIndex, end: Call) -> bool:
     """Whether a goroutine has had a chance to close the other socket: it has ended, or enough steps have passed
     since."""
-    return index.recording.length - met.last >= SETTLED or has_ended(index.recording, Name(met.goroutine))
+    return index.recording.length - end.last >= SETTLED or has_ended(index.recording, Name(end.goroutine))
 
 
 def reader_of(index: RunIndex, socket: int) -> Optional[Call]:

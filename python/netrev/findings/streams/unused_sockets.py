@@ -4,9 +4,9 @@ goroutines whose results no goroutine took from a channel."""
 from collections import defaultdict
 from typing import Iterator
 
-from netrev.findings.evidence.words import place_in, short
+from netrev.findings.evidence.call_words import place_in, short
 from netrev.findings.finding import Cause
-from netrev.findings.pools.made_channels import has_returned, is_local, returns_says
+from netrev.findings.pools.made_channels import has_returned, is_local, returns_sentence
 from netrev.recording.call import CLOSE, OPEN, Call
 from netrev.recording.goroutines import PUT, TOOK
 from netrev.recording.waits import listed, name_of_goid
@@ -14,7 +14,7 @@ from netrev.recording.where import OF_THE_PROGRAM, SourceCall as LineCall
 from netrev.run.index import MOVING, RunIndex
 from netrev.text.plurals import counted
 
-from .unaccepted import is_dialed
+from .unaccepted_connections import is_dialed
 
 
 def unused_since(index: RunIndex, call: Call, step: int) -> list[str]:
@@ -60,7 +60,7 @@ def untaken_results(index: RunIndex) -> Iterator[Cause]:
         many = counted(len(calls), "goroutine")
         says = [
             f"{many} put a result into a channel that {line.place()} in {short(line.function)} made, and nobody took it: {short(line.function)} had "
-            f"returned{returns_says(index, line)}.",
+            f"returned{returns_sentence(index, line)}.",
             f"What {'it' if len(calls) == 1 else 'each'} opened{place_in(lines.of(calls[0].first))} is open yet: socket{'s' if len(calls) > 1 else ''} {sockets}.",
         ]
         yield Cause(calls[0], says, [calls[0].first], [f"goto {calls[0].first}", f"calls sock {calls[0].socket}"])

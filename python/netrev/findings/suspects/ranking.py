@@ -8,8 +8,8 @@ from netrev.recording.recording import Recording
 from netrev.run.index import run_of
 from netrev.run.notes import Notes
 
-from .found import Suspect
-from .loading import RULES, RULES_OF_CALLS, Rule
+from .suspect import Suspect
+from .rule_loader import RULES, RULES_OF_CALLS, Rule
 from .run import Run
 
 

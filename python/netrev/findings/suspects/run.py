@@ -12,7 +12,7 @@ from netrev.run.index import RunIndex, run_of
 from netrev.run.notes import Notes
 from netrev.text.plurals import counted
 
-from .reckoned import by_the_notes
+from .computed_facts import by_the_notes
 
 SIDES = {"Read": "r", "Write": "w"}  # the sides of calls that a deadline ends
 SHORT = 10  # a pause of at most this number of steps proves nothing, whatever the other pauses were

@@ -9,7 +9,7 @@ from netrev.recording.recording import Recording
 from netrev.recording.where import OF_GO
 from netrev.text.plurals import counted
 
-from .found import Suspect
+from .suspect import Suspect
 from .ranking import Ranked, all_suspects_of
 
 MOST = 12  # the most suspects that are shown

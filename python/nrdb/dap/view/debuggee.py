@@ -36,7 +36,7 @@ class Debuggee:
     @property
     def position(self) -> int:
         """The session's position."""
-        return self.session.stood
+        return self.session.known_position
 
     @property
     def length(self) -> int:
@@ -96,10 +96,10 @@ class Debuggee:
         """The new position, if another user has moved a shared session; None otherwise."""
         if not isinstance(self.session.netrev, Joined):
             return None
-        now = self.session.stands().position
+        now = self.session.current_position().position
         if now == self.position:
             return None
-        self.session.stood = now
+        self.session.known_position = now
         return now
 
 

@@ -15,9 +15,9 @@ def test_replies_are_those_of_netrev():
         if not script.exists():
             continue
         lines = script.read_text().splitlines()
-        told = [event for event in events(path, lines) if event["event"] == "reply"]
-        assert [event["line"] for event in told] == lines, path.stem
-        assert [line for event in told for line in event["reply"]] == netrev(path, lines), path.stem
+        reports = [event for event in events(path, lines) if event["event"] == "reply"]
+        assert [event["line"] for event in reports] == lines, path.stem
+        assert [line for event in reports for line in event["reply"]] == netrev(path, lines), path.stem
 
 
 def test_what_is_added_begins_with_a_bar():

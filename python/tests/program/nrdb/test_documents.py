@@ -61,8 +61,8 @@ def test_sessions_are_what_is_printed():
     count = 0
     for page in sorted((ROOT / "docs").rglob("*.md")):
         for recording, lines in sessions(page.read_text(encoding="utf-8")):
-            asked = [line[len(PROMPT) :] for line in lines if line.startswith(PROMPT)]
-            words = [word for line in asked for word in ("-ex", line)]
+            request = [line[len(PROMPT) :] for line in lines if line.startswith(PROMPT)]
+            words = [word for line in request for word in ("-ex", line)]
             output = nrdb("--batch", *words, ROOT / recording).splitlines()
             assert output[2:] == lines, (page.name, recording)
             count += 1

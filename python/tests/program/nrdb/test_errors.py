@@ -12,12 +12,12 @@ from typing import Any, cast
 import pytest
 
 from netrev.session.commands import COMMANDS, parts_of
-from nrdb.dap import looks
+from nrdb.dap import inspection
 from nrdb.dap.adapter import Adapter
-from nrdb.dap.hearing import Reading
+from nrdb.dap.message_reader import Reading
 from nrdb.dap.view.messages import EditorStreams
 from nrdb.prompt.answers import ANSWERS
-from nrdb.web.running import Running
+from nrdb.web.page_session import Running
 from tests.program.support.sharing import NETREV, ROOT
 from tests.support.stubs import stub
 
@@ -102,7 +102,7 @@ def test_an_unexpected_error_refuses_one_request(monkeypatch: pytest.MonkeyPatch
     written = io.BytesIO()
     wire = EditorStreams(io.BytesIO(framed(*requests)), written)
     with monkeypatch.context() as patch:
-        patch.setattr(looks, "threads", boom)
+        patch.setattr(inspection, "threads", boom)
         Adapter(wire, Reading(wire), NETREV).serve()
     output = written.getvalue().decode()
     assert (

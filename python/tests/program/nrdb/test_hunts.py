@@ -22,8 +22,8 @@ def test_each_prints_what_is_kept():
         assert len(hunt.read_text().splitlines()) <= MOST, hunt.stem
         kept = hunt.with_suffix(".session").read_text()
         name = str(hunt.relative_to(EXAMPLES).with_suffix(""))
-        played = nrdb_process("--batch", "-x", hunt, hunt.with_suffix(".jsonl"))
-        assert played == (kept, "", int(name in REFUSED)), hunt.stem
+        runs = nrdb_process("--batch", "-x", hunt, hunt.with_suffix(".jsonl"))
+        assert runs == (kept, "", int(name in REFUSED)), hunt.stem
 
 
 def test_those_that_a_rule_knows_take_the_line_that_it_says():

@@ -99,9 +99,9 @@ def holders(*steps):
     with tempfile.TemporaryDirectory() as folder:
         file = Path(folder) / "steps.jsonl"
         file.write_text("\n".join([HEADER, *made, *steps]) + "\n")
-        told = events(file, ["stepi 99", "info holders 0"])[-1]
-    assert told["topic"] == "holders"
-    return [(row["goroutine"], row["step"] - len(made)) for row in told["rows"]], told["rest"]
+        reports = events(file, ["stepi 99", "info holders 0"])[-1]
+    assert reports["topic"] == "holders"
+    return [(row["goroutine"], row["step"] - len(made)) for row in reports["rows"]], reports["rest"]
 
 
 def test_a_reference_is_given_up_by_whom_took_it():

@@ -6,7 +6,7 @@ import pytest
 from dev.fuzz.sessions.interrupts import confined, heard, pressed, settle
 from dev.fuzz.sessions.slow import Slow
 from tests.program.support.sharing import NETREV
-from tests.support.disturbed import EXAMPLE, Disturbances, Events, Played, Weather
+from tests.support.interrupted_sessions import EXAMPLE, Disturbances, Events, Played, Weather
 
 COMMANDS = ("history lock 0 all", "until gor 0 *", "reverse-continue", "goto 3")
 
@@ -30,8 +30,8 @@ class EveryPoint(Disturbances[Slow]):
     def opened(self, weather: Weather[Slow]) -> Slow:
         return Slow(NETREV, str(EXAMPLE), weather.interrupts, weather.happens)
 
-    def told_by(self, played: Played, command: str) -> Events:
-        return heard(lambda: played.run(command))
+    def told_by(self, runs: Played, command: str) -> Events:
+        return heard(lambda: runs.run(command))
 
     def settle(self) -> None:
         settle()

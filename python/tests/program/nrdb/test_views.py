@@ -162,10 +162,10 @@ def test_until_goes_to_the_nearest_change_to_the_value(dice: random.Random) -> N
 def test_holders_are_as_many_as_the_references(dice: random.Random) -> None:
     for path in recordings():
         world = shown(path)
-        asked = [(at, socket) for at in places_of(dice, path) for socket in world.made("lock", at)]
-        lines = [line for at, socket in asked for line in (f"goto {at}", f"info holders {socket}")]
+        request = [(at, socket) for at in places_of(dice, path) for socket in world.made("lock", at)]
+        lines = [line for at, socket in request for line in (f"goto {at}", f"info holders {socket}")]
         tables = [event for event in events(path, lines) if event["event"] == "table"]
-        for (at, socket), table in zip(asked, tables, strict=True):
+        for (at, socket), table in zip(request, tables, strict=True):
             compare_holders(world, at, socket, table)
 
 
@@ -190,11 +190,11 @@ def test_holders_are_those_whose_steps_took_more_than_they_gave(dice: random.Ran
         world = shown(path)
         held = [(at, socket) for at in places_of(dice, path) for socket in world.made("lock", at)]
         held = [(at, socket) for at, socket in held if lock_fields(world.at(at)[f"lock {socket}"])[3]]
-        asked = dice.sample(held, min(3, len(held)))
-        lines = [line for at, socket in asked for line in (f"goto {at}", f"info holders {socket}")]
+        request = dice.sample(held, min(3, len(held)))
+        lines = [line for at, socket in request for line in (f"goto {at}", f"info holders {socket}")]
         tables = [event["rows"] for event in events(path, lines) if event["event"] == "table"]
-        series = world.series([f"lock {socket}" for _, socket in asked])
-        for (at, socket), rows in zip(asked, tables, strict=True):
+        series = world.series([f"lock {socket}" for _, socket in request])
+        for (at, socket), rows in zip(request, tables, strict=True):
             result = Counter(row["goroutine"] for row in rows)
             assert result == balance(world.recording, series[f"lock {socket}"], at), (path.stem, at, socket)
             count += 1
@@ -204,10 +204,10 @@ def test_holders_are_those_whose_steps_took_more_than_they_gave(dice: random.Ran
 def test_words_behind_lock_words(dice: random.Random) -> None:
     for path in recordings():
         world = shown(path)
-        asked = [(at, socket) for at in places_of(dice, path) for socket in world.made("lock", at)]
-        lines = [line for at, socket in asked for line in (f"goto {at}", f"print lock {socket}")]
-        told = [event for event in events(path, lines) if event.get("line", "").startswith("print")]
-        for (at, socket), event in zip(asked, told, strict=True):
+        request = [(at, socket) for at in places_of(dice, path) for socket in world.made("lock", at)]
+        lines = [line for at, socket in request for line in (f"goto {at}", f"print lock {socket}")]
+        reports = [event for event in events(path, lines) if event.get("line", "").startswith("print")]
+        for (at, socket), event in zip(request, reports, strict=True):
             value = world.at(at)[f"lock {socket}"]
             assert event["reply"] == [f"lock {socket} = {value}"], (path.stem, at, socket)
             assert told_fields(event["words"]) == lock_fields(value), (path.stem, at, socket)

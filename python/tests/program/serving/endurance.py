@@ -11,7 +11,7 @@ from pathlib import Path
 from typing import Sequence
 
 from tests.program.address_spaces import MEGABYTE, limit_memory
-from tests.program.support.given import FIRST
+from tests.program.support.case_files import FIRST
 from tests.program.support.sharing import NETREV, PATIENCE, WrongResultError, expect, library_of
 
 PIECE, BUFFER, EACH_COPY = 65_536, 1_048_576, 1_024
@@ -23,7 +23,7 @@ INTERRUPTED = 150  # how often each read and each write is interrupted before it
 
 def replies(words: list[str], script: str, room: int = 0, through: Sequence[str] = ()) -> tuple[int, str, str]:
     """The status, output and errors of netrev in this address space. The command `through`, if any, starts it."""
-    ran = subprocess.run(
+    process = subprocess.run(
         [*through, NETREV, *words],
         input=script,
         capture_output=True,
@@ -32,18 +32,18 @@ def replies(words: list[str], script: str, room: int = 0, through: Sequence[str]
         preexec_fn=partial(limit_memory, room) if room else None,
         check=False,
     )
-    return ran.returncode, ran.stdout, ran.stderr
+    return process.returncode, process.stdout, process.stderr
 
 
-def same(script: str, right: str, came: tuple[int, str, str]) -> None:
+def same(script: str, right: str, reply: tuple[int, str, str]) -> None:
     """Checks that the replies are right, and prints the first difference."""
-    status, output, errors = came
+    status, output, errors = reply
     lines = list(zip([*script.splitlines(), "the end"], [*right.splitlines(), ""], [*output.splitlines(), ""]))
     wrong = next(
         (
-            f"line {at}, {line}: expected {one!r}, came {other!r}"
-            for at, (line, one, other) in enumerate(lines, 1)
-            if one != other
+            f"line {at}, {line}: expected {item!r}, came {other!r}"
+            for at, (line, item, other) in enumerate(lines, 1)
+            if item != other
         ),
         "",
     )
@@ -82,14 +82,14 @@ def test_copies_share_what_stays_as_it_is(folder: Path) -> None:
 
 def test_reads_and_writes_that_are_interrupted_go_on(folder: Path) -> None:
     """Each read and write completes, however often it was interrupted."""
-    library, told = library_of("interrupted", folder), folder / "told"
+    library, reports = library_of("interrupted", folder), folder / "told"
     # (the library writes each interruption to this descriptor)
-    through = ["sh", "-c", 'told=$1; shift; exec env "$@" 9> "$told"', "sh", str(told)]
+    through = ["sh", "-c", 'told=$1; shift; exec env "$@" 9> "$told"', "sh", str(reports)]
     through += [f"LD_PRELOAD={library}", f"INTERRUPTED={INTERRUPTED}"]
     script = "si 6\np lock 0\nwatch lock 0\nc\nrc\nquit\n"
     right = replies(["run", FIRST], script)
     for command, given in (("run", script), ("check", "")):
-        came = replies([command, FIRST], given, 0, through)
-        expect("status, output and errors", right if given else (0, "ok 10 steps\n", ""), came)
-        if told.stat().st_size < (2 if given else 1) * INTERRUPTED:
-            raise WrongResultError(f"{command} was interrupted {told.stat().st_size} times alone")
+        reply = replies([command, FIRST], given, 0, through)
+        expect("status, output and errors", right if given else (0, "ok 10 steps\n", ""), reply)
+        if reports.stat().st_size < (2 if given else 1) * INTERRUPTED:
+            raise WrongResultError(f"{command} was interrupted {reports.stat().st_size} times alone")

@@ -136,8 +136,8 @@ class Lines:
 
     def look(self):
         print_cell = self.dice.choice(LOOKS).replace("print", self.dice.choice(["print", "p"]))
-        asked = ["info position", "info breakpoints", "info checkpoints", "resume"]
-        return self.dice.choice([print_cell] * 3 + ["info position"] * 2 + asked)
+        request = ["info position", "info breakpoints", "info checkpoints", "resume"]
+        return self.dice.choice([print_cell] * 3 + ["info position"] * 2 + request)
 
     def command(self):
         sorts = {
@@ -209,9 +209,9 @@ def history_of(recording, exchanged, journal=4096):
 def as_text(exchanged):
     """What the fronts exchanged, one line each."""
     return "\n".join(
-        f"  front {front}: {one.line!r} (sent {one.sent}) {' / '.join(one.reply)} (read {one.read})"
+        f"  front {front}: {exchange.line!r} (sent {exchange.sent}) {' / '.join(exchange.reply)} (read {exchange.read})"
         for front, exchanges in enumerate(exchanged)
-        for one in exchanges
+        for exchange in exchanges
     )
 
 
@@ -226,8 +226,8 @@ def test_table(parked):
     ):
         with Server(parked.path, fronts=2, journal=journal) as server:
             expect("the replies of front 0", ["at 3", "bye"], talk(server.call(0), ["stepi 3", "quit"]))
-            came = talk(server.call(1), ["reverse-stepi", "info position", "quit"])
-            expect("the replies of front 1", [*moved, "bye"], came)
+            reply = talk(server.call(1), ["reverse-stepi", "info position", "quit"])
+            expect("the replies of front 1", [*moved, "bye"], reply)
             server.expect_end(0, f"placed {placed}\n")
 
 
@@ -259,8 +259,8 @@ def test_stopped(parked):
                 expect("the end of netrev serve: status, output and errors", (-stop, "", ""), server.ended())
                 with Server(parked.path, fronts=2, port=server.port) as next_one:
                     for front, place in ((0, 1), (1, 2)):
-                        came = talk(next_one.call(front), ["stepi", "quit"])
-                        expect(f"the replies of front {front}", [f"at {place}", "bye"], came)
+                        reply = talk(next_one.call(front), ["stepi", "quit"])
+                        expect(f"the replies of front {front}", [f"at {place}", "bye"], reply)
                     next_one.expect_end(0, "placed 2\n")
 
 
@@ -270,9 +270,9 @@ def test_elsewhere(parked):
         callers = [server.call(front) for front in range(2)]
         for front in range(2):
             for family, address in other_addresses():
-                with socket.socket(family) as one:
-                    one.settimeout(PATIENCE)
-                    refused = one.connect_ex((address, server.port + front))
+                with socket.socket(family) as item:
+                    item.settimeout(PATIENCE)
+                    refused = item.connect_ex((address, server.port + front))
                 expect(f"what a caller at {address} was told", errno.ECONNREFUSED, refused)
         for caller in callers:
             expect("the replies", ["bye"], talk(caller, ["quit"]))
@@ -286,9 +286,9 @@ def other_addresses():
     # connecting a datagram socket sends nothing: it only finds the local address
     for family, far in ((socket.AF_INET, "192.0.2.1"), (socket.AF_INET6, "2001:db8::1"), (socket.AF_INET6, "::1")):
         try:
-            with socket.socket(family, socket.SOCK_DGRAM) as one:
-                one.connect((far, 9))
-                found.append((family, one.getsockname()[0]))
+            with socket.socket(family, socket.SOCK_DGRAM) as item:
+                item.connect((far, 9))
+                found.append((family, item.getsockname()[0]))
         except OSError:  # the machine has no such address
             continue
     return found
@@ -298,7 +298,7 @@ def test_crowded(lives):
     """Callers step forwards at the same time: each free place of the journal gets one command."""
     for fronts, each, journal in ((8, 1, 7), (2, 100, 4096)):
         exchanged = share_lines(lives, [[[b"stepi"] * each + [b"quit"]]] * fronts, journal, windows=(1000,))
-        replies = [one.reply for front in exchanged for one in front if is_command(one.asked)]
+        replies = [item.reply for front in exchanged for item in front if is_command(one.asked)]
         placed = min(journal, fronts * each)
         places = [(f"at {place}",) for place in range(1, placed + 1)]
         expect("the replies", sorted(places + [(FULL,)] * (fronts * each - placed)), sorted(replies))
@@ -400,9 +400,9 @@ def test_hostile(parked):
     ):
         with Server(parked.path, connections=2) as server:
             _staying = leave(server.call(0, SO_RCVBUF=4096))
-            came = talk(server.call(0), ["info position", "stepi", "quit"])
+            reply = talk(server.call(0), ["info position", "stepi", "quit"])
             shown = [f"at {position} of 12 forward", f"at {position + 1}", "bye"]
-            expect(f"the replies after {leave.__name__}", shown, came)
+            expect(f"the replies after {leave.__name__}", shown, reply)
             server.expect_end(status, f"placed {placed + 1}\n")
     play_taken_port(parked)
 
@@ -470,8 +470,8 @@ def test_altered(parked, lives, dice):
     history exists. Commands with rising positions have only one possible order, so the same holds if the reply to such
     a command is altered. The altered reply to a query may fit an earlier or a later state."""
     two = [[Lines(dice, parked).some(20)] for _ in range(2)]
-    expect_no_other(parked, share_lines(parked, two, at_once=1), lambda one: True)
-    expect_no_other(lives, race_forwards(lives, dice, fronts=8, connections=1), lambda one: is_command(one.asked))
+    expect_no_other(parked, share_lines(parked, two, at_once=1), lambda item: True)
+    expect_no_other(lives, race_forwards(lives, dice, fronts=8, connections=1), lambda item: is_command(item.asked))
 
 
 def expect_no_other(recording, exchanged, has_one_place):
@@ -479,10 +479,10 @@ def expect_no_other(recording, exchanged, has_one_place):
     alone, and checks that no history exists then."""
     history_of(recording, exchanged)
     for front, exchanges in enumerate(exchanged):
-        for at, one in enumerate(exchanges):
-            if not has_one_place(one):
+        for at, exchange in enumerate(exchanges):
+            if not has_one_place(exchange):
                 continue
             altered = [list(each) for each in exchanged]
-            altered[front][at] = replace(one, reply=other_reply(one.reply))
+            altered[front][at] = replace(exchange, reply=other_reply(exchange.reply))
             if Search(recording, altered, 4096).find():
-                raise WrongResultError(f"a history was found, with {one.line!r} altered:\n{as_text(altered)}")
+                raise WrongResultError(f"a history was found, with {exchange.line!r} altered:\n{as_text(altered)}")

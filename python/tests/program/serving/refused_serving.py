@@ -123,11 +123,11 @@ class Session:
             return False
         with caller, caller.makefile("r", encoding="ascii", newline="\n") as replies:
             for at, (line, right) in enumerate(lines):
-                came = self.ask(caller, replies, line)
-                if came is None and front == 0 and at == 0:
+                reply = self.ask(caller, replies, line)
+                if reply is None and front == 0 and at == 0:
                     return False
                 self.placed += is_command(read_line(line.encode()))
-                self.expect_reply(caller, replies, front, at, line, right, came)
+                self.expect_reply(caller, replies, front, at, line, right, reply)
             expect(f"what comes behind {line}", "", replies.read())
         return True
 
@@ -140,32 +140,32 @@ class Session:
         except ConnectionError:
             return None
 
-    def expect_reply(self, caller, replies, front, at, line, right, came):
+    def expect_reply(self, caller, replies, front, at, line, right, reply):
         """Checks that a line was answered correctly, at once or when it was repeated."""
-        asked = read_line(line.encode())
-        assert asked, line
+        request = read_line(line.encode())
+        assert request, line
         placed = f"fault 302 memory, placed {self.placed}"
-        if came == "fault 301 memory" and (asked.sort in ("look", "info") or (front > 0 and at == 0)):
+        if reply == "fault 301 memory" and (request.sort in ("look", "info") or (front > 0 and at == 0)):
             self.told += 1
-            came = self.ask(caller, replies, line)
-        elif came == placed and asked.sort == "seek":
+            reply = self.ask(caller, replies, line)
+        elif reply == placed and request.sort == "seek":
             self.told += 1
             expect("a further line while a reply is owed", placed, self.ask(caller, replies, "stepi"))
-            came = self.ask(caller, replies, "resume")
-        expect(f"the reply to {line} at front {front}", right, came)
+            reply = self.ask(caller, replies, "resume")
+        expect(f"the reply to {line} at front {front}", right, reply)
 
 
 def play(folder, script, words):
     """Runs a session of a netrev that the command `env` starts with these arguments. A file gets a byte for each
     refused allocation."""
-    told = folder / "-".join([script.name, *words[1:]]).replace("=", "-")
-    through = ["sh", "-c", 'told=$1; shift; exec env "$@" 9> "$told"', "sh", str(told), *words]
+    reports = folder / "-".join([script.name, *words[1:]]).replace("=", "-")
+    through = ["sh", "-c", 'told=$1; shift; exec env "$@" 9> "$told"', "sh", str(reports), *words]
     recording = folder / f"{script.name}.jsonl"
     with Server(recording, fronts=2, journal=16, workers=script.workers, through=through) as server:
         session = Session(server, script.callers)
         served = session.talk(0) and session.talk(1)
         ended = server.ended()
-    refused = told.stat().st_size > 0
+    refused = reports.stat().st_size > 0
     right = (0, f"placed {session.placed}\n", "")
     if refused and session.told == 0 and ended == (1, f"{NO_MEMORY}\n", ""):
         session.told = 1
@@ -200,23 +200,23 @@ def play_script(folder, preload, script):
             raise WrongResultError(f"with allocation {number} refused: {wrong}") from None
 
     first = 1 if script.loading else first_served(play_number)
-    played: list[Played] = []
+    runs: list[Played] = []
     with ThreadPoolExecutor(4) as pool:
-        while not played or any(one.refused for one in played[-AT_A_TIME:]):
-            begin = first + len(played)
-            played += pool.map(play_number, range(begin, begin + AT_A_TIME))
-    expect(f"{script.name}: whether the first allocation was refused", True, played[0].refused)
+        while not runs or any(run.refused for run in runs[-AT_A_TIME:]):
+            begin = first + len(runs)
+            runs += pool.map(play_number, range(begin, begin + AT_A_TIME))
+    expect(f"{script.name}: whether the first allocation was refused", True, runs[0].refused)
     threadless = play(folder, script, [preload, "THREADS=0"])
     expect("with no thread: refused, told of memory, served, counted", Played(True, 0, True, True), threadless)
     if script.workers == 1:
         # (the workers need varying amounts of memory, so their last allocation may be missed)
-        uncounted = any(one.served and not one.counted for one in played)
+        uncounted = any(run.served and not run.counted for run in runs)
         expect(f"{script.name}: whether memory was refused for the history once", True, uncounted)
-    return played
+    return runs
 
 
 @pytest.mark.long
 @pytest.mark.parametrize("script", SCRIPTS, ids=lambda script: script.name)
 def test_each_allocation_refused(folder, script):
-    played = play_script(folder, f"LD_PRELOAD={library_of('refused', folder)}", script)
-    print(f"{sum(one.refused for one in played)} allocations refused, {sum(one.told for one in played)} of them told")
+    runs = play_script(folder, f"LD_PRELOAD={library_of('refused', folder)}", script)
+    print(f"{sum(run.refused for run in runs)} allocations refused, {sum(run.told for run in runs)} of them told")

@@ -6,7 +6,7 @@ import time
 
 from tests.program.serving.loopback import reset
 
-from .given import ARRIVED, FIRST, LARGE, LAST, POSITION, Function, file_of, rest_of
+from .case_files import ARRIVED, FIRST, LARGE, LAST, POSITION, Function, file_of, rest_of
 from .sharing import LOOPBACK, PATIENCE, Server, expect, read_to_end, talk
 
 
@@ -127,17 +127,17 @@ def play_late(folder):
         first = server.call(0)
         replies = first.makefile("r", encoding="ascii", newline="\n")
         first.sendall(b"watch in 0\n" + b"continue\nreverse-continue\n" * turns + b"checkpoint\n")
-        came = [replies.readline() for _ in range(2 * turns + 2)]
-        expect("the replies", ["at 0 start\n", "checkpoint 1 at 0\n"], came[-2:])
+        reply = [replies.readline() for _ in range(2 * turns + 2)]
+        expect("the replies", ["at 0 start\n", "checkpoint 1 at 0\n"], reply[-2:])
         late = server.call(1)
         late.sendall(b"info position\ninfo breakpoints\nquit\n")
         first.sendall(b"stepi\nquit\n")
         expect("the replies meanwhile", ["at 1\n", "bye\n"], list(replies))
         first.close()
-        came = read_to_end(late)
+        reply = read_to_end(late)
         places = [f"at {place} of {LAST} forward" for place in (0, 1)]
-        expect("whether the late one's first reply is right", True, came[0] in places)
-        expect("its other replies", ["marks 1", "1 watch in 0", "bye"], came[1:])
+        expect("whether the late one's first reply is right", True, reply[0] in places)
+        expect("its other replies", ["marks 1", "1 watch in 0", "bye"], reply[1:])
         server.expect_end(0, f"placed {2 * turns + 3}\n")
 
 
@@ -193,13 +193,13 @@ def play_crowd(folder):
             if leaves:
                 (reset, end_and_reset)[len(leaves) % 2](leaves.pop())
             time.sleep(0.003)
-        came = [read_to_end(caller) for caller in slow]
+        reply = [read_to_end(caller) for caller in slow]
         places = range(ARRIVED + 1, ARRIVED + 1 + len(slow))
-        expect("replies to a step", [f"at {place}" for place in places], sorted(one[0] for one in came))
+        expect("replies to a step", [f"at {place}" for place in places], sorted(item[0] for item in reply))
         shown = {f"at {place} of {LAST} forward" for place in places}
-        expect("whether all looks were right", True, all(one[1] in shown and one[2:] == ["bye"] for one in came))
+        expect("whether all looks were right", True, all(item[1] in shown and item[2:] == ["bye"] for item in reply))
         expect("netrev serve ended while some were connected", False, server.has_ended())
         for caller in silent:
-            said = [f"at {places[-1]} of {LAST} forward", "bye"]
-            expect("the replies to the silent", said, talk(caller, ["info position", "quit"]))
+            output = [f"at {places[-1]} of {LAST} forward", "bye"]
+            expect("the replies to the silent", output, talk(caller, ["info position", "quit"]))
         server.expect_end(3, f"placed {len(slow) + 1}\n")

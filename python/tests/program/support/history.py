@@ -86,7 +86,7 @@ class Clue(NamedTuple):
 
 def earliest(numbers: list[int]) -> list[int]:
     """For each index, the smallest of the numbers from that index to the end."""
-    least: list[int] = list(accumulate(reversed(numbers), lambda one, other: min(one, other)))
+    least: list[int] = list(accumulate(reversed(numbers), lambda item, other: min(item, other)))
     return least[::-1]
 
 
@@ -105,7 +105,7 @@ class Search:
         self.fronts = [list(front) for front in fronts]
         self.left = most
         # for each line, the time at which a reply to it or to a later line of its front was first read
-        self.known = [earliest([one.read for one in front]) for front in self.fronts]
+        self.known = [earliest([item.read for item in front]) for front in self.fronts]
         self.state = SharedState()
         self.order: list[int] = []
         self.taken = [0] * len(fronts)
@@ -122,12 +122,12 @@ class Search:
                 self.count(front, at, 1)
         self.is_full = self.unplaced == room
         self.fits_in = self.unplaced <= room
-        replies = {one.reply for front in self.fronts for one in front}
+        replies = {item.reply for front in self.fronts for item in front}
         self.are_full = not replies.isdisjoint({(MARKS_FULL,), (CHECKPOINTS_FULL,)})
 
     def read_clues(self) -> list[list[Clue]]:
         """The clues of all lines, restricted to positions that some line leads to."""
-        clues = [[Clue.of(one) for one in front] for front in self.fronts]
+        clues = [[Clue.of(item) for item in front] for front in self.fronts]
         reached = {0, *(clue.leads_to for front in clues for clue in front if clue.leads_to is not None)}
         return [[clue._replace(stands_at=clue.stands_at & reached) for clue in front] for front in clues]
 

@@ -54,7 +54,7 @@ class Room:
         before = f"[ ! -e {self.inside}/.exported ] || . {self.inside}/.exported\ncd {quote(self.current)} || exit"
         after = f"status=$?\nexport -p > {self.inside}/.exported\npwd > {self.inside}/.current\nexit $status"
         settings = [f"{name}={value}" for name, value in self.settings.items()]
-        ran = subprocess.run(
+        process = subprocess.run(
             [*self.through, "env", "-i", *settings, "sh", "-c", f"{before}\n{command}\n{after}"],
             input=lines,
             stdout=subprocess.PIPE,
@@ -64,7 +64,7 @@ class Room:
             check=False,
         )
         self.current = (self.folder / ".current").read_text().rstrip("\n")
-        return ran.returncode, ran.stdout
+        return process.returncode, process.stdout
 
     def play(self, command: Command) -> str:
         """Runs a command of README, compares its output with README's, and returns it. Each command after `next:` must
@@ -83,9 +83,9 @@ class Room:
     def check_next(self, command: str, printed: str) -> None:
         """Fails if a command that is printed to be typed next doesn't run."""
         for text in NEXT.findall(printed):
-            status, said = self.run(text)
+            status, output = self.run(text)
             if status:
-                raise ReadmeError(f"`{command}` says to type `{text}`, which ends with status {status}:\n{said}")
+                raise ReadmeError(f"`{command}` says to type `{text}`, which ends with status {status}:\n{output}")
 
     def check_answers(self, command: Command, printed: str) -> None:
         """Fails if a text printed after `netrev:` isn't netrev's answer."""
@@ -112,8 +112,8 @@ class Room:
             return True
         command = [self.netrev, "run", str(Path(self.current) / recording)]
         lines = f"restart 0\nstepi {position}\nprint {cell}\n"
-        ran = subprocess.run(command, input=lines, capture_output=True, text=True, check=True)
-        return ran.stdout.endswith(f"\n{cell} = {value}\n")
+        process = subprocess.run(command, input=lines, capture_output=True, text=True, check=True)
+        return process.stdout.endswith(f"\n{cell} = {value}\n")
 
 
 def commands_of_go() -> Optional[Path]:

@@ -22,11 +22,11 @@ SCRIPTS = (
 
 @pytest.mark.parametrize("command", SCRIPTS)
 def test_script(command: str) -> None:
-    ran = subprocess.run(
+    process = subprocess.run(
         shlex.split(command), cwd=ROOT, stdout=subprocess.PIPE, stderr=subprocess.STDOUT, text=True, errors="replace"
     )
-    print(ran.stdout)
-    assert ran.returncode == 0
-    left_out = [line.removeprefix(LEFT_OUT) for line in ran.stdout.splitlines() if line.startswith(LEFT_OUT)]
+    print(process.stdout)
+    assert process.returncode == 0
+    left_out = [line.removeprefix(LEFT_OUT) for line in process.stdout.splitlines() if line.startswith(LEFT_OUT)]
     if left_out:
         pytest.skip("; ".join(left_out))

@@ -50,10 +50,10 @@ class WrongResultError(NetrevError):
     """Raised if a result isn't as expected."""
 
 
-def expect(what, expected, came):
+def expect(what, expected, reply):
     """Prints the expected and the actual result, and fails, if they differ."""
-    if expected != came:
-        raise WrongResultError(f"{what}\n  expected: {expected!r}\n  came:     {came!r}")
+    if expected != reply:
+        raise WrongResultError(f"{what}\n  expected: {expected!r}\n  came:     {reply!r}")
 
 
 def is_program(path):
@@ -110,9 +110,9 @@ class Ports:
 
     @staticmethod
     def is_free(port):
-        with socket.socket() as one:
+        with socket.socket() as item:
             try:
-                one.bind((LOOPBACK, port))
+                item.bind((LOOPBACK, port))
             except OSError:
                 return False
             return True
@@ -221,9 +221,9 @@ class Talker:
             line = self.lines[self.sent]
             self.sent += 1
             self.unsent += line + b"\n"
-            asked = read_line(line)
-            if asked:
-                self.exchanges.append(Exchange(asked, line, next(CLOCK)))
+            request = read_line(line)
+            if request:
+                self.exchanges.append(Exchange(request, line, next(CLOCK)))
         return bool(self.unsent)
 
     def send(self):
@@ -231,9 +231,9 @@ class Talker:
 
     def receive(self):
         """Reads what has arrived. At the end of the stream, this talker has ended."""
-        came = self.caller.recv(1 << 16)
-        self.ended = not came
-        *whole, self.unread = (self.unread + came).split(b"\n")
+        reply = self.caller.recv(1 << 16)
+        self.ended = not reply
+        *whole, self.unread = (self.unread + reply).split(b"\n")
         for line in whole:
             self.take(line.decode("ascii"))
 

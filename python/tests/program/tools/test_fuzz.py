@@ -25,7 +25,7 @@ from netrev.machine.machine import StepRefusedError
 from netrev.recording.changes import RecordedChanges
 from netrev.system.interrupts import Interrupts, SessionAbandonedError
 from tests.program.support.sharing import NETREV
-from tests.support.disturbed import EXAMPLE
+from tests.support.interrupted_sessions import EXAMPLE
 
 
 def quietly(call, *arguments, **more):

@@ -13,7 +13,7 @@ from dev.fuzz import around, editors, side_files
 from netrev_go.log.points import Point
 from nrdb.dap import breakpoints
 from nrdb.prompt.answers import ANSWERS
-from nrdb.web.shared import OF_THE_PAGE
+from nrdb.web.shared_session import OF_THE_PAGE
 from tests.program.support.sharing import NETREV, ROOT
 
 FEW = {"logs": 30, "programs": 30, "views": 3, "editors": 12, "browsers": 20}
@@ -43,7 +43,7 @@ def test_each_kind_of_line_beside_a_recording_is_in_the_cases() -> None:
 
 
 def test_a_line_of_a_test_that_ends_it_is_found(monkeypatch: pytest.MonkeyPatch) -> None:
-    monkeypatch.setattr("netrev_go.log.ran.place_of", lambda text: (text, int(text.rpartition(":")[2])))
+    monkeypatch.setattr("netrev_go.log.tests_in_log.place_of", lambda text: (text, int(text.rpartition(":")[2])))
     found, output = played("logs", 20)
     assert found > 0
     assert "invalid literal for int()" in output
@@ -64,7 +64,7 @@ def test_a_log_that_ends_it_is_found(monkeypatch: pytest.MonkeyPatch) -> None:
     def failing(points: list[Point], all_bytes: bool) -> Any:
         raise IndexError("no such point")
 
-    monkeypatch.setattr("netrev_go.steps.making.owned", failing)
+    monkeypatch.setattr("netrev_go.steps.recording_builder.owned", failing)
     found, output = played("logs", 10)
     assert found > 0
     assert "IndexError" in output
@@ -72,7 +72,7 @@ def test_a_log_that_ends_it_is_found(monkeypatch: pytest.MonkeyPatch) -> None:
 
 def test_a_log_that_takes_too_much_is_found(monkeypatch: pytest.MonkeyPatch) -> None:
     monkeypatch.setattr(
-        "netrev_go.steps.making.owned", lambda points, all_bytes: [bytes(2**22) for _ in points * 2**10]
+        "netrev_go.steps.recording_builder.owned", lambda points, all_bytes: [bytes(2**22) for _ in points * 2**10]
     )
     found, output = played("logs", 3)
     assert found and "MemoryError" in output, output
@@ -97,13 +97,13 @@ def test_a_message_that_ends_the_adapter_is_found(monkeypatch: pytest.MonkeyPatc
 
 
 def test_an_answer_that_is_missing_is_found() -> None:
-    asked = [{"seq": 1, "command": "threads"}, {"seq": 2, "command": "disconnect"}, {"seq": 3, "command": "pause"}]
+    request = [{"seq": 1, "command": "threads"}, {"seq": 2, "command": "disconnect"}, {"seq": 3, "command": "pause"}]
     result = [
-        {"seq": at, "type": "response", "request_seq": at, "command": one["command"]} for at, one in enumerate(asked, 1)
+        {"seq": at, "type": "response", "request_seq": at, "command": item["command"]} for at, item in enumerate(request, 1)
     ]
-    assert editors.answers_wrong(asked, result[:2]) == ""
+    assert editors.answers_wrong(request, result[:2]) == ""
     for wrong in (result[:1], result, result[1:2], [result[1], result[0]], None):
-        assert editors.answers_wrong(asked, wrong) != ""
+        assert editors.answers_wrong(request, wrong) != ""
 
 
 def test_a_recording_that_ends_a_view_is_found(monkeypatch: pytest.MonkeyPatch) -> None:

@@ -11,7 +11,7 @@ from netrev_go.log.logfile import read_log
 from netrev_go.log.points import PointKind
 from netrev_go.steps.analysis import Analysis, check, hanging, never_closed
 from netrev_go.steps.compare import differing
-from netrev_go.steps.making import make, write, write_words
+from netrev_go.steps.recording_builder import make, write, write_words
 from netrev_go.steps.report import report
 from tests.logs.test_go_converting import DESCRIPTOR, WORD, Points
 from tests.program.nrdb.common.support import NETREV

@@ -44,9 +44,9 @@ def kept(clone: Path) -> list[str]:
 def looked(clone: Path, toolchain: Toolchain, *commands: str) -> str:
     """The output of `make look` for these commands at its prompt."""
     lines = "".join(f"{command}\n" for command in commands)
-    ran = make(clone, "look", f"FILE={RECORDING}", lines=lines, PATH=toolchain.path())
-    assert ran.returncode == 0, ran.stderr
-    return ran.stdout
+    process = make(clone, "look", f"FILE={RECORDING}", lines=lines, PATH=toolchain.path())
+    assert process.returncode == 0, process.stderr
+    return process.stdout
 
 
 def with_built_netrev(clone: Path, *commands: str) -> str:
@@ -147,28 +147,28 @@ def test_it_leaves_only_plain_files_in_the_tree(clone: Path, toolchain: Toolchai
 
 def test_a_script_runs_with_the_same_program(clone: Path, toolchain: Toolchain) -> None:
     looked(clone, toolchain)
-    ran = make(clone, "look", "FILE=examples/first.jsonl", "SCRIPT=examples/first.script", PATH=toolchain.path())
-    assert ran.stdout == (clone / "examples/first.replies").read_text()
-    assert "Nothing of this netrev is proved" in ran.stderr and toolchain.compiled() == 1
+    process = make(clone, "look", "FILE=examples/first.jsonl", "SCRIPT=examples/first.script", PATH=toolchain.path())
+    assert process.stdout == (clone / "examples/first.replies").read_text()
+    assert "Nothing of this netrev is proved" in process.stderr and toolchain.compiled() == 1
 
 
 def test_without_the_toolchain_it_says_what_is_missing(clone: Path, tmp_path: Path) -> None:
     for name in ("make", "python3"):
         found = next(Path(folder, name) for folder in ("/usr/bin", "/bin") if Path(folder, name).exists())
         (tmp_path / name).symlink_to(found)
-    ran = make(clone, "look", f"FILE={RECORDING}", PATH=str(tmp_path), SHELL="/bin/sh")
-    assert ran.returncode != 0 and ran.stdout == ""
+    process = make(clone, "look", f"FILE={RECORDING}", PATH=str(tmp_path), SHELL="/bin/sh")
+    assert process.returncode != 0 and process.stdout == ""
     assert (
         "look: make look needs the toolchain, and there is no `rt` on the PATH. The archive and the Debian package"
-        in ran.stderr
+        in process.stderr
     )
 
 
 def test_what_the_toolchain_says_is_the_error_if_it_compiles_nothing(clone: Path, toolchain: Toolchain) -> None:
     rt = toolchain.commands / "rt"
     rt.write_text("#!/bin/sh\n[ $1 = version ] || { echo 'error: no such type' >&2; exit 2; }\n")
-    ran = make(clone, "look", f"FILE={RECORDING}", PATH=toolchain.path())
-    assert "look: error: no such type\n" in ran.stderr and ran.returncode != 0 and kept(clone) == []
+    process = make(clone, "look", f"FILE={RECORDING}", PATH=toolchain.path())
+    assert "look: error: no such type\n" in process.stderr and process.returncode != 0 and kept(clone) == []
 
 
 @pytest.mark.parametrize("number", [signal.SIGTERM, signal.SIGHUP, signal.SIGINT])
@@ -196,6 +196,6 @@ def test_a_signal_ends_the_compiler_too(clone: Path, toolchain: Toolchain, numbe
 
 
 def test_a_file_that_is_not_there_is_named_before_anything_is_compiled(clone: Path, toolchain: Toolchain) -> None:
-    ran = make(clone, "look", "FILE=no/such.jsonl", PATH=toolchain.path())
-    assert f"look: {clone}/no/such.jsonl: No such file or directory\n" in ran.stderr and toolchain.compiled() == 0
-    assert os.path.exists(clone / "Makefile") and ran.returncode != 0
+    process = make(clone, "look", "FILE=no/such.jsonl", PATH=toolchain.path())
+    assert f"look: {clone}/no/such.jsonl: No such file or directory\n" in process.stderr and toolchain.compiled() == 0
+    assert os.path.exists(clone / "Makefile") and process.returncode != 0

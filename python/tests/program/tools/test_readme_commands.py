@@ -97,8 +97,8 @@ def packages(tmp_path_factory: pytest.TempPathFactory) -> Path:
     for words in (("archive.sh", VERSION, NETREV, str(log), str(folder)), ("deb.sh", VERSION, str(folder))):
         command = ["sh", str(ROOT / "scripts" / words[0]), *words[1:]]
         settings = environment(COMPRESSION="gzip")
-        ran = subprocess.run(command, env=settings, capture_output=True, text=True, check=False)
-        assert ran.returncode == 0, ran.stdout + ran.stderr
+        process = subprocess.run(command, env=settings, capture_output=True, text=True, check=False)
+        assert process.returncode == 0, process.stdout + process.stderr
     return folder
 
 

@@ -105,7 +105,7 @@ def test_causes_end_with_a_command_that_runs(installations: list[Installation], 
 
 
 def test_kept_logs_are_named_with_a_command_that_runs(installations: list[Installation], log: Path) -> None:
-    script = "import sys; from pathlib import Path; from netrev_go.keeping import convert_hint; "
+    script = "import sys; from pathlib import Path; from netrev_go.recordings import convert_hint; "
     script += "print(convert_hint(Path(sys.argv[1]).parent, list(map(Path, sys.argv[1:]))))"
     other = shutil.copy(log, log.with_name("log.18"))
     for number, (installation, logs) in enumerate(zip(installations[::2], ([log, other], [log]))):
@@ -133,11 +133,11 @@ def test_without_netrev_a_clone_says_what_make_does(tmp_path: Path) -> None:
     words = [ROOT / "nrdb", "--netrev", "/nowhere/netrev", "a b.jsonl"]
     run = subprocess.run(list(map(str, words)), cwd=tmp_path, capture_output=True, text=True, timeout=PATIENCE)
     build, look = re.findall(r"`(make .*?)`", run.stdout)
-    for command, made in ((build, "scripts/prove.sh"), (look, f'scripts/look.py "{tmp_path}/a b.jsonl"')):
+    for command, script in ((build, "scripts/prove.sh"), (look, f'scripts/look.py "{tmp_path}/a b.jsonl"')):
         dry = subprocess.run(
             ["sh", "-c", command.replace("make ", "make -n ")], cwd=tmp_path, capture_output=True, text=True, timeout=PATIENCE
         )  # fmt: skip
-        assert dry.returncode == 0 and made in dry.stdout, (command, dry)
+        assert dry.returncode == 0 and script in dry.stdout, (command, dry)
 
 
 def test_an_installation_does_not_speak_of_make(installations: list[Installation], tmp_path: Path) -> None:

@@ -11,7 +11,7 @@ from typing import Iterator
 import pytest
 
 from netrev.findings.suspects import table
-from netrev.findings.suspects.found import Evidence, Suspect
+from netrev.findings.suspects.suspect import Evidence, Suspect
 from netrev.recording.recording import Recording
 from netrev_go.steps import forms, report
 from netrev_go.steps.forms import TestResult

@@ -6,8 +6,8 @@ held its reference too long."""
 
 from typing import Iterator
 
-from netrev.findings.suspects.found import Suspect, Weight
-from netrev.findings.suspects.keeping import kept
+from netrev.findings.suspects.suspect import Suspect, Weight
+from netrev.findings.suspects.kept_references import kept
 from netrev.findings.suspects.run import Run
 
 

@@ -4,12 +4,12 @@ side's deadline instead."""
 
 from typing import Iterator, Optional
 
-from netrev.findings.suspects.found import Evidence, Suspect, Weight
+from netrev.findings.suspects.suspect import Evidence, Suspect, Weight
 from netrev.findings.suspects.run import Run
-from netrev.findings.suspects.weighing import of_a_deadline
+from netrev.findings.suspects.weights import of_a_deadline
 from netrev.recording.notes import By, Use
 from netrev.recording.suspect_list import OfDeadline
-from netrev.recording.words import SIDES as NAMES
+from netrev.recording.cell_meanings import SIDES as NAMES
 
 HABIT = 2  # a goroutine that sets one side alone this many times has a habit of setting that side
 

@@ -2,11 +2,11 @@
 
 from typing import Iterator, Optional
 
-from netrev.findings.suspects.found import Evidence, Suspect, Weight
+from netrev.findings.suspects.suspect import Evidence, Suspect, Weight
 from netrev.findings.suspects.run import Run
-from netrev.findings.suspects.weighing import of_a_goroutine
+from netrev.findings.suspects.weights import of_a_goroutine
 from netrev.recording.notes import Passing, Setting, Use
-from netrev.recording.words import SIDES as NAMES
+from netrev.recording.cell_meanings import SIDES as NAMES
 
 # statuses inside a wait, before the goroutine checks why it was woken
 NOT_LOOKED = ("armed", "parking", "swapping", "checking")
@@ -16,7 +16,7 @@ def rule(run: Run) -> Iterator[Suspect]:
     for use in run.notes.uses:
         for side, passings in zip("rw", use.passings):
             for passing in passings:
-                setting = use.setting_behind(side, passing.step)
+                setting = use.setting_after(side, passing.step)
                 if setting and setting.time >= 0:
                     goroutine = not_looked(run, use, side, setting.step - 1)
                     if goroutine is not None:

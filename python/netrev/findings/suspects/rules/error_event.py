@@ -3,7 +3,7 @@ unless Go compared the event's tag, as it does from 1.21 on."""
 
 from typing import Iterator
 
-from netrev.findings.suspects.found import Evidence, Suspect, Weight
+from netrev.findings.suspects.suspect import Evidence, Suspect, Weight
 from netrev.findings.suspects.run import Run
 
 

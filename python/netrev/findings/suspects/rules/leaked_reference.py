@@ -6,10 +6,10 @@ References that Go's own calls hold over a system call are left out."""
 
 from typing import Iterator
 
-from netrev.findings.suspects.found import Suspect, Weight
-from netrev.findings.suspects.keeping import kept
+from netrev.findings.suspects.suspect import Suspect, Weight
+from netrev.findings.suspects.kept_references import kept
 from netrev.findings.suspects.run import Run
-from netrev.findings.suspects.weighing import of_a_holder
+from netrev.findings.suspects.weights import of_a_holder
 
 
 def rule(run: Run) -> Iterator[Suspect]:

@@ -5,10 +5,10 @@ or SendFile holds over a system call are left out."""
 
 from typing import Iterator
 
-from netrev.findings.suspects.found import Evidence, Suspect, Weight
+from netrev.findings.suspects.suspect import Evidence, Suspect, Weight
 from netrev.findings.suspects.run import Run
-from netrev.findings.suspects.weighing import of_a_holder
-from netrev.recording.words import SIDES as NAMES
+from netrev.findings.suspects.weights import of_a_holder
+from netrev.recording.cell_meanings import SIDES as NAMES
 
 
 def rule(run: Run) -> Iterator[Suspect]:

@@ -4,10 +4,10 @@ about to park for reading without a read in between."""
 
 from typing import Iterator, Optional
 
-from netrev.findings.suspects.coming import waits_after_arrival
-from netrev.findings.suspects.found import Evidence, Suspect, Weight
+from netrev.findings.suspects.arrived_events import waits_after_arrival
+from netrev.findings.suspects.suspect import Evidence, Suspect, Weight
 from netrev.findings.suspects.run import Run
-from netrev.findings.suspects.weighing import is_accepting, is_without_tries, of_a_goroutine
+from netrev.findings.suspects.weights import is_accepting, is_without_tries, of_a_goroutine
 from netrev.recording.notes import AT, Taking, Use, Wait
 from netrev.recording.suspect_list import LostWakeUp
 
@@ -19,7 +19,7 @@ BUFFERS, WAITS = {"r": "in", "w": "out"}, {"r": "reading", "w": "writing"}
 def rule(run: Run) -> Iterator[Suspect]:
     throwing = (use for use in run.notes.uses if use.thrown)
     throws: dict[Taken, list[Suspect]] = {}
-    for suspect in (thrown_away(run, use, *both) for use in throwing for both in waits_behind_a_throw(use)):
+    for suspect in (thrown_away(run, use, *both) for use in throwing for both in waits_after_throw(use)):
         throws.setdefault((suspect.goroutine, suspect.descriptor, suspect.step, "r"), []).append(suspect)
     lost: dict[Taken, LostWakeUp] = {
         (wake_up.goroutine, wake_up.descriptor, wake_up.taken, wake_up.side): wake_up
@@ -85,7 +85,7 @@ def taken_and_parked(run: Run, lost: LostWakeUp) -> Suspect:
     return suspect
 
 
-def waits_behind_a_throw(use: Use) -> Iterator[tuple[Taking, Wait]]:
+def waits_after_throw(use: Use) -> Iterator[tuple[Taking, Wait]]:
     """The waits for reading in which the goroutine had discarded a readiness and hasn't read or written since."""
     thrown, at = use.thrown, 0
     for wait in use.waits[AT["r"]]:

@@ -4,7 +4,7 @@
 
 from typing import Iterator
 
-from netrev.findings.suspects.found import Evidence, Suspect, Weight
+from netrev.findings.suspects.suspect import Evidence, Suspect, Weight
 from netrev.findings.suspects.run import Run
 from netrev.text.plurals import counted
 

@@ -2,8 +2,8 @@
 
 from typing import Iterator
 
-from netrev.findings.suspects.coming import waits_after_arrival
-from netrev.findings.suspects.found import Evidence, Suspect, Weight
+from netrev.findings.suspects.arrived_events import waits_after_arrival
+from netrev.findings.suspects.suspect import Evidence, Suspect, Weight
 from netrev.findings.suspects.run import Run
 
 JUST_NOW = 3  # bytes or a close that came within this many steps of the end may still get their event

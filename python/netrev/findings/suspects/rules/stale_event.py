@@ -3,8 +3,8 @@ old tag."""
 
 from typing import Iterator
 
-from netrev.findings.suspects.coming import waits_after_arrival
-from netrev.findings.suspects.found import Evidence, Suspect, Weight
+from netrev.findings.suspects.arrived_events import waits_after_arrival
+from netrev.findings.suspects.suspect import Evidence, Suspect, Weight
 from netrev.findings.suspects.run import Run
 
 

@@ -3,9 +3,9 @@ the other end, and the goroutine that would read there waits too."""
 
 from typing import Iterator
 
-from netrev.findings.evidence.words import text_of_call
+from netrev.findings.evidence.call_words import text_of_call
 from netrev.findings.hangs.wait_graph import Certainty, Hang, graph_at
-from netrev.findings.suspects.found import Evidence, Suspect, Weight
+from netrev.findings.suspects.suspect import Evidence, Suspect, Weight
 from netrev.findings.suspects.run import Run
 from netrev.recording.call import Call
 

@@ -3,9 +3,9 @@ goroutine's next Read asks for all of them again, so the first bytes are lost.""
 
 from typing import Iterator
 
-from netrev.findings.evidence.asked import ReadSizes, read_sizes_of
-from netrev.findings.evidence.words import is_of_go, text_of_call
-from netrev.findings.suspects.found import Evidence, Suspect, Weight
+from netrev.findings.evidence.read_sizes import ReadSizes, read_sizes_of
+from netrev.findings.evidence.call_words import is_of_go, text_of_call
+from netrev.findings.suspects.suspect import Evidence, Suspect, Weight
 from netrev.findings.suspects.run import Run
 from netrev.recording.call import Call, Outcome
 from netrev.text.plurals import counted

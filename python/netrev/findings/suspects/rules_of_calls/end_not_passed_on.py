@@ -4,7 +4,7 @@ destination for writing, so the Read at the destination's other end hangs."""
 from typing import Iterator
 
 from netrev.findings.streams.unpassed_ends import UnpassedEnd, unpassed_ends
-from netrev.findings.suspects.found import Evidence, Suspect, Weight
+from netrev.findings.suspects.suspect import Evidence, Suspect, Weight
 from netrev.findings.suspects.run import Run
 
 

@@ -5,7 +5,7 @@ from typing import Iterator
 
 from netrev.findings.causes.leftovers import left_open
 from netrev.findings.finding import Cause
-from netrev.findings.suspects.found import Evidence, Suspect, Weight
+from netrev.findings.suspects.suspect import Evidence, Suspect, Weight
 from netrev.findings.suspects.run import Run
 
 SINCE = 50
@@ -17,7 +17,7 @@ def rule(run: Run) -> Iterator[Suspect]:
             yield suspect_of(run.end, cause)
 
 
-def beheaded(says: str) -> str:
+def without_heading(says: str) -> str:
     """A sentence as a clause, with a lower-case first letter."""
     return (says.replace("Its", "its", 1) if says.startswith("Its ") else says).removesuffix(".")
 
@@ -27,7 +27,7 @@ def suspect_of(length: int, cause: Cause) -> Suspect:
     return Suspect(
         cause.steps[-1],
         Weight.SHOWN,
-        [f"perhaps: {cause.says[0].removesuffix('.')}", *(beheaded(says) for says in cause.says[1:])],
+        [f"perhaps: {cause.says[0].removesuffix('.')}", *(without_heading(says) for says in cause.says[1:])],
         socket=call.socket,
         evidence=[Evidence(length, f"lock {call.socket}")],
         looks=cause.looks,

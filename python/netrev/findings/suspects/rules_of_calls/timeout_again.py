@@ -3,8 +3,8 @@ deadline, and no goroutine sets another deadline."""
 
 from typing import Iterator
 
-from netrev.findings.evidence.words import is_of_go, text_of_call
-from netrev.findings.suspects.found import Evidence, Suspect, Weight
+from netrev.findings.evidence.call_words import is_of_go, text_of_call
+from netrev.findings.suspects.suspect import Evidence, Suspect, Weight
 from netrev.findings.suspects.run import SIDES, Run
 from netrev.recording.call import Call, Outcome
 from netrev.run.index import RunIndex

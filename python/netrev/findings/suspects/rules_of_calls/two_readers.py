@@ -3,8 +3,8 @@ got bytes, so chance decides which goroutine gets which bytes. Listeners and dat
 
 from typing import Iterator
 
-from netrev.findings.evidence.words import is_of_go, text_of_call
-from netrev.findings.suspects.found import Evidence, Suspect, Weight
+from netrev.findings.evidence.call_words import is_of_go, text_of_call
+from netrev.findings.suspects.suspect import Evidence, Suspect, Weight
 from netrev.findings.suspects.run import Run
 from netrev.recording.call import Call
 from netrev.run.index import RunIndex, went_well

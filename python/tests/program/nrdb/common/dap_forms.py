@@ -73,11 +73,11 @@ CATEGORIES = ("console", "important", "stdout", "stderr")
 def misfit(value: Any, form: Form, where: str) -> str:
     """The place at which a value doesn't fit a form; empty if it fits."""
     if isinstance(form, tuple):
-        return "" if any(not misfit(value, one, where) for one in form) else f"{where} is {value!r}"
+        return "" if any(not misfit(value, item, where) for item in form) else f"{where} is {value!r}"
     if isinstance(form, list):
         if not isinstance(value, list):
             return f"{where} is no list"
-        return first_of(misfit(one, form[0], f"{where}[{at}]") for at, one in enumerate(value))
+        return first_of(misfit(item, form[0], f"{where}[{at}]") for at, item in enumerate(value))
     if isinstance(form, dict):
         return misfit_of_object(value, form, where)
     is_right = isinstance(value, form) and not (form is int and isinstance(value, bool))
@@ -88,17 +88,17 @@ def misfit_of_object(value: Any, form: dict[str, Form], where: str) -> str:
     """The place at which an object doesn't fit a form; empty if it fits."""
     if not isinstance(value, dict):
         return f"{where} is no object"
-    fields = {name.rstrip("?"): one for name, one in form.items()}
+    fields = {name.rstrip("?"): item for name, item in form.items()}
     missing = [name for name in form if not name.endswith("?") and name not in value]
     unknown = [name for name in value if name not in fields]
     if missing or unknown:
         return f"{where}: {missing} missing, {unknown} unknown"
-    return first_of(misfit(one, fields[name], f"{where}.{name}") for name, one in value.items())
+    return first_of(misfit(item, fields[name], f"{where}.{name}") for name, item in value.items())
 
 
-def first_of(said: Iterable[str]) -> str:
+def first_of(output: Iterable[str]) -> str:
     """The first text that isn't empty; empty if there is none."""
-    return next(filter(None, said), "")
+    return next(filter(None, output), "")
 
 
 def misfit_of_message(message: dict[str, Any]) -> str:
@@ -117,6 +117,6 @@ def misfit_of_message(message: dict[str, Any]) -> str:
     else:
         refusal = {"error?": MESSAGE}
         form = {**head, "request_seq": int, "command": str, "success": bool, "message": str, "body?": refusal}
-    if not all(isinstance(one, (type, tuple, list, dict)) for one in form.values()):
+    if not all(isinstance(item, (type, tuple, list, dict)) for item in form.values()):
         return f"{message} has a name that the protocol hasn't"
     return misfit(message, form, str(message.get("event") or message.get("command")))

@@ -74,10 +74,10 @@ class Chromium:
     def __call__(self, method: str, session: str = "", **parameters: Any) -> Body:
         """Sends a command, and returns the answer to it."""
         self._number += 1
-        asked: Body = {"id": self._number, "method": method, "params": parameters}
+        request: Body = {"id": self._number, "method": method, "params": parameters}
         if session:
-            asked["sessionId"] = session
-        os.write(self._to, json.dumps(asked).encode() + b"\0")
+            request["sessionId"] = session
+        os.write(self._to, json.dumps(request).encode() + b"\0")
         while True:
             message = self._message()
             if message.get("id") == self._number:

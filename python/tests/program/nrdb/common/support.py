@@ -26,15 +26,15 @@ LIMIT_OF = {Of.GOROUTINE: "gor", Of.SOCKET: "sock", Of.DESCRIPTOR: "desc"}
 def nrdb(*words, lines=(), status=0):
     """nrdb's output for these arguments, with these lines as input. Checks the exit status. nrdb runs in this process,
     which is faster."""
-    said, input_before = io.StringIO(), sys.stdin
+    output, input_before = io.StringIO(), sys.stdin
     sys.stdin = io.StringIO("".join(f"{line}\n" for line in lines))
     try:
-        with contextlib.redirect_stdout(said):
+        with contextlib.redirect_stdout(output):
             ended = main(["--netrev", NETREV, *map(str, words)])
     finally:
         sys.stdin = input_before
-    assert ended == status, (words, ended, said.getvalue())
-    return said.getvalue()
+    assert ended == status, (words, ended, output.getvalue())
+    return output.getvalue()
 
 
 def nrdb_process(*words, lines=()):
@@ -54,9 +54,9 @@ def nrdb_process(*words, lines=()):
 def events(path, lines, beside=False):
     """nrdb's events for this recording and these lines. The events at its start and end are left out, and so are the
     events that follow each move unless `beside` is true."""
-    told = [json.loads(line) for line in nrdb("--json", path, lines=lines).splitlines()]
-    assert [event["event"] for event in told[:2] + told[-1:]] == ["reply", "place", "end"], told[:2]
-    return [event for event in told[2:-1] if beside or event.get("topic") not in BESIDE]
+    reports = [json.loads(line) for line in nrdb("--json", path, lines=lines).splitlines()]
+    assert [event["event"] for event in reports[:2] + reports[-1:]] == ["reply", "place", "end"], reports[:2]
+    return [event for event in reports[2:-1] if beside or event.get("topic") not in BESIDE]
 
 
 def netrev(path, lines):

@@ -17,12 +17,12 @@ class Web:
         called = [NRDB, "--web", "0", *map(str, words)]
         self.process = subprocess.Popen(called, stdout=subprocess.PIPE, stderr=subprocess.PIPE, text=True)
         assert self.process.stdout
-        said = ""
-        while "/?token=" not in said:
+        output = ""
+        while "/?token=" not in output:
             line = self.process.stdout.readline()
-            assert line, said
-            said += line
-        self.said, self.address = said, Address.printed(said)
+            assert line, output
+            output += line
+        self.said, self.address = output, Address.printed(output)
 
     def __enter__(self) -> Web:
         return self
@@ -34,5 +34,5 @@ class Web:
     def ends(self) -> tuple[int, str, str]:
         """Stops it by Ctrl-C; returns its exit status and its output on both streams."""
         self.process.send_signal(signal.SIGINT)
-        said, wrong = self.process.communicate(timeout=PATIENCE)
-        return self.process.returncode, said, wrong
+        output, wrong = self.process.communicate(timeout=PATIENCE)
+        return self.process.returncode, output, wrong

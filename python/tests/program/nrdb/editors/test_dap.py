@@ -291,13 +291,13 @@ def test_a_refused_recording_is_told_with_what_to_mend(folder):
 
 def test_no_launch_names_the_program_that_is_run(folder):
     with Adapter() as editor:
-        ran, program = folder / "ran", folder / "program"
-        program.write_text(f"#!/bin/sh\ntouch {ran}\n")
+        process, program = folder / "ran", folder / "program"
+        program.write_text(f"#!/bin/sh\ntouch {process}\n")
         program.chmod(0o700)
         with pytest.raises(RefusalError, match="a launch can't name"):
             editor("launch", program=LOST, netrev=str(program))
         editor.begin(LOST)
-        assert not ran.exists()
+        assert not process.exists()
 
 
 def test_text_of_others_is_written_out(folder):

@@ -103,8 +103,8 @@ def test_one_that_leaves_in_the_middle_ends_nothing(port: Port) -> None:
 
 
 def test_a_page_of_a_browser_has_nothing_run(folder: Path, port: Port) -> None:
-    ran, program = folder / "ran", folder / "program"
-    program.write_text(f"#!/bin/sh\ntouch {ran}\n")
+    process, program = folder / "ran", folder / "program"
+    program.write_text(f"#!/bin/sh\ntouch {process}\n")
     program.chmod(0o700)
     tokens: list[dict[str, Any]] = [{}, {"token": port.token}]
     for token in tokens:
@@ -113,7 +113,7 @@ def test_a_page_of_a_browser_has_nothing_run(folder: Path, port: Port) -> None:
         head += f"Content-Type: text/plain\r\nContent-Length: {len(body)}\r\n\r\n"
         assert port.said_to(head.encode() + body) == b""
     port.goes_on()
-    assert not ran.exists()
+    assert not process.exists()
 
 
 def test_without_the_token_nothing_is_answered(port: Port) -> None:

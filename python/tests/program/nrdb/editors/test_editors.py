@@ -28,8 +28,8 @@ def test_it_is_said_so():
     result = conversation()
     assert len(result) > 20
     with Adapter() as editor:
-        for number, (who, message) in enumerate(result, 1):
-            if who == SAYS:
+        for number, (sender, message) in enumerate(result, 1):
+            if sender == SAYS:
                 assert as_told(editor.message() or {}) == message
                 continue
             arguments = dict(message.get("arguments", {}))

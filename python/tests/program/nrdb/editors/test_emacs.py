@@ -97,10 +97,10 @@ def output_of(script: str, home: Path, recording: Path, **more: str) -> list[str
         "recording": str(recording),
     }
     words = {name: json.dumps(text) for name, text in (named | more).items()}
-    played = home / "played.el"
-    played.write_text((BEGINNING + script).format(folders=f"({folders})", **words))
+    runs = home / "played.el"
+    runs.write_text((BEGINNING + script).format(folders=f"({folders})", **words))
     ended = subprocess.run(
-        ["emacs", "-Q", "--batch", "-l", str(played)],
+        ["emacs", "-Q", "--batch", "-l", str(runs)],
         env=os.environ | {"HOME": str(home), "NETREV": NETREV},
         capture_output=True,
         text=True,

@@ -13,7 +13,7 @@ from typing import Optional
 import pytest
 
 from dev.recorder.fetching import here
-from tests.editors.test_dap_heard import told_of_work
+from tests.editors.test_message_reader import told_of_work
 from tests.program.nrdb.common.dap_client import Adapter, Body, Client, RefusalError
 
 from .test_dap_more import HIJACKED, LOST, SAMPLE
@@ -144,8 +144,8 @@ def test_progress_is_decoded() -> None:
 
 def test_the_conversation_of_the_examples_is_decoded() -> None:
     messages: list[Body] = []
-    for who, message in conversation():
-        if who == SAYS:
+    for sender, message in conversation():
+        if sender == SAYS:
             number = len(messages) + 1
             sort: Body = {"type": "event"} if "event" in message else {"type": "response", "request_seq": number}
             messages.append({"seq": number, **sort, **message})

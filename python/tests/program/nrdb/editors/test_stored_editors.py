@@ -19,7 +19,7 @@ import pytest
 from dev.fuzz.editors import framed, messages_in, request
 from netrev.machine.cells import CELLS_OF_ALL, CELLS_OF_ONE
 from nrdb.dap.adapter import Adapter
-from nrdb.dap.hearing import Reading
+from nrdb.dap.message_reader import Reading
 from nrdb.dap.view.messages import EditorStreams
 from tests.program.support.sharing import NETREV
 
@@ -105,12 +105,12 @@ def conversation(name: str, number: int) -> str:
             Adapter(wire, Reading(wire), NETREV).serve()
         finally:
             os.chdir(here)
-    told = messages_in(written.getvalue()) or []
-    by_number = {one["seq"]: json.dumps(one, sort_keys=True) for one in requests}
+    reports = messages_in(written.getvalue()) or []
+    by_number = {request["seq"]: json.dumps(request, sort_keys=True) for request in requests}
     lines = [
         line
-        for one in told
-        for line in (by_number.get(one.get("request_seq", 0), ""), json.dumps(one, sort_keys=True))
+        for request in reports
+        for line in (by_number.get(request.get("request_seq", 0), ""), json.dumps(request, sort_keys=True))
         if line
     ]
     found = "\n".join(lines).replace(str(Path(path).resolve()), "PATH").replace(path, "PATH")

@@ -48,12 +48,12 @@ def opened(page: str) -> str:
     return page.replace(end, f"window.inside = {{ {NAMES} }};\n{end}")
 
 
-def numbers_in(told: Any, count: int) -> Sequence[int]:
+def numbers_in(reports: Any, count: int) -> Sequence[int]:
     """The numbers of a column of calls. The column is either one value that all calls have, or the number of bytes per
     number together with all numbers in base64."""
-    if not isinstance(told, list):
-        return [told] * count
-    wide, text = told
+    if not isinstance(reports, list):
+        return [reports] * count
+    wide, text = reports
     assert wide != 8
     kind = {1: "B", 2: "H", 4: "I"}[wide]
     return struct.unpack(f"<{count}{kind}", b64decode(text))
@@ -154,7 +154,7 @@ def test_who_hangs_is_marked_to_the_end(pages: dict[str, str]) -> None:
             """,
     )
     red = [int(values["red"][at : at + 2], 16) for at in (1, 3, 5)]
-    far = [sum(abs(one - other) for one, other in zip(pixel, red)) for pixel in values["pixels"]]
+    far = [sum(abs(item - other) for item, other in zip(pixel, red)) for pixel in values["pixels"]]
     assert min(far[: len(far) // 4]) < 30
     assert min(far[-len(far) // 4 :]) < 200, far
     assert all(pixel[0] > pixel[2] for pixel in values["pixels"]), values["pixels"]
@@ -232,7 +232,7 @@ def test_the_axis_is_by_steps_or_by_time(pages: dict[str, str]) -> None:
             """,
     )
     assert (values["before"], values["after"], values["again"]) == ("steps", ["time", "true"], "steps")
-    assert all(one < other for one, other in zip(values["x"], values["x"][1:]))
+    assert all(item < other for item, other in zip(values["x"], values["x"][1:]))
     assert all(abs(back - position) < 0.1 for position, back in enumerate(values["back"])), values["back"]
     wide = values["x"][-1] - values["x"][0]
     for position, (x, now) in enumerate(zip(values["x"], values["times"])):
@@ -257,7 +257,7 @@ def test_the_axis_of_time_is_the_recorders(folder: Path, monkeypatch: pytest.Mon
             """
     values = used(page, script)
     with monkeypatch.context() as patch:
-        patch.setattr("netrev.timeline.picture.MOST_TIMES", 10)
+        patch.setattr("netrev.timeline.page_contents.MOST_TIMES", 10)
         few = used(opened(page_of(path)), script)
     wide = values["x"][-1] - values["x"][0]
     for seen in (values, few):

@@ -74,9 +74,9 @@ INKS = """
 """
 
 
-def contrast(one: list[float], other: list[float]) -> float:
+def contrast(item: list[float], other: list[float]) -> float:
     """The contrast of two colours, from 1 to 21, by WCAG 2.1."""
-    lights = sorted((luminance(one), luminance(other)))
+    lights = sorted((luminance(item), luminance(other)))
     return (lights[1] + 0.05) / (lights[0] + 0.05)
 
 

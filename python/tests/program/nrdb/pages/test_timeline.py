@@ -98,10 +98,10 @@ def test_a_part_is_named_behind_the_option(folder):
 def test_a_longer_recording_has_the_values_of_a_part(folder, monkeypatch):
     path = HUNTS / "missed-release.jsonl"
     with monkeypatch.context() as patch:
-        patch.setattr("netrev.timeline.picture.MOST", 600)
+        patch.setattr("netrev.timeline.page_contents.MOST", 600)
         file = folder / "page.html"
         with monkeypatch.context() as patch:
-            patch.setattr("netrev.timeline.picture.AT_ONCE", 200)
+            patch.setattr("netrev.timeline.page_contents.AT_ONCE", 200)
             nrdb("--timeline", file, path)
         data = data_in(file.read_text())
     assert (data["first"], data["last"], data["length"]) == (112, 312, 1430)

@@ -7,7 +7,7 @@ from typing import Any
 
 import pytest
 
-from netrev.timeline import picture
+from netrev.timeline import page_contents
 from tests.program.nrdb.common.browser import CHROMIUM, used
 from tests.program.support.sharing import ROOT
 
@@ -46,8 +46,8 @@ def mix(tmp_path_factory: pytest.TempPathFactory) -> Path:
 def seen(path: Path, *words: str, place: str = "") -> dict[str, Any]:
     """The contents of the page when it opens, for a recording that is too long for one page."""
     with pytest.MonkeyPatch.context() as patch:
-        patch.setattr(picture, "MOST", PART)
-        patch.setattr(picture, "AT_ONCE", PART)
+        patch.setattr(page_contents, "MOST", PART)
+        patch.setattr(page_contents, "AT_ONCE", PART)
         page = page_of(path, *words)
     end = "})(JSON.parse("
     assert page.count(end) == 1

@@ -85,46 +85,46 @@ def told() -> dict[str, Any]:
 
 
 @needs_chromium
-def test_a_line_is_found_in_the_calls_that_stand_there(told: dict[str, Any]) -> None:
-    line = told["line"]
-    assert told["lineHits"]
-    assert line["hits"] == told["lineHits"]
+def test_a_line_is_found_in_the_calls_that_stand_there(reports: dict[str, Any]) -> None:
+    line = reports["line"]
+    assert reports["lineHits"]
+    assert line["hits"] == reports["lineHits"]
     assert f"{len(line['hits'])} calls" in line["said"]
     assert line["at"] in line["hits"]
     assert re.search(r"^call \d+ \d+$", line["row"])
 
 
 @needs_chromium
-def test_a_line_is_no_part_of_another_number(told: dict[str, Any]) -> None:
-    assert (told["part"]["hits"], told["none"]["hits"]) == ([], [])
+def test_a_line_is_no_part_of_another_number(reports: dict[str, Any]) -> None:
+    assert (reports["part"]["hits"], reports["none"]["hits"]) == ([], [])
 
 
 @needs_chromium
-def test_a_function_is_found_anywhere_in_a_stack(told: dict[str, Any]) -> None:
-    assert set(told["line"]["hits"]) <= set(told["calls"]["hits"])
+def test_a_function_is_found_anywhere_in_a_stack(reports: dict[str, Any]) -> None:
+    assert set(reports["line"]["hits"]) <= set(reports["calls"]["hits"])
 
 
 @needs_chromium
-def test_a_connection_is_found_by_its_number(told: dict[str, Any]) -> None:
-    assert told["socketHits"]
-    assert told["socket"]["hits"] == told["socketHits"]
-    assert told["socket"]["row"].startswith("call 4 ")
+def test_a_connection_is_found_by_its_number(reports: dict[str, Any]) -> None:
+    assert reports["socketHits"]
+    assert reports["socket"]["hits"] == reports["socketHits"]
+    assert reports["socket"]["row"].startswith("call 4 ")
 
 
 @needs_chromium
-def test_waits_are_found_and_chosen(told: dict[str, Any]) -> None:
-    wait = told["wait"]
+def test_waits_are_found_and_chosen(reports: dict[str, Any]) -> None:
+    wait = reports["wait"]
     assert (wait["hits"], wait["row"], wait["at"]) == ([329], "goid 21", 329)
     assert "1 wait" in wait["said"]
     assert re.search(
-        r"waits for a mutex, since 329\s+\(\*room\)\.join main\.go:54\s+\(\*room\)\.serve main\.go:68", told["panel"]
+        r"waits for a mutex, since 329\s+\(\*room\)\.join main\.go:54\s+\(\*room\)\.serve main\.go:68", reports["panel"]
     )
-    assert (told["goid"]["hits"], told["goid"]["row"]) == ([329], "goid 21")
-    assert told["sleeps"]["hits"]
+    assert (reports["goid"]["hits"], reports["goid"]["row"]) == ([329], "goid 21")
+    assert reports["sleeps"]["hits"]
 
 
 @needs_chromium
-def test_goroutines_without_steps_have_rows_with_words(told: dict[str, Any]) -> None:
-    assert told["kinds"] == ["goid 13 within.func1", "goid 21 (*room).serve"]
-    assert "waits outside of sockets" in told["heads"]
-    assert re.match(r"goid 21 \(\*room\)\.serve: waits for a mutex\s+since 329, to the end\s", told["tip"]), told["tip"]
+def test_goroutines_without_steps_have_rows_with_words(reports: dict[str, Any]) -> None:
+    assert reports["kinds"] == ["goid 13 within.func1", "goid 21 (*room).serve"]
+    assert "waits outside of sockets" in reports["heads"]
+    assert re.match(r"goid 21 \(\*room\)\.serve: waits for a mutex\s+since 329, to the end\s", reports["tip"]), reports["tip"]

@@ -37,14 +37,14 @@ def children(process: int) -> list[int]:
 
 def test_two_listen_and_one_is_at_a_terminal() -> None:
     with serving(2) as server, Web("--join", f"127.0.0.1:{server.port}", LOST) as web:
-        with Listener(web.address) as one, Listener(web.address) as other, Joined(server.port + 1, LOST) as person:
-            assert [one.you["who"], other.you["who"]] == ["browser 1", "browser 2"]
-            assert one.said("continue")[:2] == ["at 22 end", "| last step 22: parkcommit 0   (end)"]
+        with Listener(web.address) as item, Listener(web.address) as other, Joined(server.port + 1, LOST) as person:
+            assert [item.you["who"], other.you["who"]] == ["browser 1", "browser 2"]
+            assert item.said("continue")[:2] == ["at 22 end", "| last step 22: parkcommit 0   (end)"]
             assert replies(person.ask("info position")) == ["at 22 of 22 forward"]
             moved = {"event": "moved", "who": "browser 1", "line": "continue", "from": 0, "to": 22}
             assert other.named("moved") == moved
             person.ask("reverse-stepi 4", "watch rg 0")
-            for listener in (one, other):
+            for listener in (item, other):
                 events = {"event": "moved", "who": "another front", "line": None, "from": 22, "to": 18}
                 assert listener.named("moved") == events
                 assert listener.named("stands")["position"] == 18
@@ -53,15 +53,15 @@ def test_two_listen_and_one_is_at_a_terminal() -> None:
             told_at_the_terminal = person.ask("print rg 0")
             assert told_at_the_terminal[0]["text"] == "someone else has moved: from 18 to 16"
             assert replies(told_at_the_terminal) == ["rg 0 = ready"]
-            assert "| 1. lost wake-up" in one.said("info suspects")[0]
+            assert "| 1. lost wake-up" in item.said("info suspects")[0]
         assert web.ends() == (0, "", "")
 
 
 def test_netrev_is_killed_and_served_again() -> None:
-    with Web_of_a_front() as (server, web), Listener(web.address) as one, Listener(web.address) as other:
-        one.said("stepi 5")
+    with Web_of_a_front() as (server, web), Listener(web.address) as item, Listener(web.address) as other:
+        item.said("stepi 5")
         server.process.kill()
-        for listener in (one, other):
+        for listener in (item, other):
             result = listener.named("netrev")
             assert (result["there"], result["says"]) == (False, GONE)
         refused = web.address.type("stepi")
@@ -69,15 +69,15 @@ def test_netrev_is_killed_and_served_again() -> None:
         with serving(1, server.port):
             assert other.named("netrev")["there"]
             assert other.said("stepi")[0] == "at 1"
-            assert one.until(lambda event: event.get("line") == "stepi")["who"] == "browser 2"
-        assert not one.until(lambda event: event["event"] == "netrev" and not event["there"])["there"]
+            assert item.until(lambda event: event.get("line") == "stepi")["who"] == "browser 2"
+        assert not item.until(lambda event: event["event"] == "netrev" and not event["there"])["there"]
         assert web.ends() == (0, "", "")
 
 
 def test_without_the_recording_there_is_no_timeline() -> None:
-    with serving(1) as server, Web("--join", f"127.0.0.1:{server.port}") as web, Listener(web.address) as one:
-        assert one.you["recording"] is None
-        assert one.said("stepi 3") == ["at 3", "| last step 3   next step 4"]
+    with serving(1) as server, Web("--join", f"127.0.0.1:{server.port}") as web, Listener(web.address) as item:
+        assert item.you["recording"] is None
+        assert item.said("stepi 3") == ["at 3", "| last step 3   next step 4"]
         answer = web.address.get("/timeline")
         assert answer.status == 503
         assert b"the timeline needs the recording: name its file after --join HOST:PORT" in answer.body
@@ -110,20 +110,20 @@ def test_a_session_of_its_own() -> None:
 
 
 def test_its_netrev_is_killed_and_begun_again() -> None:
-    with Web(FIRST) as web, Listener(web.address) as one:
-        one.said("stepi 4")
+    with Web(FIRST) as web, Listener(web.address) as item:
+        item.said("stepi 4")
         for child in children(web.process.pid):
             with suppress(OSError):  # (the netrev that prints the changes may have ended already)
                 if "run" in Path(f"/proc/{child}/cmdline").read_text().split("\0"):
                     subprocess.run(["kill", "-KILL", str(child)], check=True)
-        assert one.named("netrev")["says"] == GONE
-        assert one.named("netrev")["there"]
-        assert one.said("info position") == ["at 0 of 10 forward"]
+        assert item.named("netrev")["says"] == GONE
+        assert item.named("netrev")["there"]
+        assert item.said("info position") == ["at 0 of 10 forward"]
         assert web.ends() == (0, "", "")
 
 
 def test_what_isnt_the_pages_leaves_the_session_alone() -> None:
-    with Web(FIRST) as web, Listener(web.address) as one:
+    with Web(FIRST) as web, Listener(web.address) as item:
         for answer in (
             web.address.type("stepi", Netrev_Token="wrong"),
             web.address.type("stepi", Origin="http://evil.example"),
@@ -132,8 +132,8 @@ def test_what_isnt_the_pages_leaves_the_session_alone() -> None:
             web.address.get("/../../etc/passwd"),
         ):
             assert answer.status in (403, 404, 413)
-        assert one.said("source /etc/passwd") == ["| the page can't read or write files: use nrdb's prompt"]
-        assert one.said("info position") == ["at 0 of 10 forward"]
+        assert item.said("source /etc/passwd") == ["| the page can't read or write files: use nrdb's prompt"]
+        assert item.said("info position") == ["at 0 of 10 forward"]
 
 
 def test_where_it_cant_be_served_that_is_said() -> None:

@@ -15,7 +15,7 @@ from tests.program.nrdb.common.support import EXAMPLES
 from tests.program.nrdb.common.web_support import Web
 from tests.program.support.sharing import ROOT
 
-from .test_web_page import says, stands
+from .test_web_page import says, current_position
 
 pytestmark = pytest.mark.together
 
@@ -42,13 +42,13 @@ def test_moves_by_buttons_and_keys(chromium: Chromium) -> None:
         page = chromium.opened(web)
         for at, button in ((1, "stepi"), (0, "reverse-stepi"), (216, "continue"), (0, "reverse-continue")):
             page.clicks(f"#moves [data-line={button}]")
-            stands(page, at, 216)
+            current_position(page, at, 216)
         page.value("document.getElementById('picture').focus()")
         for key, at in ((">", 1), (">", 2), ("<", 1), ("}", 216), ("{", 0)):
             page.value(
                 f"document.getElementById('picture').dispatchEvent(new KeyboardEvent('keydown', {{ key: '{key}', bubbles: true }}))"
             )
-            stands(page, at, 216)
+            current_position(page, at, 216)
         assert page.wrongs() == []
 
 
@@ -85,7 +85,7 @@ def test_what_nrdb_says_to_look_at_is_a_button(chromium: Chromium) -> None:
         page.until("document.querySelector('#log button') !== null")
         assert page.value("document.querySelector('#log button').innerText") == "goto 186; history wd 2"
         page.clicks("#log button")
-        stands(page, 186, 216)
+        current_position(page, 186, 216)
         says(page, "45061869 -> -1")
         page.value("document.querySelectorAll('#panel .looks button')[1].click()")
         says(page, "browser 1> history wd 2")
@@ -132,7 +132,7 @@ def test_a_long_run_is_there_at_once_and_its_parts_as_one_zooms(folder: Path, ch
         assert f"of {LONG:,}" in page.value("document.getElementById('said').innerText")
         writes(page, "goto 50000")
         page.presses("Enter", "\r")
-        stands(page, 50_000, LONG)
+        current_position(page, 50_000, LONG)
         assert "(not here)" in page.value("document.getElementById('panel').innerText")
         page.value("document.getElementById('picture').focus()")
         for _ in range(8):

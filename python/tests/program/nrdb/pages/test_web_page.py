@@ -26,7 +26,7 @@ def says(page: Page, text: str) -> None:
     page.until(f"{LOG}.includes({text!r})")
 
 
-def stands(page: Page, position: int, steps: int = 22) -> None:
+def current_position(page: Page, position: int, steps: int = 22) -> None:
     """Waits until the page shows this position, both in words and in the timeline."""
     page.until(f"document.getElementById('stands').innerText.startsWith('at {position} of {steps}')")
     page.until(f"document.getElementById('panel').innerText.startsWith('goto {position}')"
@@ -45,24 +45,24 @@ def expect_patience(server: Server, page: Page) -> None:
     page.until(f"{busy} === ''")
 
 
-def expect_gone_and_back(server: Server, one: Page, other: Page) -> None:
+def expect_gone_and_back(server: Server, item: Page, other: Page) -> None:
     """Kills netrev, and checks that the pages report this and that a line isn't answered. When netrev is back, the
     pages continue."""
     server.process.kill()
     server.process.wait()
-    for page in (one, other):
+    for page in (item, other):
         page.until(f"{GONE}.startsWith('netrev has ended: lines aren')")
-    one.value("document.getElementById('line').focus()")
-    one.types("stepi 3")
-    says(one, "not answered: stepi 3: netrev has ended")
+    item.value("document.getElementById('line').focus()")
+    item.types("stepi 3")
+    says(item, "not answered: stepi 3: netrev has ended")
     with Server(LOST, fronts=1, connections=0, port=server.port) as again:
         again.call(0).close()
-        for page in (one, other):
+        for page in (item, other):
             page.until(f"{GONE} === ''")
-            stands(page, 0)
-        one.presses("ArrowUp")
-        one.presses("Enter", "\r")
-        stands(other, 3)
+            current_position(page, 0)
+        item.presses("ArrowUp")
+        item.presses("Enter", "\r")
+        current_position(other, 3)
 
 
 def test_two_browsers_and_a_terminal_in_one_session(chromium: Chromium) -> None:
@@ -70,34 +70,34 @@ def test_two_browsers_and_a_terminal_in_one_session(chromium: Chromium) -> None:
         server.call(0).close()
         server.call(1).close()
         with Web("--join", f"127.0.0.1:{server.port}", LOST) as web, Joined(server.port + 1, LOST) as person:
-            one, other = chromium.opened(web), chromium.opened(web)
-            one.until("document.getElementById('here').innerText === 'with browser 2'")
-            one.types("continue")
-            for page in (one, other):
+            item, other = chromium.opened(web), chromium.opened(web)
+            item.until("document.getElementById('here').innerText === 'with browser 2'")
+            item.types("continue")
+            for page in (item, other):
                 says(page, "browser 1> continue")
                 says(page, "browser 1 moved from 0 to 22: continue")
-                stands(page, 22)
+                current_position(page, 22)
             other.types("watch rg 0")
             other.types("reverse-continue")
-            for page in (one, other):
+            for page in (item, other):
                 says(page, "browser 2 moved from 22 to 20: reverse-continue")
-                stands(page, 20)
+                current_position(page, 20)
                 says(page, "rg 0: nil -> wait")
             assert replies(person.ask("reverse-continue")) == ["at 18 by 1"]
-            for page in (one, other):
+            for page in (item, other):
                 says(page, "another front moved from 20 to 18")
-                stands(page, 18)
-            one.clicks("#suspects button")
-            one.until("location.hash === '#18'")
-            one.value("document.getElementById('picture').focus()")
-            one.presses("ArrowLeft")
-            one.presses("ArrowLeft")
-            one.until("location.hash === '#16'")
-            one.clicks("#panel .go")
-            stands(other, 16)
+                current_position(page, 18)
+            item.clicks("#suspects button")
+            item.until("location.hash === '#18'")
+            item.value("document.getElementById('picture').focus()")
+            item.presses("ArrowLeft")
+            item.presses("ArrowLeft")
+            item.until("location.hash === '#16'")
+            item.clicks("#panel .go")
+            current_position(other, 16)
             assert replies(person.ask("info position")) == ["at 16 of 22 forward"]
-            expect_patience(server, one)
-            expect_gone_and_back(server, one, other)
+            expect_patience(server, item)
+            expect_gone_and_back(server, item, other)
             assert other.wrongs() == []
 
 

@@ -28,8 +28,8 @@ def test_what_changed_is_what_print_shows():
     for path in recordings():
         world = shown(path)
         places = sorted({1, world.length, *(dice.randint(1, world.length) for _ in range(AT))})
-        told = events(path, [f"goto {at}" for at in places], beside=True)
-        tables = [event["rows"] for event in told if event.get("topic") == "changed"]
+        reports = events(path, [f"goto {at}" for at in places], beside=True)
+        tables = [event["rows"] for event in reports if event.get("topic") == "changed"]
         assert len(tables) == len(places)
         for at, rows in zip(places, tables):
             before, now = world.at(at - 1), world.at(at)
@@ -47,8 +47,8 @@ def test_whose_timer_is_run_and_who_set_it():
             continue
         worlds = replay(path.read_bytes(), Observer()).worlds
         for step in steps[:3] + steps[-3:]:
-            told = events(path, [f"goto {step.number}"], beside=True)
-            rows = next(event["rows"] for event in told if event.get("topic") == "timer")
+            reports = events(path, [f"goto {step.number}"], beside=True)
+            rows = next(event["rows"] for event in reports if event.get("topic") == "timer")
             row = next(row for row in rows if row["step"] == step.number)
             if step.kind == "pop":
                 timer = worlds[step.number].firings[-1]
@@ -131,8 +131,8 @@ def test_until_takes_two_conditions():
     values = shown(HIJACKED).series(["gor 2", "wd 2"])
     holds = [gor == "idle" and wd == "-1" for gor, wd in zip(values["gor 2"], values["wd 2"])]
     changes = [p for p in range(1, len(holds)) if any(item[p] != item[p - 1] for item in values.values()) and holds[p]]
-    told = events(HIJACKED, ["until gor 2 idle and wd 2 -1", "continue", "reverse-until wd 2 = -1 && gor 2 idle"])
-    stops = [event["position"] for event in told if event["event"] == "place"]
+    reports = events(HIJACKED, ["until gor 2 idle and wd 2 -1", "continue", "reverse-until wd 2 = -1 && gor 2 idle"])
+    stops = [event["position"] for event in reports if event["event"] == "place"]
     assert stops == [changes[0], shown(HIJACKED).length, changes[-1]]
     assert "| no later step gives gor 2 the value owing* and wd 2 the value -1\n" in said(
         HIJACKED, "until gor 2 owing* and wd 2 -1"

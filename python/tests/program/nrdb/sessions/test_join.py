@@ -66,9 +66,9 @@ class Other:
         self.caller.close()
 
 
-def replies(told):
+def replies(reports):
     """The replies among the events."""
-    return [line for event in told if event["event"] == "reply" for line in event["reply"]]
+    return [line for event in reports if event["event"] == "reply" for line in event["reply"]]
 
 
 def serving(fronts=1, left=1):

@@ -8,10 +8,10 @@ from typing import Any
 import pytest
 
 from dev.fuzz.generators.injections import Bug, Traffic
-from netrev.findings.suspects.found import Suspect
+from netrev.findings.suspects.suspect import Suspect
 from netrev.findings.suspects.ranking import suspects_of
 from netrev.recording.recording import Recording
-from netrev.timeline.picture import MOST as MOST_IN_A_PAGE
+from netrev.timeline.page_contents import MOST as MOST_IN_A_PAGE
 from tests.program.nrdb.common.support import EXAMPLES, HUNTS, ROOT, netrev, nrdb
 from tests.program.nrdb.pages.test_timeline import data_in
 from tests.program.nrdb.test_suspects import checked

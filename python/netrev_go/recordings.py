@@ -1,0 +1,172 @@
+"""Makes recordings from a run's logs, and keeps the logs, with a message, if it can't make one."""
+
+from __future__ import annotations
+
+import os
+import pathlib
+import shlex
+import sys
+from dataclasses import replace
+from typing import TextIO
+
+from netrev.messages import recorder as messages
+from netrev.system.command_lines import command
+from netrev.text.plain import plain
+from netrev.text.plurals import counted
+
+from .go_command.outputs import numbered
+from .go_command.run_folders import release, remove, unrecorded
+from .go_command.running import LOGS, logs_in, process_of, still_written
+from .go_command.toolchain import Go
+from .log.tests_in_log import forget
+from .steps.conversion import RecordingOptions, convert
+
+
+def say(lines: list[str], stream: TextIO | None = None) -> None:
+    """Prints these lines to standard error, because standard output belongs to Go and the program, or to another stream. If printing fails,
+    later lines are dropped and everything else continues."""
+    to = stream or sys.stderr
+    try:
+        print("\n".join(lines), file=to, flush=True)
+    except OSError:
+        nowhere = open(os.devnull, "w", encoding="utf-8")
+        if to is sys.stdout:
+            sys.stdout = nowhere
+        else:
+            sys.stderr = nowhere
+
+
+class ReportPrinter:
+    """Prints the facts about a recording below a heading, as soon as they are known."""
+
+    def __init__(self, head: list[str], indent: str = "", stream: TextIO | None = None) -> None:
+        self._head, self._indent, self._stream = head, indent, stream
+        self._count = 0  # how many lines were printed
+
+    def hear(self, lines: list[str]) -> None:
+        """Prints the next lines."""
+        if lines:
+            say([*self._head, *(self._indent + line for line in lines)], self._stream)
+            self._head = []
+            self._count += len(lines)
+
+    def rest(self, lines: list[str]) -> None:
+        """Prints the lines that haven't been printed yet."""
+        self.hear(lines[self._count :])
+
+
+def complain(text: str) -> None:
+    """Prints an error."""
+    say(["netrev-go: " + "\n".join(plain(line) for line in text.split("\n"))])
+
+
+def convert_hint(folder: pathlib.Path, logs: list[pathlib.Path]) -> str:
+    """A hint on how to convert the kept logs."""
+    again = shlex.quote(str(logs[0])) if len(logs) == 1 else f"{shlex.quote(str(folder))}/{LOGS}"
+    return messages.NOTHING_IS_LOST.format(netrev_go=command("netrev-go"), logs=again)
+
+
+def unwritten(name: pathlib.Path, fault: OSError) -> str:
+    """The reason why a recording is missing."""
+    return f"{fault.filename or name}: {fault.strerror or fault}"
+
+
+def report_no_log(folder: pathlib.Path, failed: bool) -> bool:
+    """Prints why no log exists; returns whether none exists."""
+    if logs_in(folder):
+        return False
+    if not folder.is_dir():
+        complain(messages.LOGS_ARE_GONE.format(folder=folder))
+    elif not unrecorded(folder):
+        complain(messages.GO_FAILED if failed else messages.NOTHING_RAN)
+    return True
+
+
+def report_unrecorded(folder: pathlib.Path) -> bool:
+    """Prints which processes couldn't be recorded; returns whether any such process exists."""
+    lines = unrecorded(folder)
+    for line in lines:
+        complain(line)
+    return bool(lines)
+
+
+def leave(folder: pathlib.Path, keep: bool, is_whole: bool, running: list[pathlib.Path]) -> None:
+    """Removes a run's logs, unless the user wants them, a recording is missing, or some of these programs are still running."""
+    logs = logs_in(folder)
+    if keep or logs and not is_whole:
+        release(folder)
+        say([messages.LOGS_ARE_IN.format(folder=plain(str(folder)))])
+        if logs and not is_whole:
+            complain(convert_hint(folder, logs))
+        return
+    if not any(log in logs for log in running):
+        remove(folder)
+        return
+    for log in logs:
+        if log not in running:
+            forget(log)
+            continue
+        words = {"process": process_of(log), "netrev_go": command("netrev-go"), "log": shlex.quote(str(log))}
+        complain(messages.STILL_RUNS.format(**words))
+
+
+class RecordingMaker:
+    """Makes the recordings of a folder's logs."""
+
+    def __init__(
+        self, folder: pathlib.Path, base: pathlib.Path, go: Go | None, options: RecordingOptions, count: int = 0
+    ) -> None:
+        self._folder, self._base, self._go, self._wish = folder, base, go, options
+        self._times = 0
+        self._is_whole = False  # whether the logs can be removed without losing anything
+        self._running: list[pathlib.Path] = []
+        self.count = count  # how many recordings have this name so far
+        self.all_taken = False
+        self.trouble = False  # whether a recording couldn't be written
+        self.suspected = False
+
+    def so_far(self) -> None:
+        """Makes recordings of the logs so far, while the program keeps running."""
+        self._times += 1
+        self._make(self._base.with_name(f"{self._base.name}-so-far-{self._times}"), self._wish, 0)
+
+    def all(self, failed: bool) -> None:
+        """Makes recordings after the program has ended."""
+        self.trouble = False
+        self._running = still_written(self._folder)
+        if report_no_log(self._folder, failed):
+            self.trouble = not self._folder.is_dir()
+        else:
+            self.all_taken, self.count = self._make(self._base, replace(self._wish, failed=failed), self.count)
+            self._is_whole = self.all_taken
+        if report_unrecorded(self._folder):
+            self.all_taken = False
+
+    def leave(self, keep: bool) -> None:
+        """Removes the logs, unless there is a reason to keep them."""
+        leave(self._folder, keep, self._is_whole, self._running)
+
+    def _make(self, base: pathlib.Path, options: RecordingOptions, count: int) -> tuple[bool, int]:
+        """Makes a recording of each log in which sockets were opened; returns whether netrev accepts all, and how many recordings have this
+        name."""
+        ok, before, without = True, count, 0
+        for log in logs_in(self._folder):
+            name, saying = numbered(base, count + 1), ReportPrinter([])
+            try:
+                outcome = convert(log, name, self._go, options, hear=saying.hear)
+            except OSError as fault:
+                complain(unwritten(name, fault))
+                ok, self.trouble = False, True
+                continue
+            if outcome.is_empty:
+                without += 1
+                continue
+            count += 1
+            ok = ok and outcome.taken
+            self.suspected = self.suspected or bool(outcome.suspects)
+            saying.rest(outcome.lines)
+        if without and count == before:
+            say([messages.NOTHING_TO_RECORD])
+        elif without:
+            say([messages.OPENED_NONE.format(processes=counted(without, "more process", "more processes"))])
+        return ok, count

@@ -1,0 +1,156 @@
+"""Makes a recording from a log, adds the program's lines to it, and makes the report about it."""
+
+from __future__ import annotations
+
+import pathlib
+import re
+from bisect import bisect_left
+from dataclasses import dataclass
+from functools import partial
+
+from netrev.messages import recorder as messages
+from netrev.text.files import forget_where
+from netrev.text.plain import plain
+from netrev_go.go_command.line_reader import line_reader
+from netrev_go.go_command.outputs import LINES, WORDS
+from netrev_go.go_command.toolchain import Go
+from netrev_go.log.goroutines import Goroutines
+from netrev_go.log.lines import Calls, SourceRoots, lines_of
+from netrev_go.log.logfile import NotALogError, read_log
+from netrev_go.log.points import Log
+from netrev_go.log.tests_in_log import Ran, Tests, of_log
+from netrev_go.log.sockets import MOST_MEGABYTES, MOST_SOCKETS
+
+from .scopes_of_tests import goroutines_of, sockets_of
+from .goroutine_lines import Everybody, kept
+from .recording_builder import (
+    NewRecording,
+    NoSocketError,
+    NothingRecordedError,
+    Part,
+    UnconvertibleError,
+    make,
+    write,
+    write_words,
+)
+from .report import Conversion, Hear, report, unheard
+from .where import STEPS_A_LINE, write_where
+
+PROCESS = re.compile(r"(\.\d+){1,2}(\.snapshot)?\Z")
+
+
+@dataclass(frozen=True)
+class RecordingOptions:
+    """The recording that is requested from a log."""
+
+    sockets: int = MOST_SOCKETS
+    megabytes: int = MOST_MEGABYTES
+    words: bool = False
+    all_bytes: bool = False
+    failed: bool = False  # Go's command failed, or a call hangs: the report begins with the causes
+    first: int = 0  # the address of the lock word of a socket to keep before all others if not all fit
+
+
+def program_of(log: pathlib.Path, key: str) -> pathlib.Path:
+    """The copy of the program beside its log."""
+    return log.with_name(PROCESS.sub("", log.name) + ".program." + key)
+
+
+@dataclass
+class ReadLog:
+    """A log that is read once for the recordings of all its tests."""
+
+    path: pathlib.Path
+    log: Log
+    tests: Tests
+
+
+def convert(
+    log: pathlib.Path,
+    name: pathlib.Path,
+    go: Go | None,
+    options: RecordingOptions,
+    known: list[object] | None = None,
+    hear: Hear = unheard,
+    is_written: bool = False,
+) -> Conversion:
+    """Makes the recording NAME from a log, and NAME.where beside it if Go is installed to look up lines. `known` keeps the data, because
+    freeing the data takes a long time. `hear` receives the report's lines as soon as they are known. A log that a program is still
+    writing is copied
+    first."""
+    try:
+        return converted(ReadLog(log, read_log(log, is_written), of_log(log)), name, go, options, known=known, hear=hear)
+    except NotALogError as fault:
+        return Conversion(False, [f"{plain(str(log))}: {fault}"])
+
+
+def converted(
+    read: ReadLog,
+    name: pathlib.Path,
+    go: Go | None,
+    options: RecordingOptions,
+    test: Ran | None = None,
+    known: list[object] | None = None,
+    hear: Hear = unheard,
+) -> Conversion:
+    """Makes the recording NAME from a log that was read, or from one of its tests."""
+    log = read.log
+    part: Part | None = None
+    if test is not None:
+        part = partial(sockets_of, test, tests=read.tests.ran)
+    try:
+        recording = make(log, options.sockets, options.megabytes, options.all_bytes, part, options.first)
+    except (NothingRecordedError, UnconvertibleError) as fault:
+        return Conversion(False, [f"{plain(str(read.path))}: {fault}"], isinstance(fault, NoSocketError))
+    if known is not None:
+        known += (read, recording)
+    lines = name.with_suffix(LINES)
+    forget_where(lines)
+    write(recording, name)
+    if options.words:
+        write_words(recording, name.with_suffix(WORDS))
+    found = recording.everybody
+    if test is not None:
+        found = goroutines_of(test, found, read.tests.ran, recording.numbers)
+    calls = {}
+    if go:
+        roots = SourceRoots(go.sources(), pathlib.Path.cwd())
+        used = set(recording.stacks) | found.stacks()
+        calls = lines_of(log, used, program_of(read.path, log.program), line_reader(go), roots)
+    has_lines = any(known.calls for known in calls.values())
+    more = of_tests(recording, read.tests)
+    if has_lines or recording.orders is not None or more or recording.times:
+        everybody = everybody_of(recording, found, calls)
+        more += [{"tags": 1}] if recording.has_tags else []
+        write_where(
+            lines, recording.stacks, calls, recording.orders, recording.beside, more, recording.times, everybody
+        )
+    if any(recording.stacks) and not has_lines:
+        recording.notes.append(messages.NO_LINES)
+    return report(recording, name, calls, options.failed, hear)
+
+
+def everybody_of(recording: NewRecording, found: Goroutines, calls: dict[int, Calls]) -> Everybody | None:
+    """All goroutines, as NAME.where has them; None if the log has no data about their waits and uses."""
+    if not (found.parks or found.uses):
+        return None
+    last = [recording.stacks[step - 1] if step else 0 for step in recording.last_steps]
+    stacks = {goid: last[number] for goid, number in recording.numbers.items()}
+    return Everybody(found, kept(found, recording.numbers, calls), recording.numbers, stacks)
+
+
+def of_tests(recording: NewRecording, tests: Tests) -> list[dict[str, object]]:
+    """More lines for NAME.where: the greatest number of bytes that a read or a write counts, and the steps between which each test ran."""
+    more: list[dict[str, object]] = [] if recording.bytes is None else [{"bytes": recording.bytes}]
+    if recording.prelude:
+        more.append({"prelude": recording.prelude})
+    for first in range(0, len(recording.taken), STEPS_A_LINE):
+        more.append({"taken": recording.taken[first : first + STEPS_A_LINE]})
+    built = recording.made
+    for test in tests.ran:
+        first = bisect_left(built, (test.began,))
+        last = bisect_left(built, (test.ended,)) if test.ended is not None else len(built)
+        if first < last:
+            steps = [built[first][2], built[last - 1][2]]
+            more.append({"test": test.name, "package": test.package, "steps": steps})
+    return more

@@ -1,0 +1,359 @@
+"""The rules about loops' variables, contexts, timeouts and bodies that stay open, clause by clause: a row for each clause that doesn't hold, and
+for each side of a boundary."""
+
+from pathlib import Path
+from types import SimpleNamespace as Made
+from typing import Any, cast
+
+import pytest
+
+from netrev.findings.causes import failed_calls
+from netrev.findings.evidence import loop_variables
+from netrev.findings.evidence.need import Need
+from netrev.findings.http import cancellations
+from netrev.findings.locks import skipped_done
+from netrev.findings.pools import leaking_paths, uncancelled_contexts
+from netrev.recording.call import Outcome
+from netrev.recording.goroutines import CLOSED, DONE, PUT, TOOK, At, ObjectUse, Park
+from netrev.recording.waits import Name
+from netrev.recording.where import OF_A_LIBRARY, OF_GO, OF_THE_PROGRAM, SourceCall, Stack
+from tests.failed_calls.test_cause_boundaries import line_of
+
+Patch = pytest.MonkeyPatch
+
+STARTS = """\
+func run() {
+	v := v
+	for i, v := range xs {
+		log(v)
+		go func() {
+			work()
+			use(v)
+		}()
+		log(i)
+	}
+	use(v)
+}"""
+
+
+@pytest.mark.parametrize(
+    "old, new, start_line, found",
+    [
+        ("", "", 5, ["3 v"]), ("", "", 6, ["3 v"]), ("", "", 7, ["3 v"]), ("", "", 8, []), ("", "", 4, []), ("", "", 11, []),
+        ("use(v)", "use(i, v)", 5, ["3 i", "3 v"]), ("use(v)", "_ = v", 5, ["3 v"]), ("use(v)", "use(vs, s.v)", 5, []), ("use(v)", "// v", 5, []),
+        ("i, v := range", "_, v := range", 5, ["3 v"]), ("i, v := range xs", "v := 0; v < 3; v++", 5, ["3 v"]), ("i, v := range xs", "v < 3", 5, []),
+        ("\t\tlog(v)", "\t\tv := v", 5, []), ("\t\tlog(v)", "\t\tvv := v", 5, ["3 v"]), ("\t\t\twork()", "\t\t\tv := v", 5, []), ("\t\tlog(i)", "\t\tv := v", 5, ["3 v"]),
+        ("for i, v := range xs", "if v := x; v", 5, []), ("go func()", "go func(v int)", 5, []), ("go func()", "each(func()", 6, []), ("func run", "func", 5, []),
+        ("go func() {\n\t\t\twork()\n\t\t\tuse(v)\n\t\t}()", "go func() { use(v) }()", 5, ["3 v"]),
+    ],
+)  # fmt: skip
+@pytest.mark.parametrize("function", ["main.run", "main.run.func1"])
+def test_the_variables_of_a_loop_that_its_goroutines_use(
+    old: str, new: str, start_line: int, found: list[str], function: str
+) -> None:
+    lines = tuple((STARTS.replace(old, new, 1) if old else STARTS).split("\n"))
+    assert [f"{head} {name}" for head, name in loop_variables.shared_at(lines, line_of(start_line, function))] == found
+
+
+@pytest.mark.parametrize(
+    "module, source_text, file, of, says",
+    [
+        ("module a\n\ngo 1.21\n", "a.go", "a.go", OF_THE_PROGRAM, 1), ("module a\n\ngo 1.22\n", "a.go", "a.go", OF_THE_PROGRAM, 0), ("go 1.9", "a.go", "a.go", OF_THE_PROGRAM, 1),
+        ("module a", "a.go", "a.go", OF_THE_PROGRAM, 0), ("", "a.go", "a.go", OF_THE_PROGRAM, 0), ("go 1.21", "b.go", "a.go", OF_THE_PROGRAM, 0),
+        ("go 1.21", "a.go", "a.go", OF_A_LIBRARY, 0), ("go 1.21", "none.go", "none.go", OF_THE_PROGRAM, 0), ("// go 1.21", "a.go", "a.go", OF_THE_PROGRAM, 0),
+    ],
+)  # fmt: skip
+def test_loops_share_variables_before_a_language_version(
+    tmp_path: Path, module: str, source_text: str, file: str, of: str, says: int
+) -> None:
+    folder = tmp_path / "one" / "two"
+    folder.mkdir(parents=True)
+    (tmp_path / "go.mod").write_text(module or "module none", encoding="utf-8")
+    for name in ("a.go", "b.go"):
+        (folder / name).write_text(STARTS, encoding="utf-8")
+    calls = [SourceCall("main.run", str(folder / source_text), line, of) for line in (6, 5)]
+    known = {goid: Made(made=call) for goid, call in enumerate([*calls, calls[0], None], 1)}
+    recording = cast(Any, Made(lines=Made(goroutines=known, written=float("inf"))))
+    found = loop_variables.shared_variables(recording, str(folder / file))
+    assert [sentence.partition(" use the last v of the loop at ")[0][-6:] for sentence in found] == ["a.go:5", "a.go:6"] * says
+    assert all(sentence.partition(" of the loop at ")[2].startswith(f"{folder}/a.go:3: the module's ") for sentence in found)
+
+
+CONTEXT = """\
+package main
+
+func run() {
+	ctx, cancel := context.WithCancel(all)
+	defer cancel()
+	wait(ctx)
+}
+
+func other(all, none) {
+	ctx, cancel := context.WithTimeout(all, 5)
+	wait(ctx)
+	cancel()
+	work()
+}
+"""
+IN_A_LITERAL = "func() {\n\t\tcancel()\n\t}()"
+
+
+@pytest.mark.parametrize(
+    "old, new, at, context, expected",
+    [
+        ("", "", 6, "ctx", ["5 deferred 3-7"]), ("", "", 11, "ctx", ["12 later 9-14"]), ("", "", 6, "all", []), ("", "", 11, "all", ["5 deferred 3-7", "12 later 9-14"]),
+        ("", "", 11, "no", []), ("", "", 8, "ctx", []), ("", "", 6, "s.ctx", ["5 deferred 3-7", "12 later 9-14"]),
+        ("defer cancel()", f"defer {IN_A_LITERAL}", 8, "ctx", ["6 deferred 5-7"]), ("defer cancel()", f"go {IN_A_LITERAL}", 8, "ctx", ["6 later 5-7"]),
+        ("defer cancel()", "// cancel()", 6, "ctx", []), ("defer cancel()", "s.cancel()", 6, "ctx", []), ("defer cancel()", "cancel(x)", 6, "ctx", []),
+        ("defer cancel()", "call() // cancel()", 6, "ctx", []), ("context.WithCancel", "x // context.WithCancel", 6, "ctx", []),
+        ("ctx, cancel := context.WithCancel", "s.ctx, s.cancel = context.WithCancel", 11, "ctx", ["12 later 9-14"]),
+        ("ctx, cancel := context.WithCancel(all)\n\tdefer cancel", "s.ctx, s.cancel = context.WithCancelCause(all)\n\tdefer t.cancel", 6, "t.ctx", ["5 deferred 3-7", "12 later 9-14"]),
+        ("func run()", "func run(ctx int)", 6, "ctx", ["5 deferred 3-7", "12 later 9-14"]), ("func run()", "func run(ctxs int)", 6, "ctx", ["5 deferred 3-7"]),
+    ],
+)  # fmt: skip
+@pytest.mark.parametrize("function", ["main.run", "main.run.func1"])
+def test_the_lines_that_cancel_the_context_of_a_function(
+    old: str, new: str, at: int, context: str, expected: list[str], function: str
+) -> None:
+    lines = tuple((CONTEXT.replace(old, new, 1) if old else CONTEXT).split("\n"))
+    found = uncancelled_contexts.cancels_of(lines, line_of(at, function), context)
+    cancels = [(cancel.number, "deferred" if cancel.is_deferred else "later", cancel.within) for cancel in found]
+    assert [f"{number} {how} {within.start}-{within.stop - 1}" for number, how, within in cancels] == expected
+
+
+class NoLooks:
+    """A recording in which goroutines wait."""
+
+    def __init__(self, lines: Any) -> None:
+        self.lines = lines
+
+
+@pytest.mark.parametrize(
+    "change, says",
+    [
+        ({}, True), ({"last": 3}, True), ({"last": 2}, False), ({"last": 5}, True), ({"last": 6}, False), ({"by": 0}, False), ({"closer": 9}, False), ({"what": PUT}, False),
+        ({"object": 6}, False), ({"goid": 8}, False), ({"at": ()}, False), ({"at": (6, 5)}, True), ({"at": (6,)}, False),
+    ],
+)  # fmt: skip
+def test_a_close_that_woke_a_goroutine(change: dict[str, Any], says: bool) -> None:
+    case = Made(**({"last": 4, "by": 2, "closer": 2, "what": CLOSED, "object": 5, "goid": 7, "at": (5,)} | change))
+    park = Park(case.goid, 1, case.last, 10, 20, "select", 4, case.by, tuple(At(address, "for a value") for address in case.at))
+    uses = {5: [], 6: [], case.object: [ObjectUse(case.object, case.closer, case.what, 4, 1, 4, 4, 15, 15)]}
+    stack = Stack((line_of(0, "runtime.selectgo", of=OF_GO), line_of(0, "context.wait"), line_of(3, "main.look")), None)
+    lines = Made(uses=uses, parks={case.goid: [park]}, stacks={4: stack})
+    found = list(cancellations.found_closed(cast(Any, NoLooks(lines)), 7, 3, 6))
+    assert found == ([cancellations.Found(5, 20, "main.look")] if says else [])
+
+
+SET = "A deadline in the past was set at a.go:7, "
+HERE = "Its deadline was set at a.go:7, 5 ns ahead"
+ENDED = "It ended."
+
+
+@pytest.mark.parametrize(
+    "change, says",
+    [
+        ({}, [f"{HERE}.", "Need was.", "More was.", "chain was."]),
+        ({"dropped": ["dropped"]}, [f"{HERE}.", "Need was.", "dropped"]), ({"cut": ["cut"]}, [f"{HERE}.", "Need was.", "cut"]), ({"shared": ["shared"]}, [f"{HERE}.", "Need was.", "shared"]),
+        ({"time": -5}, [f"{SET}before it began.", "endless"]), ({"time": -5, "cause": 9}, [f"{SET}while it waited.", "endless"]),
+        ({"time": -5, "endless": []}, [f"{SET}before it began."]),
+        ({"cause": 9}, ["Its deadline was set at a.go:7, while it waited, 5 ns ahead.", "endless"]), ({"cause": 9, "endless": []}, ["Its deadline was set at a.go:7, while it waited, 5 ns ahead.", "found"]),
+        ({"cause": 9, "cut": ["cut"]}, ["Its deadline was set at a.go:7, while it waited, 5 ns ahead.", "cut"]),
+        ({"under": "w"}, [f"{HERE}; 1 Read went well under it, and nobody has moved it since.", "endless"]), ({"under": "t"}, [f"{HERE}; 1 Read had timed out by it before, and nobody has moved it since.", "endless"]),
+        ({"under": "wwt"}, [f"{HERE}; 2 Reads went well under it and 1 Read had timed out by it before, and nobody has moved it since.", "endless"]),
+        ({"under": "e"}, [f"{HERE}.", "Need was.", "More was.", "chain was."]), ({"listens": True}, [f"{HERE}.", "endless"]),
+        ({"passed": 7}, [f"{HERE}.", "It had passed before the Read began. between"]), ({"passed": 8}, [f"{HERE}.", "Need was.", "More was.", "chain was."]),
+        ({"passed": 1}, [f"{HERE}.", "It had passed before the Read began. between"]),
+        ({"is_write": True}, [f"{HERE}.", "Need was.", "More was.", "chain was.", "That is the WriteTimeout of its http.Server."]),
+        ({"is_server": True}, [f"{HERE}.", "Need was.", "More was.", "chain was.", "That is a ReadTimeout, ReadHeaderTimeout, WriteTimeout or IdleTimeout of its http.Server."]),
+        ({"is_write": True, "is_server": True}, [f"{HERE}.", "Need was.", "More was.", "chain was.", "That is the WriteTimeout of its http.Server."]),
+    ],
+)  # fmt: skip
+def test_the_sentences_about_a_timeout(change: dict[str, Any], says: list[str], monkeypatch: Patch) -> None:
+    usual = {
+        "time": 5, "cause": 4, "under": "", "listens": False, "passed": 0, "cut": [], "shared": [], "dropped": [], "endless": ["endless"],
+        "is_write": False, "is_server": False,
+    }  # fmt: skip
+    case = Made(**(usual | change))
+    outcomes = {"w": Outcome.DONE, "t": Outcome.TIMED_OUT, "e": Outcome.CLOSED}
+    before = [Made(outcome=outcomes[letter], is_well=letter == "w") for letter in case.under]
+    arguments = {"g": 2, "time": case.time}
+    call = cast(Any, Made(name="Read", cause=case.cause, first=8, last=20, passed=case.passed, descriptor=3))
+    need = Need(["Need is."], stopped=12, more=["More is."])
+    replaced = {
+        "place_of_step": lambda recording, step, goroutine: f" at a.go:{7 if (step, goroutine) == (case.cause, 2) else 0}",
+        "went_well": lambda letter: letter.is_well, "cut_sentence": lambda index, call, step: case.cut * (step == 20), "shared_sentence": lambda *rest: case.shared,
+        "dropped_datagram": lambda *rest: case.dropped, "chain_sentence": lambda index, call, known, step: ["chain is."] * (known is need and step == 20),
+        "in_the_past": lambda text: text.replace(" is", " was"), "endless_sentence": lambda *rest: case.endless, "found_sentence": lambda *rest: ["found"],
+        "between": lambda *rest: " between", "is_of_write_timeout": lambda *rest: case.is_write, "is_of_a_server": lambda stack: case.is_server,
+        "name_of": lambda recording, call: call.name,
+        "Needs": lambda index, waits, step: Made(of_call=lambda call: need if step == 20 else None),
+    }  # fmt: skip
+    for name, value in replaced.items():
+        monkeypatch.setattr(failed_calls, name, value)
+    recording = Made(
+        step=lambda step: Made(argument=arguments.__getitem__), lines=Made(of=lambda step: None), rows=None
+    )
+    index = Made(recording=recording, under_its_deadline=lambda letter: before, is_listening=lambda letter: case.listens)
+    found = failed_calls.of_timeout(cast(Any, index), call, "It ended")
+    assert found.says == [ENDED, *says]
+    assert found.looks == [f"goto {case.cause}", "history rd 3"] and found.steps == [8, case.cause]
+    has_need = "Need was." in says
+    assert found.stopped == (12 if has_need else 0) and found.beyond == ["chain was."] * ("chain was." in says)
+    call.name = "Write"
+    assert failed_calls.of_timeout(cast(Any, index), call, "It ended").looks[1] == "history wd 3"
+
+
+TAKEN = {
+    "took": 4,
+    "done": 3,
+    "other": 0,
+    "puts": 0,
+    "missing": 1,
+    "line": 4,
+    "function": "main.work",
+    "what": TOOK,
+    "ended": True,
+    "waits": 0,
+    "more": 0,
+    "other_taker": "",
+}
+SKIPS = "The loop at a.go:3 took 4 values from a channel and called Done at a.go:9 3 times: "
+
+
+@pytest.mark.parametrize(
+    "change, says",
+    [
+        ({}, f"{SKIPS}left without it."), ({"line": 3}, f"{SKIPS}left without it."), ({"line": 2}, "perhaps"), ({"line": 5}, "perhaps"), ({"function": "main.other"}, "perhaps"),
+        ({"what": PUT}, "perhaps"), ({"missing": 2}, "perhaps"), ({"took": 5}, "perhaps"), ({"done": 2}, "perhaps"), ({"took": 0, "done": 0, "missing": 0}, "perhaps"),
+        ({"ended": False}, "perhaps"), ({"ended": False, "waits": 5}, f"{SKIPS}stays without it."), ({"ended": False, "waits": 6}, "perhaps"), ({"other": 2}, f"{SKIPS}left without it."),
+        ({"more": 1, "done": 2}, SKIPS.replace("a.go:9", "a.go:9 and a.go:11") + "left without it."), ({"more": 1}, "perhaps"),
+        ({"other_taker": "busy", "took": 3}, "perhaps"), ({"other_taker": "waits", "took": 3, "waits": 5}, f"{SKIPS}left without it."), ({"took": 3, "puts": 3}, "unput 3"), ({"took": 3, "puts": 2}, "perhaps"), ({"took": 3, "puts": 4}, "perhaps"), ({"took": 3, "puts": 3, "other": 1}, "perhaps"), ({"took": 2, "puts": 2}, "perhaps"),
+    ],
+)  # fmt: skip
+def test_a_loop_took_more_values_than_it_called_done(change: dict[str, Any], says: str, monkeypatch: Patch) -> None:
+    case = Made(**(TAKEN | change))
+    calls = {
+        1: line_of(9, "main.work"),
+        2: line_of(20, "main.work"),
+        3: line_of(case.line, case.function),
+        4: line_of(11, "main.work"),
+        5: line_of(30, "main.put"),
+    }
+    stacks = {number: Stack((call,), None) for number, call in calls.items()}
+    monkeypatch.setattr(
+        skipped_done, "rounds_of",
+        lambda recording, stack: skipped_done.Rounds(stack.calls[0], 3 if stack.calls[0].line < 20 else 15, 4, stack.calls[0])
+        if stack.calls[0].line != 20 else None,
+    )  # fmt: skip
+    monkeypatch.setattr(
+        skipped_done, "count_sentence", lambda recording, count: f"count{count.missing - case.missing or ''}"
+    )
+    monkeypatch.setattr(skipped_done, "unput_sentence", lambda recording, count, puts: [f"unput {puts[0].often}"])
+    monkeypatch.setattr(skipped_done, "perhaps_skipped", lambda *rest: ["count", "perhaps"])
+    monkeypatch.setattr(skipped_done, "paths_sentence", lambda recording, every, left: "left" if left else "stays")
+    monkeypatch.setattr(skipped_done, "name_of_goid", lambda lines, goid: Name(goid))
+
+    def use(what: str, often: int, stack: int, goid: int = 7) -> ObjectUse:
+        return ObjectUse(5, goid, what, stack, often, 1, 1, 1, 1)
+
+    done = [use(DONE, often, stack) for often, stack in ((case.more, 4), (case.done, 1), (case.other, 2)) if often]
+    uses = {
+        6: [use(PUT, 1, 5)],
+        5: [use(case.what, case.took, 3)] * bool(case.took) + [use(PUT, case.puts, 5, 8)] * bool(case.puts),
+    }
+    uses[5] += [use(TOOK, 1, 3, 8)] * bool(case.other_taker)
+    known = {7: Made(last=0 if case.ended else -1), 8: Made(last=-1)}
+    recording = Made(lines=Made(stacks=stacks, uses=uses, goroutines=known))
+    wait = Made(objects=(At(3, ""), At(case.waits, "")))
+    waits = Made(
+        at=lambda name, position: wait if case.waits and (name, position) in ((Name(7), 20), (Name(8), 20)) else None
+    )
+    found = skipped_done.skipped_done(
+        cast(Any, recording), cast(Any, waits), cast(Any, Made(done=done, missing=case.missing)), 20
+    )
+    assert found == ["count", says]
+
+
+def test_each_loop_that_calls_done_has_its_own_rounds(monkeypatch: Patch) -> None:
+    lines = {1: 9, 2: 19, 3: 4, 4: 14}
+    stacks = {number: Stack((line_of(line, "main.work"),), None) for number, line in lines.items()}
+    monkeypatch.setattr(skipped_done, "count_sentence", lambda recording, count: "count")
+    monkeypatch.setattr(skipped_done, "paths_sentence", lambda *rest: "")
+    monkeypatch.setattr(skipped_done, "name_of_goid", lambda lines, goid: Name(goid))
+    monkeypatch.setattr(
+        skipped_done, "rounds_of",
+        lambda recording, stack: skipped_done.Rounds(stack.calls[0], stack.calls[0].line // 10 * 10 + 3, stack.calls[0].line // 10 * 10 + 4, stack.calls[0]),
+    )  # fmt: skip
+    uses = {5: [ObjectUse(5, 7, TOOK, 3, 2, 1, 1, 1, 1)], 6: [ObjectUse(6, 7, TOOK, 4, 3, 1, 1, 1, 1)]}
+    recording = Made(lines=Made(stacks=stacks, uses=uses, goroutines={7: Made(last=0)}))
+    done = [ObjectUse(9, 7, DONE, stack, 2, 1, 1, 1, 1) for stack in (1, 2)]
+    waits = cast(Any, Made(at=lambda name, position: None))
+    found = skipped_done.skipped_done(cast(Any, recording), waits, cast(Any, Made(done=done, missing=1)), 20)
+    assert found == ["count", "The loop at a.go:13 took 3 values from a channel and called Done at a.go:19 2 times."]
+
+
+GETS = """\
+package main
+
+func fetch() {
+	resp, err := get(url)
+	if err != nil {
+		return
+	}
+	if bad {
+		return
+	}
+	resp.Body.Close()
+}
+
+func get(url string) (*http.Response, error) {
+	resp, err := client.Do(url)
+	return resp, err
+}
+"""
+OPEN = "Perhaps it was left open on this way: {}a.go:{} returns without a Close of the body."
+CLOSING = "\tif bad {\n\t\treturn nil, nil\n\t}\n\tresp.Body.Close()\n\treturn nil, err"
+
+
+@pytest.mark.parametrize(
+    "old, new, stacks, expected",
+    [
+        ("", "", ["fetch:4"], [9]), ("", "", ["get:15 fetch:4"], [9]), ("", "", ["get:15"], []), ("", "", [], []), ("", "", ["fetch:4", "get:15 fetch:4"], [9]),
+        ("", "", ["fetch:5"], []), ("", "", ["fetch:5 fetch:4"], [9]), ("", "", ["fetch:4", "get:15"], [9]), ("", "", ["fetch.lib:4"], []), ("", "", ["get.lib:15 fetch:4"], [9]),
+        ("\treturn resp, err", CLOSING, ["get:15 fetch:4"], [17]), ("\treturn resp, err", CLOSING, ["get:15", "fetch:4"], [17, 9]),
+        ("\treturn resp, err", "\tresp.Body.Close()\n\treturn nil, err", ["get:15 fetch:4"], []), ("\treturn resp, err", "\tio.Copy(w, resp.Body)", ["get:15 fetch:4"], []),
+        ("\t\treturn\n\t}\n\tresp.", "\t\tuse(resp)\n\t\treturn\n\t}\n\tresp.", ["fetch:4"], []), ("\t\treturn\n\t}\n\tresp.", "\t\treturn resp.Body\n\t}\n\tresp.", ["fetch:4"], []),
+        ("\t\treturn\n\t}\n\tresp.", "\t\tfmt.Fprintln(resp)\n\t\treturn\n\t}\n\tresp.", ["fetch:4"], [10]), ("\tresp.Body.Close()", "\tother.Body.Close()", ["fetch:4"], []),
+    ],
+)  # fmt: skip
+def test_the_function_that_leaves_a_body_open(
+    tmp_path: Path, old: str, new: str, stacks: list[str], expected: list[int]
+) -> None:
+    file = tmp_path / "a.go"
+    file.write_text(GETS.replace(old, new, 1) if old else GETS, encoding="utf-8")
+    recording = cast(Any, Made(lines=Made(written=float("inf"))))
+    requests = []
+    for stack in stacks:
+        parts = [word.partition(":") for word in stack.split()]
+        requests.append(
+            Stack(
+                tuple(
+                    SourceCall(f"main.{name}", str(file), int(line), OF_A_LIBRARY if ".lib" in name else OF_THE_PROGRAM)
+                    for name, _, line in parts
+                ),
+                None,
+            )
+        )
+    found = leaking_paths.paths_past_close(recording, requests)
+    assert found == [OPEN.format(f"{tmp_path}/", number) for number in expected]
+
+
+def test_two_functions_that_leave_bodies_open_are_named(tmp_path: Path) -> None:
+    file, source = tmp_path / "a.go", GETS.partition("\n\nfunc get")[0]
+    function = source.partition("package main\n\n")[2]
+    file.write_text(f"{source}\n{function}\n{function}\n", encoding="utf-8")
+    stacks = [Stack((SourceCall("main.fetch", str(file), line, OF_THE_PROGRAM),), None) for line in (4, 14, 24)]
+    recording = cast(Any, Made(lines=Made(written=float("inf"))))
+    found = leaking_paths.paths_past_close(recording, stacks)
+    assert found == [OPEN.format(f"{tmp_path}/", number) for number in (9, 19)]
