@@ -103,7 +103,7 @@ def test_a_suspect_is_reduced_by_its_number(one: Suspect, number: int) -> None:
 )  # fmt: skip
 def test_a_failure_or_a_hang_is_reduced_with_its_steps(failed: Any, reason: Any, wanted: Wanted) -> None:
     finding = mock.Mock(suspect=None, reason=reason, hangs=3, run=mock.Mock(failed=failed, places=[0, 1, 2, 3]))
-    with mock.patch.object(commands, "stays_of", return_value=(1, 2)) as stays:
+    with mock.patch.object(commands, "explaining_steps", return_value=(1, 2)) as stays:
         with mock.patch.object(commands, "moved_by", return_value=(4, 5)) as moved:
             telling, whole = mock.Mock(), mock.Mock(length=9)
             assert FindingFiles(mock.Mock(), telling)._wanted(whole, finding) == wanted
