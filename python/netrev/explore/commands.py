@@ -15,7 +15,7 @@ from netrev.session.session import Session, UsageError
 from netrev.system.interrupts import SearchInterruptedError
 from netrev.text.vocabulary import number_of
 
-from .failures import stays_of, watched
+from .failures import explaining_steps, watched
 from .search import Search, ScheduleFinding
 from .hangs import moved_by
 from .numbered_state import ImpossibleScheduleError
@@ -46,8 +46,8 @@ class Explored(NamedTuple):
 
 
 def explored(session: Session, most: int = MOST, is_of_failures: bool = False) -> Explored:
-    """Runs schedules near the recorded one, and writes the schedules that end with a suspect. If there are none, writes
-    the schedules in which a call fails although it succeeded in the recording."""
+    """Runs schedules near the recorded one, and writes those that end with a suspect or a call that hangs. If
+    `is_of_failures`, it writes those in which a call fails although it succeeded in the recording instead."""
     recording = session.text()
     if recording.length > MOST_STEPS:
         raise UsageError(messages.TOO_LONG.format(most=MOST_STEPS))
@@ -144,7 +144,7 @@ class FindingFiles:
             return Wanted(number, "", "", whole.length)
         run = finding.run
         if run.failed and finding.reason:
-            stays = stays_of(self.sentences.script, run.failed, finding.reason, run.steps)
+            stays = explaining_steps(self.sentences.script, run.failed, finding.reason, run.steps)
             return Wanted(0, "", "", whole.length, steps=stays)
         steps = moved_by(self.sentences.script, finding.hangs, run.places[finding.hangs], run.steps)
         return Wanted(0, "", "", whole.length, finding.hangs, steps)

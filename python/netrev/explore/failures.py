@@ -10,7 +10,7 @@ from netrev.run.flow import OperationType
 from .control_flow import Operation
 from .numbered_state import AnsweredStep
 from .schedules import Delay
-from .script import Script
+from .script import Script, operations_of
 
 FAILS = "a call that fails"
 
@@ -112,10 +112,8 @@ def _until(before: int, later: Iterator[int]) -> list[Delay]:
 def _of_socket(script: Script, sort: OperationType) -> dict[int, list[tuple[int, Operation]]]:
     """The operations of a kind that have steps, each with its goroutine; keyed by socket, and in order."""
     found: dict[int, list[tuple[int, Operation]]] = {}
-    for g, operations in enumerate(script.goroutines):
-        for operation in operations:
-            if operation.sort is sort and operation.steps:
-                found.setdefault(operation.socket, []).append((g, operation))
+    for g, operation in operations_of(script, sort):
+        found.setdefault(operation.socket, []).append((g, operation))
     return {socket: sorted(row, key=lambda pair: pair[1].steps[0]) for socket, row in found.items()}
 
 
@@ -156,7 +154,7 @@ def reason_of(script: Script, failed: Failed, steps: list[AnsweredStep]) -> Opti
     return Reason(at, served) if served else None
 
 
-def stays_of(script: Script, failed: Failed, reason: Reason, steps: list[AnsweredStep]) -> tuple[int, ...]:
+def explaining_steps(script: Script, failed: Failed, reason: Reason, steps: list[AnsweredStep]) -> tuple[int, ...]:
     """The steps of a schedule that explain a failed call: the cause, the end of the last call that succeeded under
     that deadline, and the failure."""
     call = script.goroutines[failed.goroutine][failed.begins]

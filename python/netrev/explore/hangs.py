@@ -9,7 +9,7 @@ from netrev.run.flow import OperationType
 
 from .control_flow import Operation, ScriptPlace
 from .numbered_state import AnsweredStep
-from .script import Script
+from .script import Script, operations_of
 
 TIMED_OUT = ("code", 2)
 
@@ -41,15 +41,8 @@ def ended_by(script: Script, g: int, place: ScriptPlace) -> Optional[int]:
 
 def _sets(script: Script, operation: Operation) -> list[int]:
     """The steps that set a deadline for the side on which an operation waits."""
-    return [
-        setting.steps[0]
-        for operations in script.goroutines
-        for setting in operations
-        if setting.sort is OperationType.SET
-        and setting.steps
-        and setting.use == operation.use
-        and operation.side in setting.side
-    ]
+    sets = (setting for _, setting in operations_of(script, OperationType.SET))
+    return [setting.steps[0] for setting in sets if setting.use == operation.use and operation.side in setting.side]
 
 
 def moved_by(script: Script, g: int, place: ScriptPlace, steps: list[AnsweredStep]) -> tuple[int, int]:

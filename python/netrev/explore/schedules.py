@@ -11,7 +11,7 @@ from netrev.reduce.units import SIDE_OF as SIDE_OF_NETWORK
 from netrev.run.flow import OperationType
 
 from .control_flow import Operation
-from .script import Script
+from .script import Script, operations_of
 
 NEAR = 4  # a pause waits for at most this many steps of other actors on the same part
 AROUND = 40  # the maximum number of steps between delays that are drawn together
@@ -107,20 +107,17 @@ def single_delays(script: Script) -> list[Delay]:
 def _late_delays(script: Script) -> Iterator[Delay]:
     """Delays of a call until its deadline has passed, if the deadline was set for both sides and the other side's
     deadline was then moved alone."""
-    sets = sorted(_of_sort(script, OperationType.SET))
-    for number, reset in sorted(_of_sort(script, OperationType.RESET)):
+    sets = _in_order(script, OperationType.SET)
+    for number, reset in _in_order(script, OperationType.RESET):
         before = [(at, setting) for at, setting in sets if at < number and setting.use == reset.use]
         own = [(at, setting) for at, setting in before if reset.side in setting.side]
         if own and own[-1][1].side == "rw" and own[-1][1].values[0] > 0 and own[-1][0] < before[-1][0]:
             yield Delay(number, script.length + 1)
 
 
-def _of_sort(script: Script, sort: OperationType) -> Iterator[tuple[int, Operation]]:
-    """The operations of a kind that have steps, each with the number of its first step."""
-    for operations in script.goroutines:
-        for operation in operations:
-            if operation.sort is sort and operation.steps:
-                yield operation.steps[0], operation
+def _in_order(script: Script, sort: OperationType) -> list[tuple[int, Operation]]:
+    """The operations of a kind that have steps, in order, each with the number of its first step."""
+    return sorted((operation.steps[0], operation) for _, operation in operations_of(script, sort))
 
 
 def schedules(delays: list[Delay], most: int) -> Iterator[Schedule]:

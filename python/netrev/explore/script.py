@@ -2,7 +2,7 @@
 machine's answer differs from the recorded answer, a goroutine may continue with an operation other than the next."""
 
 from dataclasses import dataclass, field, replace
-from typing import Any, NamedTuple, Optional
+from typing import Any, Iterator, NamedTuple, Optional
 
 from netrev.recording.recording import Recording
 from netrev.recording.where import SourceLines
@@ -111,6 +111,12 @@ def _environment(events: Events, openers: set[int]) -> tuple[dict[int, list[Acti
         elif event.kind in SIDE_OF:
             network.setdefault(event.arguments[0], []).append(action)
     return network, clock, creations
+
+
+def operations_of(script: Script, sort: OperationType) -> Iterator[tuple[int, Operation]]:
+    """The operations of a kind that have steps, each with its goroutine."""
+    for g, operations in enumerate(script.goroutines):
+        yield from ((g, operation) for operation in operations if operation.sort is sort and operation.steps)
 
 
 # ---- the times at which bytes arrive at a socket and leave it

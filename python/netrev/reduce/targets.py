@@ -103,12 +103,12 @@ class HangTarget(CellTarget):
     def __init__(self, events: Events, g: int, steps: Sequence[int], position: int) -> None:
         super().__init__(events, f"gor {g}", "parked *", position)
         self.steps = [*steps, position]
-        self.stays = {number - 1 for number in steps}
+        self.required = {number - 1 for number in steps}
         sockets = (events.socket_of(events.all[number - 1]) for number in steps)
         self.socket = next((socket for socket in sockets if socket is not None), None)
 
     def shows(self, player: ReplayPlayer) -> bool:
-        if not self.stays.issubset(player.chosen) or not super().shows(player):
+        if not self.required.issubset(player.chosen) or not super().shows(player):
             return False
         status = player.world.goroutines[player.numbers["g"][self.which or 0]]
         return not player.world.descs[status[1]].deadlines["rw".index(status[2])]
@@ -119,11 +119,11 @@ class StepsTarget(ReductionTarget):
 
     def __init__(self, events: Events, steps: Sequence[int]) -> None:
         self.steps = list(steps)
-        self.stays = {number - 1 for number in steps}
+        self.required = {number - 1 for number in steps}
         self.socket = events.socket_of(events.all[steps[-1] - 1])
 
     def shows(self, player: ReplayPlayer) -> bool:
-        return self.stays.issubset(player.chosen)
+        return self.required.issubset(player.chosen)
 
 
 def _back(numbers: dict[int, int], number: int) -> int:

@@ -115,10 +115,10 @@ def test_a_failure_or_a_hang_is_reduced_with_its_steps(
 
         return function
 
-    monkeypatch.setattr(commands, "stays_of", function_of("stays_of", (1, 2)))
+    monkeypatch.setattr(commands, "explaining_steps", function_of("explaining_steps", (1, 2)))
     monkeypatch.setattr(commands, "moved_by", function_of("moved_by", (4, 5)))
     assert FindingFiles(stub(), sentences)._wanted(stub(length=9), finding) == wanted
-    name, numbers = ("moved_by", (3, 3)) if wanted.hangs == 3 else ("stays_of", (7, 8))
+    name, numbers = ("moved_by", (3, 3)) if wanted.hangs == 3 else ("explaining_steps", (7, 8))
     assert calls == [(name, sentences.script, *numbers, schedule.steps)]
 
 

@@ -9,7 +9,7 @@ import pytest
 
 from netrev.explore.control_flow import NEVER, MissingObjectError, Operation, ScriptPlace
 from netrev.explore.environment import CLOCK, MOST_TRIES, NETWORK, UNKNOWN, Environment, steps_past_deadline
-from netrev.explore.failures import Failed, Reason, Why, ends_of, failing_delays, reason_of, stays_of, watched
+from netrev.explore.failures import Failed, Reason, Why, ends_of, failing_delays, reason_of, explaining_steps, watched
 from netrev.explore.hangs import ended_by
 from netrev.explore.numbered_state import AnsweredStep, NumberedState
 from netrev.explore.orders import Order, OrderProgress, Trigger, orders_of, triggers_of
@@ -327,7 +327,7 @@ def test_why_a_call_fails(
     steps = made_of(numbers, time)
     assert reason_of(script, failed, steps) == reason
     if reason:
-        assert stays_of(script, failed, reason, steps) == stays
+        assert explaining_steps(script, failed, reason, steps) == stays
 
 
 @pytest.mark.parametrize(
